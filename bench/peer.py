@@ -111,14 +111,14 @@ def missing_package(peer):
 
 
 def main():
-    modules.restart_with("scipy")
+    modules.exec_with_modules("scipy")
     peer, path, limit = sys.argv[1:]
     if lacking := missing_package(peer):
         print(f"missing: {lacking}")
         return
     from lib.audit import solver
 
-    closed, _ = book.run(journal.read_journal(Path(path).read_bytes()))
+    closed, _ = book.run_commands(journal.parse_journal(Path(path).read_bytes()))
     problem = selection.Problem(closed)
     model = solver.Model(problem)
     model.restrict(0, [], solver.ROOM)

@@ -115,7 +115,7 @@ def run_for_peak_memory(words, given):
 def prepare_enumeration(path):
     """The command that tries all selections of a book by `tools/audit`, with four threads, and fails if the results of `dam` aren't right
     and best; None if numpy is missing, or `dam` takes too long."""
-    cleared = run_or_exit([DAM, "clear"], path) if modules.has_module("numpy") or modules.debian_has("numpy") else None
+    cleared = run_or_exit([DAM, "clear"], path) if modules.has_module("numpy") or modules.run_for_modules("numpy") else None
     if cleared is None:
         return None
     results = f"{path}.txt"

@@ -20,7 +20,7 @@ from lib.results import period, selection
 
 
 def problem():
-    closed, _ = book.run(journal.read_journal((TOP / "examples/sunny-day.csv").read_bytes()))
+    closed, _ = book.run_commands(journal.parse_journal((TOP / "examples/sunny-day.csv").read_bytes()))
     return selection.Problem(closed)
 
 

@@ -68,7 +68,7 @@ class Effect(NamedTuple):
 
 
 def problem():
-    closed, _ = book.run(journal.read_journal((TOP / "examples/sunny-day.csv").read_bytes()))
+    closed, _ = book.run_commands(journal.parse_journal((TOP / "examples/sunny-day.csv").read_bytes()))
     return selection.Problem(closed)
 
 

@@ -7,7 +7,7 @@ import subprocess
 from pathlib import Path
 
 from lib.base.place import TOOLS
-from lib.crates.sources import file_sum
+from lib.crates.sources import read_file_sum
 
 from manual import site
 from manual.pages import held as with_held
@@ -175,7 +175,7 @@ def provenance(clone, folder, totals):
         "sources": {crate: it for told in clone.records.values() for crate, it in sorted(told["sources"].items())},
         "check": totals,
         "made_with": {**made_of.made_with(), "mkdocs": site.generator(folder / MANUAL)},
-        "sha256": {os.fspath(path.relative_to(folder)): file_sum(path) for path in files},
+        "sha256": {os.fspath(path.relative_to(folder)): read_file_sum(path) for path in files},
     }
 
 

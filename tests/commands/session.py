@@ -71,7 +71,7 @@ def missing_needs(name, reader):
 
 def has_module(name, reader):
     if reader.form == CLONE:
-        return modules.has_module(name) or modules.debian_has(name)
+        return modules.has_module(name) or modules.run_for_modules(name)
     find = [*modules.ISOLATED, "-c", f"import importlib.util, sys; sys.exit(importlib.util.find_spec({name!r}) is None)"]
     return subprocess.run([*reader.shell, *find], env=reader.environment).returncode == 0
 

@@ -83,7 +83,7 @@ class ExpectedDesk:
     def periods_in(line):
         """The periods of the day's record, if the line is one."""
         try:
-            found = format_of.read_journal(line)
+            found = format_of.parse_journal(line)
         except format_of.Fault:
             return None
         return None if found.commands else found.periods
@@ -91,7 +91,7 @@ class ExpectedDesk:
     @staticmethod
     def parse_or_raise(text):
         try:
-            return format_of.read_journal(text)
+            return format_of.parse_journal(text)
         except format_of.Fault as fault:
             words = str(fault).split()
             raise LineFault(f"{words[1]},{words[-1]}" if words[1] == "BadField" else words[1]) from None

@@ -85,7 +85,7 @@ def refused_output(line):
 def journal_or_fault(data):
     """The journal or the fault that the rules read from an input. The last one is kept, since several commands get the same input."""
     try:
-        return journal.read_journal(data)
+        return journal.parse_journal(data)
     except journal.Fault as fault:
         return fault
 
@@ -112,7 +112,7 @@ def right_replies(read):
 
 
 def right_results(read):
-    closed, _ = book.run(read)
+    closed, _ = book.run_commands(read)
     if not closed.closed:
         return refused_output("input: StillOpen")
     problem = selection.Problem(closed)
@@ -120,7 +120,7 @@ def right_results(read):
         return None
     found, _ = best.enumerate_all(problem)
     text = results.results_text(problem, found.accepted, selection.outcome(problem, found.accepted)).encode()
-    _, wrong = check.differences(problem, text)
+    _, wrong = check.results_and_differences(problem, text)
     if wrong:
         raise AssertionError(f"the audit refuses its own results: {wrong[0]}")
     return Printed(0, text, b"")
@@ -146,7 +146,7 @@ def day_differences(data, got):
     if got.status == ENDED:
         return [LATE]
     try:
-        given = journal.read_journal(data)
+        given = journal.parse_journal(data)
         fault = fault_of_day(given)
     except journal.Fault as found:
         given, fault = None, found

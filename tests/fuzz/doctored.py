@@ -72,7 +72,7 @@ class Pairs:
 def is_open(data):
     """Whether a text is a journal that no command closes."""
     try:
-        return not book.run(journal.read_journal(data))[0].closed
+        return not book.run_commands(journal.parse_journal(data))[0].closed
     except journal.Fault:
         return False
 
@@ -194,7 +194,7 @@ def decoded_or_none(data):
 
 def draw_worse_results(rng, data):
     """The results of another selection of a day's blocks, eligible or not; None if it has no other whose periods balance."""
-    problem = selection.Problem(book.run(journal.read_journal(data))[0])
+    problem = selection.Problem(book.run_commands(journal.parse_journal(data))[0])
     for _ in range(8):
         accepted = frozenset(place for place in range(len(problem.blocks)) if rng.random() < 0.5)
         outcome = selection.outcome(problem, accepted)

@@ -101,17 +101,17 @@ def lower_selection(problem, accepted, welfare):
 
 def best_above(problem, said, jobs):
     """The selection that ranks above these results, as a set and its welfare; None if none does."""
-    found, _ = better.enumerate_all(problem, said, Progress("fuzz", 600, quiet=True), jobs, few=0)
+    found, _ = better.search_all(problem, said, Progress("fuzz", 600, quiet=True), jobs, few=0)
     return found and (found.accepted, found.welfare)
 
 
 def run_for_faults(program, data, jobs):
     """The faults of a day, in words; and the altered results, None if they couldn't be."""
-    problem = selection.Problem(book.run(journal.read_journal(data))[0])
+    problem = selection.Problem(book.run_commands(journal.parse_journal(data))[0])
     got = program.run_for_output(["clear"], data)
     if got.status:
         return f"the program ends with {got.stderr.decode().strip() or f'status {got.status}'}", None
-    said, wrong = check.differences(problem, got.stdout)
+    said, wrong = check.results_and_differences(problem, got.stdout)
     if wrong:
         return wrong[0], None
     above = best_above(problem, said, jobs)
@@ -123,7 +123,7 @@ def run_for_faults(program, data, jobs):
         return None, None
     kind = "of less welfare" if altered[1] < said.welfare else "of the same welfare"
     text = results.results_text(problem, altered[0], selection.outcome(problem, altered[0])).encode()
-    published, wrong = check.differences(problem, text)
+    published, wrong = check.results_and_differences(problem, text)
     if wrong:
         return f"altered to {sorted(altered[0])} it isn't as the rules say: {wrong[0]}", kind
     above = best_above(problem, published, jobs)
@@ -134,7 +134,7 @@ def run_for_faults(program, data, jobs):
 
 def main():
     args = parse_arguments()
-    modules.restart_with("numpy")
+    modules.exec_with_modules("numpy")
     if args.families or args.books or args.thin or (args.blocks or 0) > FEW_BLOCKS:
         modules.refuse_missing("numpy")
     args.most_blocks = MOST_BLOCKS if modules.has_module("numpy") else FEW_BLOCKS

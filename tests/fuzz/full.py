@@ -193,13 +193,13 @@ def run_for_faults_of_results(program, data, held):
     if limited != printed[0] and (limited.status, limited.stdout, bool(UNFINISHED.fullmatch(limited.stderr))) != (3, b"", True):
         yield f"clear {' '.join(LIMITED)}: {limited.stderr.decode().strip() or f'status {limited.status}'}"
     if not printed[0].status:
-        _, wrong = check.differences(selection.Problem(held), printed[0].stdout)
+        _, wrong = check.results_and_differences(selection.Problem(held), printed[0].stdout)
         yield from wrong[:1]
 
 
 def run_for_faults(program, case, size):
     """The faults of a case."""
-    held, _ = book.run(compare.journal_or_fault(case.data))
+    held, _ = book.run_commands(compare.journal_or_fault(case.data))
     wrong = [*faults_of_sizes(case, held, size), *run_for_faults_of_results(program, case.data, held)]
     if case.is_long:
         wrong += compare.run_for_differences(program, "replay", [], case.data)

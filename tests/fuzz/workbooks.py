@@ -425,7 +425,7 @@ def draw_and_find_fault(rng):
     words = broken(drawn) if broken else None
     data = words if isinstance(words, bytes) else drawn.draw_bytes()
     try:
-        found = [(number, trimmed(cells)) for number, cells in sheets.read_rows(data)[0]]
+        found = [(number, trimmed(cells)) for number, cells in sheets.parse_rows(data)[0]]
     except sheets.BadTable as fault:
         if broken is None:
             return f"it is right, and refused: {fault}"
@@ -608,7 +608,7 @@ def time_read_for_fault(data, words):
     resource.setrlimit(resource.RLIMIT_AS, (pages * resource.getpagesize() + MOST_MEMORY,) * 2)
     resource.setrlimit(resource.RLIMIT_CPU, (int(time.process_time()) + MOST_SECONDS,) * 2)
     try:
-        order_table.read_tables([("", data)], 100)
+        order_table.parse_tables([("", data)], 100)
         fault = None
     except order_table.BadOrders as wrong:
         fault = str(wrong)

@@ -41,7 +41,7 @@ class RightAnswer:
         if parted is None:
             return False
         written, published = parted
-        wrong, _ = faults_of_journal(journal.read_journal(self.data), written)
+        wrong, _ = faults_of_journal(journal.parse_journal(self.data), written)
         cleared, _ = self.program.run(["clear"], written, NOTHING_REFUSED)
         return not wrong and cleared == Printed(0, published, b"")
 

@@ -92,8 +92,8 @@ def draw_book(rng):
     if rng.random() < 0.5:
         draft.set_meeting_prices()
     days.add_mixed(draft, draft.hourly, rng.randint(1, MOST_BLOCKS))
-    read = journal.read_journal("".join(f"{line}\n" for line in draft.lines).encode())
-    run, _ = book.run(read)
+    read = journal.parse_journal("".join(f"{line}\n" for line in draft.lines).encode())
+    run, _ = book.run_commands(read)
     return MarketBook(run.periods, tuple(OrderRow(who, name, order) for (who, name), order in run.rows.items()))
 
 

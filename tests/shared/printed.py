@@ -23,7 +23,7 @@ def faults_of_journal(given, written):
     """The faults of the journal that a day printed for the one given. Any order is right that keeps each participant's own, with the
     close at its end. And the journal as it is read; None if it can't be."""
     try:
-        run = journal.read_journal(written)
+        run = journal.parse_journal(written)
     except journal.Fault as fault:
         return [f"its journal is none: {fault}"], None
     wrong = []

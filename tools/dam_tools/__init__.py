@@ -110,7 +110,7 @@ def journal_of_orders(*sources: Source, periods: int = 24, close: bool = True) -
     bytes."""
     with as_faults():
         named = [("" if is_text(source) else command.shown(source), bytes_of(source)) for source in sources]
-        orders = order_table.read_tables(named, periods)
+        orders = order_table.parse_tables(named, periods)
         made = TableJournal(*order_table.journal_of(orders, periods, close))
         made.notes = orders.notes
         return made
@@ -135,11 +135,11 @@ def clear(
     options are those of `dam clear`; none but a limit on nodes changes the answer. The environment variable DAM names the program to run,
     and DAM_LIBRARY the library, which comes first."""
     read = as_journal(source)
-    path = which.library() if (program, workers, cut, nodes, timeout) == (None,) * 5 else None
+    path = which.find_library() if (program, workers, cut, nodes, timeout) == (None,) * 5 else None
     if path:
-        return read_results(read, by_library.cleared_by_library(path, journal.journal_text(read).encode()))
+        return read_results(read, by_library.run_library(path, journal.journal_text(read).encode()))
     options = [f"--{name}={value}" for name, value in (("workers", workers), ("cut", cut), ("nodes", nodes)) if value is not None]
-    return read_results(read, printed(read, [by_program.program_of(program), "clear", *options], timeout))
+    return read_results(read, printed(read, [by_program.require_program(program), "clear", *options], timeout))
 
 
 def printed(read: Journal, words: list[Any], timeout: float | None) -> bytes:
@@ -192,9 +192,9 @@ def clear_many(
     if nodes is not None and not 1 <= nodes <= by_library.MOST_NODES:
         raise ValueError(f"nodes should be from 1 to {by_library.MOST_NODES}")
     if executor is None and (timeout is not None or where() is None):
-        program = by_program.program_of(program)
+        program = by_program.require_program(program)
     call = functools.partial(engine.run_clear, nodes=nodes or by_library.MOST_NODES, timeout=timeout)
-    return days_of(journals, quiet, lambda texts: engine.answers(texts, jobs, executor, program, call))
+    return days_of(journals, quiet, lambda texts: engine.run_clears(texts, jobs, executor, program, call))
 
 
 def days_of(journals: Iterable[JournalSource], quiet: bool, answers: Any) -> Iterator[Day | Fault]:
@@ -212,7 +212,7 @@ def days_of(journals: Iterable[JournalSource], quiet: bool, answers: Any) -> Ite
             kept.append(source if isinstance(source, Journal) else text)
             yield text
 
-    for found in engine.with_bar(answers(texts()), whole, quiet=quiet):
+    for found in engine.stepping_bar(answers(texts()), whole, quiet=quiet):
         source = kept.popleft()
         yield found if isinstance(found, Fault) else LateDay(source, found)
 
@@ -231,8 +231,8 @@ class Reply(NamedTuple):
 def replay(source: JournalSource, program: Program | None = None, timeout: float | None = None) -> list[Reply]:
     """The book's reply to each command of a journal, by a run of the program. Other replies than the rules give are a fault."""
     read = as_journal(source)
-    found = printed(read, [by_program.program_of(program), "replay"], timeout)
-    reasons = book.run(read)[1]
+    found = printed(read, [by_program.require_program(program), "replay"], timeout)
+    reasons = book.run_commands(read)[1]
     if found != book.replies_of(read.periods, reasons).encode():
         first, *_ = verdict.reply_faults(read.periods, reasons, found)
         raise Fault(f"the program printed other replies than those of the journal ({first})")
@@ -247,7 +247,7 @@ def rows_of(day: Day | Journal, table: str, long: bool, date: Date | None) -> An
     if isinstance(day, Journal):
         if table != "commands":
             raise ValueError("a journal without results has only the table commands")
-        rows = tables.commands(day, book.run(day)[1])
+        rows = tables.commands(day, book.run_commands(day)[1])
     else:
         rows = made[table](day)
     periods = day.periods if isinstance(day, Journal) else day.problem.periods

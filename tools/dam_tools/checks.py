@@ -128,7 +128,7 @@ def lint(source: JournalSource, command: str = "clear") -> Lint:
     """Every fault of a journal as a text for `dam clear`, `dam replay` or `dam day`, and each command that the book would refuse."""
     if command not in ("clear", "replay", "day"):
         raise ValueError(f"there is no command {command}: the commands are clear, replay and day")
-    found = lint_of.faults(text_of(source), command)
+    found = lint_of.find_faults(text_of(source), command)
     findings = [Finding(one.line, one.field or None, one.words, one.refusal or None) for one in found]
     parts = [[one for one in findings if (one.reason is not None) == is_refused] for is_refused in (False, True)]
     return Lint(linted.OF_STATUS[linted.status_of(found)], *parts)
@@ -190,9 +190,9 @@ def audit(
 def whatif_limit(source: JournalSource, participant: str, order: str, program: str | os.PathLike[str] | None = None) -> BlockLimit:
     """The worst limit at which a block of a closed journal is accepted, to the cent, as tools/whatif limit finds it. The day is cleared
     some twenty times, by the library or the program as `clear` has it. Results that break the rules are a `Fault`."""
-    held, key = changes.before_close(as_journal(source)), (participant, order)
+    held, key = changes.book_before_close(as_journal(source)), (participant, order)
     if key not in held.rows:
-        raise Fault(whatif.unknown(held, *key))
+        raise Fault(whatif.unknown_words(held, *key))
     if held.rows[key].kind != "block":
         raise Fault(f"{order} of {participant} isn't a block")
     search = limits.Search(held, key, whatif.engine_of(program))
@@ -208,7 +208,7 @@ def whatif_change(
 ) -> Changes:
     """The differences if further commands come before the close of a journal: records as in a journal, or a table, as tools/whatif change
     takes them. With a participant only its orders, with its gain and net amount. Results that break the rules are a `Fault`."""
-    held = changes.before_close(as_journal(source))
-    further, notes = changes.read_changes(bytes_of(commands), held.periods)
-    after = changes.entered(held, further)
-    return Changes([Change(**row) for row in shapes.records(whatif.compared([held, after], participant, program))], notes)
+    held = changes.book_before_close(as_journal(source))
+    further, notes = changes.parse_changes(bytes_of(commands), held.periods)
+    after = changes.book_with_commands(held, further)
+    return Changes([Change(**row) for row in shapes.records(whatif.run_and_compare([held, after], participant, program))], notes)

@@ -57,7 +57,7 @@ def text_of(source: JournalSource) -> bytes:
 def one_of_many(source: JournalSource) -> bytes:
     """The bytes of a journal for which others wait, so that a device or a pipe, which may have no end, is a fault."""
     is_file = not isinstance(source, Journal) and not is_text(source) and source != ""
-    if is_file and (said := file_io.unread_file(source)):
+    if is_file and (said := file_io.unread_reason(source)):
         raise Fault(said)
     return text_of(source)
 
@@ -67,7 +67,7 @@ def read_journal(source: Source) -> Journal:
     which the program refuses it."""
     data = bytes_of(source)
     try:
-        return day_files.parse_journal(name_of(source, "the text"), data)
+        return day_files.require_journal(name_of(source, "the text"), data)
     except command.Stop as fault:
         raise Fault(str(fault), REFUSED) from None
 

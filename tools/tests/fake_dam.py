@@ -30,7 +30,7 @@ def shuffled(commands):
 
 def day(data):
     try:
-        given = journal.read_journal(data)
+        given = journal.parse_journal(data)
         fault = compare.fault_of_day(given)
     except journal.Fault as found:
         fault = found
@@ -43,7 +43,7 @@ def day(data):
 
 def lower(data):
     """The results of the selection that accepts no block."""
-    problem = selection.Problem(book.run(journal.read_journal(data))[0])
+    problem = selection.Problem(book.run_commands(journal.parse_journal(data))[0])
     return results.results_text(problem, frozenset(), selection.outcome(problem, frozenset())).encode()
 
 

@@ -22,18 +22,18 @@ NEEDS_CRYPTOGRAPHY = unittest.skipIf(signing is None, "python3-cryptography is m
 
 
 def sealed_of(data, day=DAY, salts=None, key=None):
-    read = journal.read_journal(data)
-    return sealing.seal_of(read, book.run(read)[1], day, salts or sealing.new_salts(day), key or signing.new_key())
+    read = journal.parse_journal(data)
+    return sealing.seal_of(read, book.run_commands(read)[1], day, salts or sealing.new_salts(day), key or signing.new_key())
 
 
 def replies_of(data):
-    return book.replies_text(journal.read_journal(data)).encode()
+    return book.replies_text(journal.parse_journal(data)).encode()
 
 
 def verdict_of(data, head, key, links=None):
     """The verdict on the text of a receipt, compared with a head."""
     with mock.patch.object(file_io, "read_bytes", lambda path: data):
-        return receipts.verdict(list(receipts.read_and_judge("receipts", head, key, links or receipts.Links([], key, []))))
+        return receipts.verdict(list(receipts.read_findings("receipts", head, key, links or receipts.Links([], key, []))))
 
 
 def lines_of(seal, head=None):

@@ -72,7 +72,7 @@ def read_results(example):
 
 
 def problem(data):
-    return selection.Problem(book.run(journal.read_journal(data))[0])
+    return selection.Problem(book.run_commands(journal.parse_journal(data))[0])
 
 
 def drawn():

@@ -31,7 +31,7 @@ NUMBER = re.compile(rb"(?<=,)-?\d+(?=[,\n])")
 
 
 def differences(data, text):
-    return check.differences(problem(data), text)[1]
+    return check.results_and_differences(problem(data), text)[1]
 
 
 def changed_numbers(text):
@@ -55,7 +55,7 @@ class Results(unittest.TestCase):
             day = problem(data)
             for other, line in changed_numbers(text):
                 with self.subTest(name, line=line), unittest.mock.patch.object(check.sums, "differences", return_value=()):
-                    self.assertRegex("\n".join(check.differences(day, other)[1]), rf"results line {line}\b")
+                    self.assertRegex("\n".join(check.results_and_differences(day, other)[1]), rf"results line {line}\b")
                 refused += 1
         self.assertGreater(refused, 1_000)
 
@@ -73,7 +73,7 @@ class Results(unittest.TestCase):
                 (front, _, first), (back, _, last) = right[one].rpartition(","), right[other].rpartition(",")
                 if first != last:
                     wrong = [*right[:one], f"{front},{last}", f"{back},{first}", *right[other + 1 :]]
-                    found = check.differences(day, "".join(f"{line}\n" for line in wrong).encode())[1]
+                    found = check.results_and_differences(day, "".join(f"{line}\n" for line in wrong).encode())[1]
                     self.assertLessEqual({one + 1, other + 1}, {fault.line for fault in found}, right[one])
                     swapped += 1
             self.assertGreater(swapped, 20)
@@ -184,7 +184,7 @@ class Text(unittest.TestCase):
 
     def replies(self, data):
         try:
-            return book.replies_text(journal.read_journal(data)).encode(), b""
+            return book.replies_text(journal.parse_journal(data)).encode(), b""
         except journal.Fault as fault:
             return b"", f"{fault}\n".encode()
 
@@ -226,9 +226,9 @@ class Text(unittest.TestCase):
     def test_the_written_journal_reads_back(self):
         for number in range(300):
             text = days.draw_text(random.Random(number), 8)
-            read = journal.read_journal(text)
+            read = journal.parse_journal(text)
             self.assertEqual(journal.journal_text(read).encode(), text)
-            self.assertEqual(journal.read_journal(text.replace(b"\n", b"\r\n\r\n")), read)
+            self.assertEqual(journal.parse_journal(text.replace(b"\n", b"\r\n\r\n")), read)
 
 
 def executions(orders):
@@ -423,7 +423,7 @@ class CommandLine(unittest.TestCase):
         blocks = [f"submit,A,K{number},block,sell,1,1:1,," for number in range(rules.MOST_BLOCKS)]
         data = journal_of(*blocks)
         text = results_of(data, frozenset())
-        wanted = command.DONE if modules.has_module("numpy") or modules.debian_has("numpy") else command.FAILED
+        wanted = command.DONE if modules.has_module("numpy") or modules.run_for_modules("numpy") else command.FAILED
         self.assertEqual(run_audit(data, text, "--best")[0], wanted)
 
     def test_a_tool_without_its_parts_has_no_verdict(self):
@@ -498,7 +498,7 @@ class CommandLine(unittest.TestCase):
         from lib.audit import solver
 
         day = problem(AUCTION.read_bytes())
-        accepted = frozenset(results.read_results(day, read_results(AUCTION))[0].accepted)
+        accepted = frozenset(results.parse_results(day, read_results(AUCTION))[0].accepted)
         welfare = selection.eligible_welfare(day, accepted)
         for offers, said in (
             ([None], "HiGHS found none better"),

@@ -71,7 +71,7 @@ class Together(unittest.TestCase):
             self.assertEqual(line[1:], ["1 of 40", f"at most {40 // part}", verdict, "slow 1.50 x"])
 
 
-@unittest.skipUnless(modules.has_module("scipy") or modules.debian_has("scipy"), "scipy is missing (Debian's python3-scipy)")
+@unittest.skipUnless(modules.has_module("scipy") or modules.run_for_modules("scipy"), "scipy is missing (Debian's python3-scipy)")
 class Peers(unittest.TestCase):
     def welfares(self, peer):
         for case in THIN.values():

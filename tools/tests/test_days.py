@@ -178,7 +178,7 @@ class Days(unittest.TestCase):
         self.write(a=(DATA, TEXT))
         tracemalloc.start()
         self.addCleanup(tracemalloc.stop)
-        self.assertEqual(len(days.pairs_of(self.folder / "list")), 20)
+        self.assertEqual(len(days.require_pairs(self.folder / "list")), 20)
         self.assertLess(tracemalloc.get_traced_memory()[1], 16 * 2**20)
 
     def test_cells_of_a_manifest_in_no_column(self):
@@ -262,7 +262,7 @@ class Days(unittest.TestCase):
     def test_a_process_that_cannot_be_started(self):
         pair, full = days.Pair("a", Path("a.csv"), Path("a.txt")), OSError(errno.EMFILE, os.strerror(errno.EMFILE))
         with unittest.mock.patch.object(days.subprocess, "Popen", side_effect=full):
-            made = days.audited(pair, [], by_program.Running())
+            made = days.run_audit_of_day(pair, [], by_program.Running())
         said = "its process can't be started: Too many open files"
         self.assertEqual((made["status"], made["verdict"], made["message"]), (command.FAILED, verdict.FAILED, said))
 
@@ -277,7 +277,7 @@ class Days(unittest.TestCase):
             return begun[-1]
 
         with unittest.mock.patch.object(days, "TOOL", hanging), unittest.mock.patch.object(subprocess, "Popen", side_effect=start):
-            found = days.audit_all([hung, hung._replace(unread="x")], [], 2, unittest.mock.Mock(), 0.5)
+            found = days.run_audits([hung, hung._replace(unread="x")], [], 2, unittest.mock.Mock(), 0.5)
         self.assertEqual([made["message"] for made in found], ["its process didn't end in 0.5 seconds", "x"])
         self.assertEqual([made["status"] for made in found], [command.FAILED, command.NO_INPUT])
         self.assertEqual([process.returncode for process in begun], [-signal.SIGKILL])
@@ -292,7 +292,7 @@ class Days(unittest.TestCase):
                 unittest.mock.patch.object(subprocess.Popen, "communicate", side_effect=fault, autospec=True) as call,
                 self.assertRaises(fault),
             ):
-                days.ran(days.Pair("a", Path("a.csv"), None), [], by_program.Running(), 1)
+                days.run_process(days.Pair("a", Path("a.csv"), None), [], by_program.Running(), 1)
             process = call.call_args_list[0].args[0]
             self.addCleanup(process.kill)
             self.assertEqual(process.returncode, -signal.SIGKILL)
@@ -362,32 +362,32 @@ class Days(unittest.TestCase):
         pairs, bar = [days.Pair(name, Path("a.csv"), Path("a.txt")) for name in "ab"], unittest.mock.Mock()
         for patched, faults in (("ran", [MemoryError]), ("failed", [MemoryError, unittest.mock.DEFAULT])):
             with unittest.mock.patch.object(days, patched, side_effect=faults * 2, wraps=getattr(days, patched)):
-                found = days.audit_all(pairs, ["--none"], 1, bar)
+                found = days.run_audits(pairs, ["--none"], 1, bar)
             self.assertEqual([(made["name"], made["status"]) for made in found], [("a", command.FAILED), ("b", command.FAILED)])
             self.assertIn("out of memory", [made["message"] for made in found])
         with unittest.mock.patch.object(days.threading.Thread, "start", side_effect=RuntimeError("can't start new thread")):
-            found = days.audit_all([pairs[0]._replace(unread="x")] * 2, [], 2, bar)
+            found = days.run_audits([pairs[0]._replace(unread="x")] * 2, [], 2, bar)
         self.assertEqual([made["message"] for made in found], ["x", "x"])
 
     def test_days_with_many_faults(self):
         """The faults of all days aren't in memory together. The record is the same as if they were."""
         wrong = [faults.of_line("stray", line, None, "'hour,A,NAME,1' doesn't belong here").record() for line in range(3_000)]
-        made = {**record.unread(verdict.WRONG, command.DIFFERS, None), "faults": wrong}
+        made = {**record.unread_record(verdict.WRONG, command.DIFFERS, None), "faults": wrong}
         out = json.dumps(made, indent=1).encode() + b"\n"
         pairs = [days.Pair(f"{number}\udcff", Path("a.csv"), None, "x" if number == 3 else None) for number in range(8)]
-        unread = {"name": "3\\xff", **record.unread(verdict.UNREAD, command.NO_INPUT, "x", [("journal", "a.csv")])}
+        unread = {"name": "3\\xff", **record.unread_record(verdict.UNREAD, command.NO_INPUT, "x", [("journal", "a.csv")])}
         wanted = [unread if number == 3 else {"name": f"{number}\\xff", **made} for number in range(8)]
         for words in ({}, {"is_json": True}):
             tracemalloc.start()
             self.addCleanup(tracemalloc.stop)
-            with unittest.mock.patch.object(days, "ran", return_value=(command.DIFFERS, out, b"")):
-                found = days.audit_all(pairs, [], 2, unittest.mock.Mock(), **words)
+            with unittest.mock.patch.object(days, "run_process", return_value=(command.DIFFERS, out, b"")):
+                found = days.run_audits(pairs, [], 2, unittest.mock.Mock(), **words)
             self.assertLess(tracemalloc.get_traced_memory()[0], len(out))
             tracemalloc.stop()
-            self.assertIn("  3000      0.0  results line 0: 'hour,A,NAME,1' doesn't belong here", list(days.table(found))[1])
-        parts = list(days.printed(command.DIFFERS, found))
+            self.assertIn("  3000      0.0  results line 0: 'hour,A,NAME,1' doesn't belong here", list(days.table_lines(found))[1])
+        parts = list(days.record_texts(command.DIFFERS, found))
         self.assertLessEqual(max(map(len, parts)), days.PART)
-        self.assertEqual(b"".join(parts).decode(), f"{json.dumps(record.of_days(command.DIFFERS, wanted), indent=1)}\n")
+        self.assertEqual(b"".join(parts).decode(), f"{json.dumps(record.record_of_days(command.DIFFERS, wanted), indent=1)}\n")
 
     def test_the_time_grows_with_the_number_of_days(self):
         """While days are audited, the records of others aren't gone through again."""
@@ -398,8 +398,8 @@ class Days(unittest.TestCase):
                 reads.append(name)
                 return super().__getitem__(name)
 
-        with unittest.mock.patch.object(days, "audited", side_effect=lambda *_: Counted(status=command.DIFFERS)):
-            found = days.audit_all([days.Pair("a", Path("a.csv"), None)] * 50, [], 2, bar)
+        with unittest.mock.patch.object(days, "run_audit_of_day", side_effect=lambda *_: Counted(status=command.DIFFERS)):
+            found = days.run_audits([days.Pair("a", Path("a.csv"), None)] * 50, [], 2, bar)
         self.assertEqual((len(found), len(reads), bar.step.call_args.args), (50, 50, (1, "50 wrong")))
 
     def test_a_record_without_days(self):

@@ -25,7 +25,7 @@ def told(data, accepted):
 
 
 def best_of(data):
-    read, _ = book.run(journal.read_journal(data))
+    read, _ = book.run_commands(journal.parse_journal(data))
     return Plain(read).best()
 
 # Behind the blocks that would be accepted too.
@@ -286,7 +286,7 @@ def drawn(count):
             price = 5_000 + 400 * rng.randint(-5, 6)
             lines.append(f"submit,A,K{at},block,{rng.choice(['sell', 'sell', 'buy'])},{price},{volumes},{parent},{group}")
         data = journal_of(*lines)
-        plain = Plain(book.run(journal.read_journal(data))[0])
+        plain = Plain(book.run_commands(journal.parse_journal(data))[0])
         best = plain.best()
         if len(best) < len(plain.blocks):
             made += 1

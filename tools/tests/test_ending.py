@@ -29,7 +29,7 @@ from lib.tool import command, modules
 from lib.base.progress import Progress
 from lib.runs import by_program, errors
 
-RUN = "from lib.base import ending; ending.watch('audit'); from lib.tool import command; command.run('audit', lambda: CALL)"
+RUN = "from lib.base import ending; ending.guard_tool('audit'); from lib.tool import command; command.run('audit', lambda: CALL)"
 IGNORING = "import os, signal, sys; signal.signal(signal.SIGCHLD, signal.SIG_IGN); os.execv(sys.argv[1], sys.argv[1:])"
 SECONDS = 60
 # A run of a tool that gets Ctrl-C as soon as it imports a module.
@@ -48,7 +48,7 @@ exec(compile(open(path).read(), path, "exec"), {"__name__": "__main__", "__file_
 GOING = """
 import os, sys, time, weakref
 from lib.base import ending
-ending.watch("audit")
+ending.guard_tool("audit")
 from lib.tool import command
 class Object: pass
 def going(_):
@@ -67,7 +67,7 @@ BEGUN = """
 import os, sys, time
 from pathlib import Path
 from lib.base import ending
-ending.watch("audit")
+ending.guard_tool("audit")
 from lib.audit import days
 from lib.base.progress import StepBar
 from lib.pictures import drawing
@@ -76,7 +76,7 @@ days.TOOL = Path(sys.argv[1])
 pairs = [days.Pair(str(number), Path(sys.argv[1]), None) for number in range(8)]
 def main():
     with drawing.empty_settings():
-        days.audit_all(pairs, [], 3, StepBar("audit", 8, "days"))
+        days.run_audits(pairs, [], 3, StepBar("audit", 8, "days"))
 command.run("audit", main)
 """
 WORKER = "import os, sys, time; open(os.path.dirname(sys.argv[0]) + '/pids', 'a').write(f'{os.getpid()}\\n'); time.sleep(600)"
@@ -219,7 +219,7 @@ class Failing(unittest.TestCase):
             self.assertEqual((status, err, found), (command.FAILED, "lint: out of memory\n", ("failed", command.FAILED, "out of memory", [])))
 
     def test_a_failed_import(self):
-        run = "import sys; from lib.base import ending; ending.watch('lint'); raise MemoryError"
+        run = "import sys; from lib.base import ending; ending.guard_tool('lint'); raise MemoryError"
         ran = subprocess.run([sys.executable, "-B", "-c", run], cwd=TOOLS, capture_output=True, text=True)
         self.assertEqual((ran.returncode, ran.stderr), (command.FAILED, "lint: out of memory\n"))
         for name in PACKAGES:
@@ -456,7 +456,7 @@ class Interrupted(unittest.TestCase):
         said = "audit: a defect of this tool, please report it: Died: the search ended without an answer: memory may have run out (DAM_DEBUG=1 shows where)\n"
         run = f"command.run('audit', lambda: aside.run_aside({call}, {shown}, ''))"
         main = f"import os; from lib.base import aside; from lib.tool import command; {run}"
-        ran = subprocess.run([sys.executable, "-B", "-c", f"from lib.base import ending; ending.watch('audit'); {main}"], capture_output=True, text=True, cwd=TOOLS)
+        ran = subprocess.run([sys.executable, "-B", "-c", f"from lib.base import ending; ending.guard_tool('audit'); {main}"], capture_output=True, text=True, cwd=TOOLS)
         self.assertEqual((ran.returncode, ran.stderr), (command.FAILED, said))
 
     def test_a_call_that_dies(self):
@@ -527,7 +527,7 @@ class Children(unittest.TestCase):
         self.addCleanup(signal.signal, signal.SIGCHLD, signal.signal(signal.SIGCHLD, signal.SIG_IGN))
         with self.assertRaisesRegex(errors.Fault, "^/bin/false can't be run: this process ignores SIGCHLD"):
             by_program.run_program(["/bin/false"], b"")
-        children.heed()
+        children.heed_children()
         self.assertEqual(by_program.run_program(["/bin/false"], b"")[0], 1)
 
 

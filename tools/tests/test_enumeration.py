@@ -38,8 +38,8 @@ class Family(unittest.TestCase):
             ran = subprocess.run([sys.executable, MAKE_FAMILY, *words], capture_output=True, text=True)
             self.assertEqual((ran.returncode, ran.stdout, ran.stderr), (1, "", f"make_family.py: {said}\n"))
         for words, periods in (["links", "0", "0"], 24), (["links", "4000", "24", "4"], 96):
-            read = journal.read_journal(family(*words))
-            self.assertEqual((read.periods, set(book.run(read)[1])), (periods, {None}))
+            read = journal.parse_journal(family(*words))
+            self.assertEqual((read.periods, set(book.run_commands(read)[1])), (periods, {None}))
 
 
 class Blocks(unittest.TestCase):
@@ -65,7 +65,7 @@ class Blocks(unittest.TestCase):
         for kind, hours, quarters in (("base", 1, 1), ("peaks", 2, 2), ("shaped", 24, 24), ("random", 24, 96), ("wide", 24, 96)):
             for parts, wanted in (1, hours), (4, quarters):
                 status, text, _ = self.made(kind, "50", "1", str(parts), "24", "100")
-                closed, reasons = book.run(journal.read_journal(text.encode()))
+                closed, reasons = book.run_commands(journal.parse_journal(text.encode()))
                 self.assertEqual((status, set(reasons), closed.periods), (0, {None}, 24 * parts))
                 blocks = [dict(block.order.volumes) for block in selection.Problem(closed).blocks]
                 columns = {tuple(block.get(period, 0) for block in blocks) for period in range(1, 24 * parts + 1)}
@@ -88,7 +88,7 @@ class Blocks(unittest.TestCase):
     def tied(self, bonds):
         """The blocks with a parent, those of a group, and the side, the limit and the volumes of each."""
         status, text, _ = self.made("mixed", "20", "3", "1", "24", "200", bonds)
-        closed, reasons = book.run(journal.read_journal(text.encode()))
+        closed, reasons = book.run_commands(journal.parse_journal(text.encode()))
         self.assertEqual((status, set(reasons)), (0, {None}))
         day = selection.Problem(closed)
         parents = {place for place, parent in enumerate(day.parents) if parent is not None}

@@ -39,7 +39,7 @@ def walk(heading):
 
 def replies(example):
     """The lines that `dam replay` prints, by the audit's reading of the rules."""
-    _, reasons = book.run(journal.read_journal(example.read_bytes()))
+    _, reasons = book.run_commands(journal.parse_journal(example.read_bytes()))
     return [f"{number},refused,{reason}" if reason else f"{number},done" for number, reason in enumerate(reasons, 1)]
 
 

@@ -216,7 +216,7 @@ class Selections(unittest.TestCase):
         self.assertRegex(out, r"\n\d passed, [1-9]\d* failed\n$")
 
     def test_without_numpy_random_days_have_fewer_blocks(self):
-        with mock.patch.multiple(modules, has_module=lambda module: False, debian_has=lambda *modules: False):
+        with mock.patch.multiple(modules, has_module=lambda module: False, run_for_modules=lambda *modules: False):
             status, out = self.selections("--blocks", "7", "--count", "3")
             self.assertEqual((status, out.splitlines()[-1]), (0, "3 passed, 0 failed"), out)
             status, out = self.selections("--blocks", "7", "--count", "3", defect="lower")

@@ -35,8 +35,8 @@ if "AGAIN" in os.environ:
 else:
     os.environ["AGAIN"] = "yes"
     modules.has_module = lambda module: False
-    modules.debian_has = lambda *modules: True
-    modules.restart_with("numpy")
+    modules.run_for_modules = lambda *modules: True
+    modules.exec_with_modules("numpy")
 """
 # Settings of dask that make a folder once it is imported, and the variables that have such ones, or keep it from being imported.
 SETTINGS = {"version": 1, "handlers": {"x": {"()": "os.mkdir", "path": "ran"}}}
@@ -48,11 +48,11 @@ import sys
 sys.path.insert(0, {tools!r})
 from lib.base import ending
 
-ending.watch("program")
+ending.guard_tool("program")
 from lib.runs import cluster
 
-cluster.imported()
-cluster.take_certificates({address!r})
+cluster.import_dask()
+cluster.set_certificates({address!r})
 import dask.config
 
 print(dask.config.get("distributed.client.preload"), dask.config.get("distributed.comm.tls.client"))
@@ -200,7 +200,7 @@ class Isolation(unittest.TestCase):
 
     def test_no_program_of_the_working_folder_runs(self):
         """The launcher keeps unproved programs in the user's cache. Without a kit it has none to compile."""
-        name = hashlib.sha256(json.dumps(sources.source_sums("dam_cli"), sort_keys=True).encode()).hexdigest()[:16]
+        name = hashlib.sha256(json.dumps(sources.read_source_sums("dam_cli"), sort_keys=True).encode()).hexdigest()[:16]
         for cache, given in ((".", {"XDG_CACHE_HOME": "."}), (".cache", {"XDG_CACHE_HOME": "", "HOME": "."})):
             program = self.folder / cache / "dam" / "unproved" / f"dam_cli-{name}"
             program.parent.mkdir(parents=True)
@@ -233,7 +233,7 @@ class Isolation(unittest.TestCase):
     def test_debians_python_is_asked_apart(self):
         """A Python that lacks packages asks Debian's for them; neither looks into the working folder."""
         code = "import sys\nsys.path.insert(0, {tools!r})\nfrom lib.tool import modules\nmodules.is_debians = lambda: False\n"
-        code += "print(modules.debian_has('json'), modules.debian_has('json', 'nosuch'), modules.debian_has('lib'))\n"
+        code += "print(modules.run_for_modules('json'), modules.run_for_modules('json', 'nosuch'), modules.run_for_modules('lib'))\n"
         path = self.folder.parent / f"{self.folder.name}-ask"
         path.write_text(code.format(tools=str(TOOLS)))
         self.addCleanup(path.unlink)
@@ -249,21 +249,21 @@ class Isolation(unittest.TestCase):
             fault = OSError(number, os.strerror(number))
             with mock.patch.object(modules, "is_debians", return_value=False), mock.patch.object(subprocess, "run", side_effect=fault):
                 if is_known:
-                    self.assertFalse(modules.debian_has("json"))
+                    self.assertFalse(modules.run_for_modules("json"))
                 else:
-                    self.assertRaises(OSError, modules.debian_has, "json")
+                    self.assertRaises(OSError, modules.run_for_modules, "json")
 
     def test_a_tool_starts_again_apart(self):
         """By the file of the tool, since the command of an installed one belongs to another Python."""
         main = mock.Mock(__file__=str(TOOLS / "audit"))
         with (
             mock.patch.object(modules, "has_module", return_value=False),
-            mock.patch.object(modules, "debian_has", return_value=True),
+            mock.patch.object(modules, "run_for_modules", return_value=True),
             mock.patch.object(os, "execv") as execv,
             mock.patch.dict(sys.modules, {"__main__": main}),
             mock.patch.object(sys, "argv", ["/bin/dam-audit", "--best"]),
         ):
-            modules.restart_with("numpy")
+            modules.exec_with_modules("numpy")
         late = ["-S"] if sys.flags.no_site else []
         execv.assert_called_once_with(modules.DEBIAN_PYTHON, [modules.DEBIAN_PYTHON, "-I", *late, str(TOOLS / "audit"), "--best"])
 
@@ -271,7 +271,7 @@ class Isolation(unittest.TestCase):
     def test_a_program_that_starts_again_finds_the_packages(self):
         """A tool finds them late; a program of the tests, which starts without -S, from its beginning."""
         program = self.folder / "program"
-        for flags, first in ((["-S"], "from lib.base import ending; ending.watch('program')"), ([], "")):
+        for flags, first in ((["-S"], "from lib.base import ending; ending.guard_tool('program')"), ([], "")):
             program.write_text(AGAIN.format(tools=str(TOOLS), first=first))
             ran = subprocess.run([sys.executable, "-I", *flags, program], capture_output=True, text=True)
             self.assertEqual((ran.stdout, ran.stderr), ("True\n", ""), flags)

@@ -27,7 +27,7 @@ TENTHS = f"should be whole tenths of a MW from 1 to {rules.GREATEST_VOLUME}"
 
 
 def told(data, command="clear"):
-    return [str(fault) for fault in lint.faults(data, command)]
+    return [str(fault) for fault in lint.find_faults(data, command)]
 
 
 class Hand(unittest.TestCase):
@@ -86,7 +86,7 @@ class Hand(unittest.TestCase):
     def test_a_quote_that_is_not_closed_in_the_last_field(self):
         """The program takes it, if the rest of the text is a name or nothing."""
         self.check(b'day,24,,,,,,,\nclose,,,,,,,,"')
-        self.assertEqual(lint.faults(b"day,24,,,,,,,\n" + BLOCK + b'"G', "replay"), [])
+        self.assertEqual(lint.find_faults(b"day,24,,,,,,,\n" + BLOCK + b'"G', "replay"), [])
         self.check(b'day,24,,,,,,,\nclose,,,,,,,,"\n', ("line 2", "a quote begins a field and isn't closed on its line"))
 
     def test_a_line_with_other_separators(self):
@@ -112,7 +112,7 @@ class Hand(unittest.TestCase):
     def test_other_kinds_of_files(self):
         """One line says which kind of file it seems to be, and which tool reads it."""
         orders = run_tool("table", "--rows", "orders", AUCTION, AUCTION_RESULTS)[1]
-        replies = book.replies_text(journal.read_journal(AUCTION.read_bytes())).encode()
+        replies = book.replies_text(journal.parse_journal(AUCTION.read_bytes())).encode()
         for data, part in (
             (support.read_results(AUCTION), "these seem to be results, which aren't a journal: tools/audit reads them"),
             (replies, "these seem to be replies of `dam replay`, which aren't a journal: tools/audit --replies reads them"),
@@ -211,20 +211,20 @@ class Random(unittest.TestCase):
         for number in range(1_500):
             rng = random.Random(f"lint {number}")
             data = self.spoilt(rng, days.draw_text(rng, 6))
-            found = lint.faults(data, "replay")
+            found = lint.find_faults(data, "replay")
             told = [fault for fault in found if not fault.refusal]
             try:
-                read = journal.read_journal(data)
+                read = journal.parse_journal(data)
             except journal.Fault as fault:
                 faulty += 1
                 self.assertTrue(told, (data, fault))
                 continue
             self.assertEqual(told, [], data)
-            reasons = [reason for reason in book.run(read)[1] if reason]
+            reasons = [reason for reason in book.run_commands(read)[1] if reason]
             refused += len(reasons)
             self.assertEqual([fault.refusal for fault in found], reasons)
             is_open = "Closed" not in reasons and journal.Close() not in read.commands
-            self.assertEqual(any("no command closes" in fault.words for fault in lint.faults(data)), is_open)
+            self.assertEqual(any("no command closes" in fault.words for fault in lint.find_faults(data)), is_open)
         self.assertGreater(refused, 300)
         self.assertGreater(faulty, 300)
 
@@ -244,7 +244,7 @@ class CommandLine(unittest.TestCase):
         """Also a journal whose last quote isn't closed, which is valid."""
         for name, case in cases("replay").items():
             with self.subTest(name):
-                found = lint.faults(case.stdin, "replay")
+                found = lint.find_faults(case.stdin, "replay")
                 self.assertEqual(any(not one.refusal for one in found), case.status != 0)
                 if case.status == 0:
                     self.assertEqual(len(found), case.right_stdout.count(b",refused,"))
@@ -304,7 +304,7 @@ class CommandLine(unittest.TestCase):
         said = "/nowhere/a.csv can't be read: No such file or directory"
         self.assertEqual((status, made["verdict"], made["message"], err), (command.NO_INPUT, "unread", said, f"lint: {said}\n"))
         self.assertEqual(made["inputs"], [{"role": "journal", "file": "/nowhere/a.csv", "bytes": None, "sha256": None}])
-        with unittest.mock.patch("lib.lint.lint.faults", side_effect=MemoryError):
+        with unittest.mock.patch("lib.lint.lint.find_faults", side_effect=MemoryError):
             status, made, err = self.record(AUCTION)
         self.assertEqual((status, made["verdict"], made["message"], err), (command.FAILED, "failed", "out of memory", "lint: out of memory\n"))
 
@@ -347,7 +347,7 @@ class Long(unittest.TestCase):
 
     def first(self, data):
         try:
-            return journal.read_journal(data)
+            return journal.parse_journal(data)
         except journal.Fault as fault:
             return str(fault)
 
@@ -399,7 +399,7 @@ class Long(unittest.TestCase):
         fields = ["submit", "A" * rules.LONGEST_PARTICIPANT, name, "block", "sell", str(rules.HIGHEST_PRICE), volumes, name, name]
         record = ",".join(f'"{field}"' for field in fields).encode() + b"\r\n"
         data = b"day,100,,,,,,,\n" + record * (rules.MOST_RECORDS - 1)
-        self.assertEqual(len(journal.read_journal(data).commands), rules.MOST_RECORDS - 1)
+        self.assertEqual(len(journal.parse_journal(data).commands), rules.MOST_RECORDS - 1)
         self.assertEqual(self.first(data + b"\n" * (rules.MOST_BYTES + 1 - len(data))), "input: TooLong")
 
 

@@ -251,7 +251,7 @@ class Many(unittest.TestCase):
             self.assertEqual(list(found), list(map(read_results, given)))
             library = self.library(ECHO.replace("    return found;", "    usleep(1000);\n    return found;"))
             texts = [str(number).encode() * 1_000 for number in range(100, 200)]
-            self.assertEqual(list(threads.map(lambda text: by_library.cleared_by_library(library, text), texts)), texts)
+            self.assertEqual(list(threads.map(lambda text: by_library.run_library(library, text), texts)), texts)
 
     def test_a_fault_has_each_status_of_the_page(self):
         formats, python = ((support.TOP / "docs" / name).read_text() for name in ("FORMATS.md", "PYTHON.md"))
@@ -314,13 +314,13 @@ class Many(unittest.TestCase):
 
     def test_a_bar_is_for_terminals(self):
         results = iter(())
-        self.assertIs(engine.with_bar(results), results)
+        self.assertIs(engine.stepping_bar(results), results)
         with unittest.mock.patch.object(sys, "stderr", unittest.mock.Mock(isatty=lambda: True)):
-            self.assertIs(engine.with_bar(results, quiet=True), results)
+            self.assertIs(engine.stepping_bar(results, quiet=True), results)
             with unittest.mock.patch.dict(sys.modules, {"tqdm": None}):
-                self.assertIs(engine.with_bar(results), results)
+                self.assertIs(engine.stepping_bar(results), results)
             if modules.has_module("tqdm"):
-                self.assertIsNot(engine.with_bar(results), results)
+                self.assertIsNot(engine.stepping_bar(results), results)
 
     @unittest.skipUnless(which.BUILT.exists(), "the program isn't built")
     def test_the_built_program(self):

@@ -71,7 +71,7 @@ def cited():
 
 def cleared(*submits):
     lines = ["day,24,,,,,,,", *(f"submit,{submit}" for submit in submits), "close,,,,,,,,"]
-    closed, _ = book.run(journal.read_journal("".join(f"{line}\n" for line in lines).encode()))
+    closed, _ = book.run_commands(journal.parse_journal("".join(f"{line}\n" for line in lines).encode()))
     problem = selection.Problem(closed)
     found, _ = best.enumerate_all(problem)
     return results.results_text(problem, found.accepted, selection.outcome(problem, found.accepted)).splitlines()

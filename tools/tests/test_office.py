@@ -90,8 +90,9 @@ class Crashes(Office):
                     self.assertEqual([record for record in disk.records if record.split(",")[1] == who], records)
                 for (who, number), (record, entry) in acknowledged.items():
                     self.assertEqual((disk.records[entry - 1], last.ledger.entry(who, number)[0]), (record, entry))
-                read = journal.read_journal(b"".join(f"{line}\n".encode() for line in [f"day,{periods},,,,,,,", *disk.records]))
-                self.assertEqual([entry.reply for entry in last.ledger.seal.entries], [sealing.reply_of(why) for why in book.run(read)[1]])
+                read = journal.parse_journal(b"".join(f"{line}\n".encode() for line in [f"day,{periods},,,,,,,", *disk.records]))
+                replies = [sealing.reply_of(why) for why in book.run_commands(read)[1]]
+                self.assertEqual([entry.reply for entry in last.ledger.seal.entries], replies)
                 self.assertGreater(disk.openings, 4)
 
     async def test_a_receipt_is_the_same_after_a_crash(self):

@@ -39,7 +39,7 @@ class Requests(unittest.TestCase):
     def test_json_and_records_are_the_same(self):
         """On each command of the examples."""
         for path in (AUCTION, AUCTION.with_name("quarter-hours.csv"), AUCTION.with_name("first-day.csv")):
-            for given in journal.read_journal(path.read_bytes()).commands:
+            for given in journal.parse_journal(path.read_bytes()).commands:
                 match given:
                     case journal.Submit(who, name, order):
                         links = {"parent": order.parent, "group": order.group} if order.kind == "block" else {}

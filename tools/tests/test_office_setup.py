@@ -238,7 +238,7 @@ class Setup(Office):
     def test_a_workbook_of_participants_is_read(self):
         if not modules.has_module("openpyxl"):
             self.skipTest("python3-openpyxl is missing")
-        made, path = sheets.workbook_writer().Workbook(), self.office.path.parent / "p.xlsx"
+        made, path = sheets.writer_of_workbooks().Workbook(), self.office.path.parent / "p.xlsx"
         for row in (["Participant", "commands"], ["A", 100], [], ["GAS"]):
             made.active.append(row)
         made.create_sheet("notes", 0).append(["x"])

@@ -71,7 +71,7 @@ class Day(unittest.TestCase):
         self.assertEqual(set(re.findall(r"\bexit (\d+)", SCRIPT.read_text())), set(said))
 
     def test_a_day(self):
-        replies = book.replies_text(journal.read_journal(AUCTION.read_bytes())).encode()
+        replies = book.replies_text(journal.parse_journal(AUCTION.read_bytes())).encode()
         for _ in range(2):
             status, out, _ = self.run_once()
             self.assertEqual((status, self.names()), (0, ["day.csv", "replies.txt", "results.txt"]), out)
@@ -281,7 +281,7 @@ class Upgrade(unittest.TestCase):
         """Archived days are cleared again; one that differs is named."""
         loop = re.search(r"^! for day in .*?^done \| grep \.", (TOP / "docs" / "OPERATING.md").read_text(), re.MULTILINE | re.DOTALL)[0]
         with tempfile.TemporaryDirectory() as folder:
-            replies = book.replies_text(journal.read_journal(AUCTION.read_bytes()))
+            replies = book.replies_text(journal.parse_journal(AUCTION.read_bytes()))
             for name in ("one", "two"):
                 day = Path(folder, "archive", name)
                 day.mkdir(parents=True)

@@ -246,7 +246,7 @@ class Pages(unittest.TestCase):
         quoted = re.search(r"^```text\n(day,24,.*?)^```$", (TOP / "README.md").read_text(), re.MULTILINE | re.DOTALL)[1].splitlines()
         lines, commands = SUNNY.read_text().splitlines(), [line.split("  ")[0] for line in quoted]
         self.assertEqual((len(commands), commands), (6, [line for line in lines if line in commands]))
-        _, reasons = book.run(journal.read_journal(SUNNY.read_bytes()))
+        _, reasons = book.run_commands(journal.parse_journal(SUNNY.read_bytes()))
         refused = [lines[place + 1] for place, reason in enumerate(reasons) if reason]
         self.assertEqual(refused, [line.split("  ")[0] for line in quoted if "  refused: " in line])
 
@@ -263,7 +263,7 @@ class Pages(unittest.TestCase):
         table = re.search(r"```text\n(participant,order,.*?)```", (TOP / "docs" / "USING.md").read_text(), re.DOTALL)[1]
         status, made, said = run_tool("table", "--journal", "-", data=table.encode())
         self.assertEqual((status, said), (0, ""))
-        closed, reasons = book.run(journal.read_journal(made))
+        closed, reasons = book.run_commands(journal.parse_journal(made))
         self.assertEqual(reasons, [None] * len(table.splitlines()))
         problem = selection.Problem(closed)
         found, _ = best.enumerate_all(problem)
@@ -296,7 +296,7 @@ class Pages(unittest.TestCase):
     def test_the_refused_commands_are_refused(self):
         text = (TOP / "docs" / "USING.md").read_text()
         quoted = re.search(r"replay < examples/(\S+) \| grep refused\n```\n\n```text\n(.*?)```", text, re.DOTALL)
-        read = journal.read_journal((TOP / "examples" / quoted[1]).read_bytes())
+        read = journal.parse_journal((TOP / "examples" / quoted[1]).read_bytes())
         self.assertEqual(quoted[2].splitlines(), [line for line in book.replies_text(read).splitlines() if "refused" in line])
 
 

@@ -324,9 +324,9 @@ class Receipts(unittest.TestCase):
         self.assertTrue(is_written)
         self.assertEqual(verdict_of(line, receipt.head, key), receipts.RIGHT)
         salts = heads.Salts(DAY, bytes(range(32, 64)))
-        read = journal.read_journal(b"".join(FIRST.splitlines(keepends=True)[:4]))
+        read = journal.parse_journal(b"".join(FIRST.splitlines(keepends=True)[:4]))
         private = Ed25519PrivateKey.from_private_bytes(bytes(range(32)))
-        seal = sealing.seal_of(read, book.run(read)[1], DAY, salts, private)
+        seal = sealing.seal_of(read, book.run_commands(read)[1], DAY, salts, private)
         self.assertEqual(heads.line_of(seal.receipt(2, seal.head())), line)
         # The extension to it.
         words = "The path of the extension from two entries to three is the second hash above. The root and the signature of its `from` are"
@@ -521,7 +521,7 @@ class Command(InFolder):
         public = ["--key", "key.pem.pub"]
         found = record("verify", receipt, receipt, "--head", head, *public)
         wrong = record("heads", head, head, "nothing", *public)
-        Path("replies").write_bytes(book.replies_text(journal.read_journal(AUCTION.read_bytes())).encode())
+        Path("replies").write_bytes(book.replies_text(journal.parse_journal(AUCTION.read_bytes())).encode())
         made = [record("keys", "other.pem"), record("seal", AUCTION, "replies", "--day", DAY, *key, "-o", "again")]
         made += [record("extend", "again", AUCTION, "replies", *key, "-o", "later")]
         for one, parts in [(one, []) for one in made] + [(found, found["receipts"]), (wrong, wrong["findings"])]:

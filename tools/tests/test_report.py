@@ -217,7 +217,7 @@ class Page(unittest.TestCase):
         """As the page of the day does, with amounts written alike."""
         day, whys = day_of(AUCTION.read_bytes(), read_results(AUCTION)), []
         place = next(place for place, block in enumerate(day.problem.blocks) if block.name == "UNIT-7")
-        with unittest.mock.patch("lib.whatif.limits.of_rejected", lambda *_: {place: "With a limit of 92.00 EUR/MWh."}):
+        with unittest.mock.patch("lib.whatif.limits.run_for_rejected", lambda *_: {place: "With a limit of 92.00 EUR/MWh."}):
             for who in (None, "OLD"):
                 page = importlib.import_module("lib.report.page").day_page(day, "day", [], None, who)
                 whys.append(re.search(r"[^>]*With a limit of 92.00 EUR/MWh[^<]*", page)[0].strip())
@@ -230,7 +230,7 @@ class Page(unittest.TestCase):
 
         day = day_of(QUARTERS.read_bytes(), read_results(QUARTERS))
         numbers = list(range(60, 60 + page.FEW_CURVES + 2))
-        with page.draw_all_curves(day, numbers) as many:
+        with page.drawing_curves(day, numbers) as many:
             for child in multiprocessing.active_children():  # which this process ends at Ctrl-C
                 blocked = re.search(r"^SigBlk:\t(\w+)$", Path(f"/proc/{child.pid}/status").read_text(), re.MULTILINE)[1]
                 self.assertTrue(int(blocked, 16) >> signal.SIGINT - 1 & 1)

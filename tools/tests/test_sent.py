@@ -290,19 +290,19 @@ class Drawn(unittest.TestCase):
         """Random days and a participant's commands in them."""
         for number in range(count):
             rng = random.Random(f"sent {number}")
-            read = journal.read_journal(days.draw_text(rng, 8))
+            read = journal.parse_journal(days.draw_text(rng, 8))
             commands = [entry for entry in read.commands if getattr(entry, "who", None) == "A"]
             if commands:
                 yield rng, read, [sent.Sent(at, entry) for at, entry in enumerate(commands, 1)]
 
     def differences(self, read, own):
-        return sent.differences(own, sent.published_of(read, book.run(read)[1], "A"))
+        return sent.difference_lines(own, sent.published_of(read, book.run_commands(read)[1], "A"))
 
     def test_what_was_sent_is_there_with_its_replies(self):
         tried = 0
         for _, read, own in self.days(200):
             self.assertEqual(self.differences(read, own), [])
-            published = sent.published_of(read, book.run(read)[1], "A")
+            published = sent.published_of(read, book.run_commands(read)[1], "A")
             lines = book.replies_text(read).splitlines()
             for one, other in zip(own, published):
                 self.assertEqual(read.commands[other.record - 2], one.command)
@@ -341,12 +341,12 @@ class Drawn(unittest.TestCase):
         cancels = [sent.Sent(at, journal.Cancel("A", f"N{at % 3}")) for at in range(1, 9_000)]
         others = [sent.Published(at, journal.Cancel("A", f"M{at}"), None) for at in range(2, 9_000)]
         published = [sent.Published(one.record + 1, one.command, "UnknownOrder") for one in cancels]
-        self.assertEqual(sent.differences(cancels, published), [])
-        self.assertEqual(len(sent.differences(cancels[:4_000] + cancels[4_001:], published)), 1)
-        self.assertEqual(len(sent.differences(cancels, others)), len(cancels) + len(others))
+        self.assertEqual(sent.difference_lines(cancels, published), [])
+        self.assertEqual(len(sent.difference_lines(cancels[:4_000] + cancels[4_001:], published)), 1)
+        self.assertEqual(len(sent.difference_lines(cancels, others)), len(cancels) + len(others))
         # One half is missing, and the other half is there.
         halved = [entry for entry in published if entry.record % 2]
-        self.assertEqual(len(sent.differences(cancels, halved)), len(cancels) - len(halved))
+        self.assertEqual(len(sent.difference_lines(cancels, halved)), len(cancels) - len(halved))
 
     def test_another_order_of_as_many_commands_as_a_journal_has(self):
         """It takes a few seconds at most, whatever the commands are."""
@@ -362,12 +362,12 @@ class Drawn(unittest.TestCase):
             ([few, rng.sample(few, count)], count),
         ):
             began = time.process_time()
-            found = sent.differences([sent.Sent(at, entry) for at, entry in enumerate(own[0], 1)],
+            found = sent.difference_lines([sent.Sent(at, entry) for at, entry in enumerate(own[0], 1)],
                                      [sent.Published(at, entry, None) for at, entry in enumerate(own[1], 2)])
             self.assertLess(time.process_time() - began, 10)
             self.assertEqual({fault.kind for fault in found}, {"moved"})
             self.assertLessEqual(len(found), most)
-        self.assertEqual(len(sent.differences([sent.Sent(1, one), sent.Sent(2, other)], [sent.Published(2, other, None)])), 1)
+        self.assertEqual(len(sent.difference_lines([sent.Sent(1, one), sent.Sent(2, other)], [sent.Published(2, other, None)])), 1)
 
     def test_the_time_that_the_comparison_may_take(self):
         words = ["--seconds", "0", "--json"]

@@ -25,7 +25,7 @@ def table(*rows, header=HEADER):
 
 
 def made(*rows, header=HEADER, periods=24):
-    orders = order_table.read_tables([("", table(*rows, header=header))], periods)
+    orders = order_table.parse_tables([("", table(*rows, header=header))], periods)
     return journal.journal_text(order_table.journal_of(orders, periods, False)).splitlines()[1:], orders.notes
 
 
@@ -58,7 +58,7 @@ class Columns(unittest.TestCase):
         self.assertEqual(wrong(*(f"X,{row}" for row in rows), header=f",{header}"), first)
         self.assertEqual(made(*rows[:2], header=header), made(*rows[:2]))
         with self.assertRaises(order_table.BadOrders):  # also if the row is one of others
-            order_table.read_tables([("", table(*rows, header=header))], 24, "A")
+            order_table.parse_tables([("", table(*rows, header=header))], 24, "A")
 
     def test_many_columns_without_a_name(self):
         """Of each row only its own cells are looked at."""

@@ -118,7 +118,7 @@ class Shown(unittest.TestCase):
         for number, text in steps:
             (path,) = (TOP / "examples" / "guide").glob(f"{number}-*.csv")
             with self.subTest(path.name):
-                closed, reasons = book.run(journal.read_journal(path.read_bytes()))
+                closed, reasons = book.run_commands(journal.parse_journal(path.read_bytes()))
                 self.assertEqual(set(reasons), {None})
                 lines = path.read_text().splitlines()
                 quoted = re.findall(r"^submit,.*$", text, re.MULTILINE)

@@ -23,7 +23,7 @@ ACCEPTED = results_of(FAMILY, frozenset({0, 1}))
 
 def read(data, text):
     day = problem(data)
-    said, wrong = results.read_results(day, text)
+    said, wrong = results.parse_results(day, text)
     assert not wrong, wrong
     return day, said
 
@@ -105,7 +105,7 @@ class Sums(unittest.TestCase):
         for name, data, text in cleared_cases():
             day = problem(data)
             for other, line in changed_numbers(text):
-                said, wrong = results.read_results(day, other)
+                said, wrong = results.parse_results(day, other)
                 kind, *fields = text.splitlines()[line - 1].decode().split(",")
                 is_price = kind == "period" and other.splitlines()[line - 1].decode().split(",")[3] == fields[2]
                 if said is None or wrong or is_price or kind == "block" and fields[2] == "rejected":

@@ -92,8 +92,8 @@ class Results(unittest.TestCase):
     def test_the_table_of_orders_makes_the_same_book(self):
         for day in self.days():
             text = sheets.table_text(tables.orders(day)).encode()
-            again = order_table.read_orders(text, day.problem.periods, True)
-            made, reasons = book.run(again)
+            again = order_table.parse_orders(text, day.problem.periods, True)
+            made, reasons = book.run_commands(again)
             self.assertEqual(set(reasons), {None})
             self.assertEqual(list(made.rows.items()), list(day.book.rows.items()))
 
@@ -101,7 +101,7 @@ class Results(unittest.TestCase):
 class Orders(unittest.TestCase):
     def made(self, *rows, header=HEADER, periods=24):
         table = "".join(f"{row}\n" for row in [header, *rows]).encode()
-        return journal.journal_text(order_table.read_orders(table, periods, False)).splitlines()[1:]
+        return journal.journal_text(order_table.parse_orders(table, periods, False)).splitlines()[1:]
 
     def wrong(self, *rows, header=HEADER):
         with self.assertRaises(order_table.BadOrders) as fault:
@@ -257,7 +257,7 @@ class Orders(unittest.TestCase):
         self.assertIn("the table is empty", self.wrong(header=""))
         self.assertIn("line 2: it has 10 cells, but the header has 9", self.wrong(BLOCK + ",1"))
         with self.assertRaises(order_table.BadOrders) as fault:
-            order_table.read_orders(HEADER.encode() + b"\nN\x81RD", 24, True)
+            order_table.parse_orders(HEADER.encode() + b"\nN\x81RD", 24, True)
         said = "line 2: the table is neither in UTF-8 nor in Windows-1252: save it as CSV in UTF-8"
         self.assertEqual(str(fault.exception), said)
         self.assertIn("line 3: the table can't be read", self.wrong(BLOCK, HOUR + ',"x"y'))

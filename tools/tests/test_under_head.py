@@ -205,7 +205,7 @@ class Audit(Audited):
         Path("sealed/receipts/A.jsonl").unlink()
         Path("sealed/receipts/A.jsonl").write_bytes(b"x\n" * heads.MOST_ENTRIES)
         with mock.patch.object(heads, "parse", wraps=heads.parse) as parsed, self.assertRaisesRegex(command.Stop, r"A\.jsonl line 1: "):
-            under_head.read_and_judge_folder("sealed/receipts", receipts.read_key("key.pem.pub"))
+            under_head.read_findings_of_folder("sealed/receipts", receipts.read_key("key.pem.pub"))
         self.assertEqual(parsed.call_count, 1)
 
     def test_many_commands_that_the_journal_lacks(self):
@@ -213,8 +213,8 @@ class Audit(Audited):
         count = 5_000
         seal = sealed_of(b"day,24,,,,,,,\n" + b"cancel,A,B,,,,,,\n" * count)
         finding = receipts.Finding("f", 1, receipts.RIGHT, "", seal.receipt(1, seal.head()))
-        read = journal.read_journal(b"day,24,,,,,,,\n" + b"cancel,A,B,,,,,,\n" * count)
-        signed = under_head.UnderHead(None, seal.head(), seal.salts, read, book.run(read)[1], [finding] * count)
+        read = journal.parse_journal(b"day,24,,,,,,,\n" + b"cancel,A,B,,,,,,\n" * count)
+        signed = under_head.UnderHead(None, seal.head(), seal.salts, read, book.run_commands(read)[1], [finding] * count)
         with mock.patch.object(signed, "receipt_fault", side_effect=AssertionError):
             proofs = {signed.proof(one) for one in read.commands}
         self.assertEqual(proofs, {"; no receipt proves that the operator had it"})

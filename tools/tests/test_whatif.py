@@ -37,13 +37,13 @@ NEVER = ("submit,CITY,TOWN,hour,buy,5000,1:20,,", "submit,GEN,A,block,sell,4000,
 
 
 def search(*lines, key, periods=24):
-    held, _ = book.run(journal.read_journal(journal_of(*lines).replace(b"day,24,", b"day,%d," % periods)))
+    held, _ = book.run_commands(journal.parse_journal(journal_of(*lines).replace(b"day,24,", b"day,%d," % periods)))
     return limits.Search(held, key, lambda text: support.results_of(text, best(text)))
 
 
 def best(text):
     """The places that the rules accept, by trying each selection."""
-    out = compare.right_results(journal.read_journal(text)).stdout
+    out = compare.right_results(journal.parse_journal(text)).stdout
     words = [line.split(",")[3] for line in out.decode().splitlines() if line.startswith("block,")]
     return {place for place, word in enumerate(words) if word == "accepted"}
 
@@ -59,7 +59,7 @@ class Limits(unittest.TestCase):
         self.assertEqual((found.limit, found.past_limit, found.at.surplus(one.key), found.past.surplus(one.key)), (5000, 5001, 0, -20))
         self.assertEqual((found.at.welfare, found.past.welfare, found.at.prices[0]), (0, 0, 5000))
         self.assertLessEqual(found.clearings, limits.MOST_CLEARINGS)
-        self.assertEqual(limits.others(one, found), [("CITY", "TOWN")])
+        self.assertEqual(limits.other_orders(one, found), [("CITY", "TOWN")])
 
     def test_amounts_of_quarter_hours_are_a_fourth(self):
         """The same orders in a quarter of an hour have the same limits and prices, and a fourth of the energy and of each amount."""
@@ -147,7 +147,7 @@ class Limits(unittest.TestCase):
         self.assertEqual(max(needed), limits.MOST_CLEARINGS)
 
     def test_a_fault_of_a_clearing_ends_the_search(self):
-        held, _ = book.run(journal.read_journal(journal_of(*SMALL)))
+        held, _ = book.run_commands(journal.parse_journal(journal_of(*SMALL)))
         with self.assertRaisesRegex(errors.Fault, "^memory$"):
             limits.Search(held, ("GEN", "UNIT"), lambda text: errors.Fault("memory", 4)).worst()
 
@@ -164,7 +164,7 @@ class Page(unittest.TestCase):
         day = support.day_of(data, results or support.results_of(data, best(data)))
         told = unittest.mock.patch.object(command, "print_note", lambda _, line: self.told.append(line))
         with unittest.mock.patch.object(engine, "run_clear", answer), told:
-            return limits.of_rejected(day, *words)
+            return limits.run_for_rejected(day, *words)
 
     def setUp(self):
         self.told = []
@@ -242,18 +242,18 @@ class Entered(unittest.TestCase):
     def test_a_block_with_children_is_cancelled_after_them(self):
         """As the book does: each sequence of cancels is refused, or not, at the same place."""
         lines = ["submit,P,TOP,block,sell,1,1:1,,", "submit,P,LOW,block,sell,1,1:1,TOP,", "submit,P,LAST,block,sell,1,1:1,LOW,"]
-        held = changes.before_close(journal.read_journal(journal_of(*lines, "close,,,,,,,,")))
+        held = changes.book_before_close(journal.parse_journal(journal_of(*lines, "close,,,,,,,,")))
         for order in itertools.permutations(["TOP", "LOW", "LAST"]):
             with self.subTest(order):
                 given = [(f"record {number}", journal.Cancel("P", name)) for number, name in enumerate(order, 1)]
-                fresh = changes.before_close(journal.read_journal(journal_of(*lines, "close,,,,,,,,")))
+                fresh = changes.book_before_close(journal.parse_journal(journal_of(*lines, "close,,,,,,,,")))
                 reasons = [fresh.apply(command) for _, command in given]
                 if order == ("LAST", "LOW", "TOP"):
-                    self.assertEqual((reasons, changes.entered(held, given).rows), ([None] * 3, {}))
+                    self.assertEqual((reasons, changes.book_with_commands(held, given).rows), ([None] * 3, {}))
                 else:
                     place = next(number for number, reason in enumerate(reasons, 1) if reason)
                     with self.assertRaisesRegex(changes.Fault, rf"^record {place}: the book refuses cancel,P,{order[place - 1]},.*HasChildren"):
-                        changes.entered(held, given)
+                        changes.book_with_commands(held, given)
                 self.assertEqual(len(held.rows), 3)
 
 
@@ -454,7 +454,7 @@ class Tools(unittest.TestCase):
     def test_a_cell_that_a_command_does_not_have(self):
         """An amend can't change a side or a group, and a cancel is of the whole order: such a cell would be ignored."""
         full = dict(zip(order_table.ORDER, "GEN,UNIT,block,sell,60,1,2,P,G".split(",")))
-        held = changes.before_close(journal.read_journal(journal_of(*SMALL)))
+        held = changes.book_before_close(journal.parse_journal(journal_of(*SMALL)))
         amend = {"participant", "order", "price_eur_mwh", "periods", "volume_mw"}
         for what, has in (("an Amend", amend), ("a cancel", {"participant", "order"}), ("a close", set())):
             for name in full.keys() - has:
@@ -462,9 +462,9 @@ class Tools(unittest.TestCase):
                 data = f"what,{heads}\n{what.split()[1]},{cells}\n"
                 said = f"line 2, column {name}: '{full[name]}' should be left out: {what.lower()} has no {name}$"
                 with self.assertRaisesRegex(errors.Fault, f"^{said}"):
-                    changes.read_changes(data.encode(), 24)
+                    changes.parse_changes(data.encode(), 24)
                 with self.assertRaisesRegex(errors.Fault, f"^a: {said}"):
-                    scenarios.read_table("a", f"scenario,{data[:-1].replace(chr(10), chr(10) + 'S,')}".encode(), held)
+                    scenarios.parse_table("a", f"scenario,{data[:-1].replace(chr(10), chr(10) + 'S,')}".encode(), held)
 
     def test_bad_words_and_bad_comparisons(self):
         for word in ("abc", text.eur_per_mwh(rules.HIGHEST_PRICE + 1), "1e3", "0.001"):
@@ -608,7 +608,7 @@ class Tools(unittest.TestCase):
     def test_the_first_example_of_the_journals(self):
         """Refused commands and orders without trade are in the way of nothing."""
         path = self.file("first.csv", FIRST)
-        who = next(command.who for command in journal.read_journal(FIRST).commands if hasattr(command, "who"))
+        who = next(command.who for command in journal.parse_journal(FIRST).commands if hasattr(command, "who"))
         status, out, err = self.whatif("change", path, "-", "--participant", who, data=b"day,24,,,,,,,\n")
         self.assertEqual((status, len(self.rows(out))), (0, 2), err)
 

@@ -128,7 +128,7 @@ class Faults(Read):
         ):
             tracemalloc.start()
             try:
-                found = sheets.read_rows(data, most=most)[0]
+                found = sheets.parse_rows(data, most=most)[0]
             except sheets.BadTable as fault:
                 found = str(fault)
             most_memory = tracemalloc.get_traced_memory()[1]
@@ -152,7 +152,7 @@ class Faults(Read):
         ):
             tracemalloc.start()
             with self.assertRaises(order_table.BadOrders) as wrong:
-                order_table.read_tables([("", data)], 100)
+                order_table.parse_tables([("", data)], 100)
             most_memory = tracemalloc.get_traced_memory()[1] / 2**20
             tracemalloc.stop()
             self.assertIn(more.replace(",", ""), str(wrong.exception)[-100:])
@@ -160,7 +160,7 @@ class Faults(Read):
 
     def test_a_text_has_no_more_lines_than_a_sheet(self):
         with self.assertRaisesRegex(sheets.BadTable, "^line 1048577: a table has at most 1,048,576 lines$"):
-            sheets.read_rows(b"\n" * (2**20 + 1))
+            sheets.parse_rows(b"\n" * (2**20 + 1))
 
     def test_a_cell_of_a_text_that_does_not_end_on_its_line(self):
         """Two quotes in a column that isn't used could hide the rows between them."""
@@ -176,9 +176,9 @@ class Faults(Read):
         ):
             for code in ("utf-8", "utf-8-sig", "utf-16"):
                 with self.subTest(text, code=code), self.assertRaisesRegex(order_table.BadOrders, f"^{place}: {said}$"):
-                    order_table.read_tables([("", text.encode(code))], 24, "A")
+                    order_table.parse_tables([("", text.encode(code))], 24, "A")
         quoted = f'"{head}",note\n'.replace(",", '","').replace('","note', ',"note, of one ""line"""') + f'{one},"a, b"\n'
-        self.assertEqual(len(order_table.read_tables([("", quoted.encode())], 24).submits), 1)
+        self.assertEqual(len(order_table.parse_tables([("", quoted.encode())], 24).submits), 1)
 
     def test_every_table_is_read_by_the_same_code(self):
         data, said = book(order(3, "K1"), order(2, "K2")), "sheet 'orders', row 2: it stands after row 3"
@@ -187,13 +187,13 @@ class Faults(Read):
             path.write_bytes(data)
             status, _, err = run_tool("audit", AUCTION, "--sent", path, "--participant", "GAS")
             self.assertEqual((status, said in err), (command.NO_INPUT, True), err)
-        for read in (lambda: changes.read_changes(data, 24), lambda: scenarios.read_table("a table", data, Book(24))):
+        for read in (lambda: changes.parse_changes(data, 24), lambda: scenarios.parse_table("a table", data, Book(24))):
             with self.assertRaisesRegex(errors.Fault, said):
                 read()
 
     def test_a_workbook_is_read_without_a_package(self):
         with mock.patch.dict("sys.modules", {"openpyxl": None}):
-            self.assertEqual(list(sheets.read_rows(book(row(2, ("B2", "x"))))[0])[1:], [(2, ["", "x"])])
+            self.assertEqual(list(sheets.parse_rows(book(row(2, ("B2", "x"))))[0])[1:], [(2, ["", "x"])])
 
     def test_names_of_elements_are_limited(self):
         cant, tail = "line 1: the Excel workbook can't be read: ", b"</row>"
@@ -364,7 +364,7 @@ class Unlike(unittest.TestCase):
         plain = {letter: f"<c t='str'><v>{words}</v></c>" for letter, words in zip(self.COLUMNS, "A,K,block,buy,1,8,5,,,x".split(","))}
         data = made.workbook_of_sheet(self.HEADS, f"<row>{''.join({**plain, **cells}.values())}</row>".encode(), made.CLOSE, **dict(parts))
         try:
-            return order_table.read_tables([("", data)], 24).submits[0][1], None
+            return order_table.parse_tables([("", data)], 24).submits[0][1], None
         except order_table.BadOrders as fault:
             return None, str(fault).splitlines()[0]
 
@@ -408,14 +408,14 @@ class Unlike(unittest.TestCase):
                 if refused:
                     said = "^sheet 'orders', cell E2: its formula was saved without its value: open the workbook in Excel, and save it$"
                     with self.assertRaisesRegex(sheets.BadTable, said):
-                        sheets.read_rows(data)
+                        sheets.parse_rows(data)
                 else:
-                    self.assertEqual(len(order_table.read_tables([("", data)], 24).submits), 2)
+                    self.assertEqual(len(order_table.parse_tables([("", data)], 24).submits), 2)
 
     def test_a_heading_without_its_value(self):
         heads = made.OPEN.replace(b"<is><t>group</t></is>", b"<f>A1</f>").replace(b"<c t='inlineStr'><f>", b"<c><f>")
         with self.assertRaisesRegex(order_table.BadOrders, "^line 1, column 9: '=A1' is a formula that was saved without its value"):
-            order_table.read_tables([("", made.workbook_of_sheet(heads, order(2, "K1"), made.CLOSE))], 24)
+            order_table.parse_tables([("", made.workbook_of_sheet(heads, order(2, "K1"), made.CLOSE))], 24)
 
     def test_names_that_excel_shows_in_another_way(self):
         """A name such as 8-20 becomes a date, 007 may be a 7 with a format, and TRUE is another word in another language."""
@@ -582,9 +582,9 @@ class Unlike(unittest.TestCase):
             with self.subTest(value, row=row):
                 if said:
                     with self.assertRaisesRegex(order_table.BadOrders, re.escape(f"line 2, column price_eur_mwh: {said}")):
-                        order_table.read_tables([("", made.workbook_of_sheet(heads, row, made.CLOSE))], 24)
+                        order_table.parse_tables([("", made.workbook_of_sheet(heads, row, made.CLOSE))], 24)
                 else:
-                    self.assertEqual(len(order_table.read_tables([("", made.workbook_of_sheet(heads, row, made.CLOSE))], 24).submits), 1)
+                    self.assertEqual(len(order_table.parse_tables([("", made.workbook_of_sheet(heads, row, made.CLOSE))], 24).submits), 1)
 
     def test_names_of_many_digits(self):
         """Excel shows 123456789012 as 1.23457E+11, unless its format is 0."""
@@ -602,7 +602,7 @@ class Unlike(unittest.TestCase):
                     self.assertEqual(said, fault, (style, number))
         with self.assertRaisesRegex(order_table.BadOrders, "column order: '123456789012' is a number of which"):
             plain = b"<row><c t='str'><v>A</v></c><c><v>123456789012</v></c></row>"
-            order_table.read_tables([("", made.workbook_of_sheet(made.OPEN, plain, made.CLOSE, **{"xl/styles.xml": styles_without_formats()}))], 24)
+            order_table.parse_tables([("", made.workbook_of_sheet(made.OPEN, plain, made.CLOSE, **{"xl/styles.xml": styles_without_formats()}))], 24)
         found, _ = self.read(styles, E='<c s="0"><v>0.10</v></c>')  # a price is what it is
         self.assertEqual(found.order.price, 10)
 
@@ -651,9 +651,9 @@ class Unlike(unittest.TestCase):
             data = made.workbook_of_sheet(made.OPEN, order(2, "K1"), made.CLOSE, **{"xl/styles.xml": styles.encode()})
             if fault:
                 with self.assertRaisesRegex(sheets.BadTable, f"^line 1: the Excel workbook can't be read: {fault}$"):
-                    sheets.read_rows(data)
+                    sheets.parse_rows(data)
             else:
-                self.assertEqual(len(order_table.read_tables([("", data)], 24).submits), 1)
+                self.assertEqual(len(order_table.parse_tables([("", data)], 24).submits), 1)
         for style in ("x", "-1", "1.0", ""):
             for cell in (f'<c s="{style}"><v>7</v></c>', f'<c s="{style}" t="str"><v>K</v></c>'):
                 _, fault = self.read(B=cell)
@@ -671,14 +671,14 @@ class Unlike(unittest.TestCase):
             data = made.workbook_of_sheet(made.OPEN, order(2, "K1"), close, **{"xl/styles.xml": styles.encode()})
             with self.subTest(number):
                 if is_read:
-                    self.assertEqual(len(order_table.read_tables([("", data)], 24).submits), 1)
+                    self.assertEqual(len(order_table.parse_tables([("", data)], 24).submits), 1)
                 else:
                     with self.assertRaisesRegex(sheets.BadTable, said):
-                        sheets.read_rows(data)
+                        sheets.parse_rows(data)
         extension = '</sheetData><extLst><ext><x:dxf xmlns:x="urn:x"><numFmt formatCode="0%"/></x:dxf></ext></extLst>'
         data = made.workbook_of_sheet(made.OPEN, order(2, "K1"), made.CLOSE.replace(b"</sheetData>", extension.encode()))
         with self.assertRaisesRegex(sheets.BadTable, "an element 'numFmt' stands in 'extLst'"):
-            sheets.read_rows(data)
+            sheets.parse_rows(data)
 
     def test_hidden_sheets(self):
         """One that is shown comes first; if a hidden one is read, the note says so."""
@@ -696,7 +696,7 @@ class Unlike(unittest.TestCase):
             (("a", hidden, "b", very), "K1", "of 2 sheets, 'a' was read, a hidden one; 'b' has the columns of orders too"),
         ):
             workbook = {"xl/workbook.xml": listed.format(made.MAIN[0], made.OFFICE[0], *names).encode()}
-            orders = order_table.read_tables([("", made.workbook_of_sheet(made.OPEN, order(2, "K1"), made.CLOSE, **parts, **workbook))], 24)
+            orders = order_table.parse_tables([("", made.workbook_of_sheet(made.OPEN, order(2, "K1"), made.CLOSE, **parts, **workbook))], 24)
             self.assertEqual(([submit.name for _, submit in orders.submits], orders.notes), ([wanted], [note]))
 
     def test_a_sheet_of_macros(self):
@@ -714,10 +714,10 @@ class Unlike(unittest.TestCase):
                 data = made.workbook_of_sheet(made.OPEN, made.CLOSE, **{name: part.encode() for name, part in parts.items()})
                 if said:
                     with self.assertRaisesRegex(sheets.BadTable, said):
-                        sheets.read_rows(data)
+                        sheets.parse_rows(data)
                 else:
                     notes = []
-                    sheets.read_rows(data, notes=notes)
+                    sheets.parse_rows(data, notes=notes)
                     self.assertEqual(notes, ["of 2 sheets, 'a' was read"])
 
     def test_names_of_sheets(self):
@@ -728,10 +728,10 @@ class Unlike(unittest.TestCase):
             sheets = listed.format(made.MAIN[0], made.OFFICE[0], *names).encode()
             data = made.workbook_of_sheet(made.OPEN, order(2, "K1"), made.CLOSE, **{"xl/workbook.xml": sheets, "xl/worksheets/other.xml": other})
             if read:
-                self.assertEqual(order_table.read_tables([("", data)], 24).submits[0][1].name, read)
+                self.assertEqual(order_table.parse_tables([("", data)], 24).submits[0][1].name, read)
             else:
                 with self.assertRaisesRegex(order_table.BadOrders, "two sheets are named 'Orders'"):
-                    order_table.read_tables([("", data)], 24)
+                    order_table.parse_tables([("", data)], 24)
 
     def test_names_of_scenarios(self):
         """Two times of a day, or two numbers, may be shown alike."""
@@ -742,7 +742,7 @@ class Unlike(unittest.TestCase):
         ):
             data = made.workbook_of_sheet(made.OPEN.replace(b">group<", b">scenario<"), b"<row r='2'>" + b"<c/>" * 8 + cell.encode() + b"</row>", made.CLOSE)
             with self.assertRaisesRegex(errors.Fault, f"^a table: line 2, column scenario: {said}"):
-                scenarios.read_table("a table", data, Book(24))
+                scenarios.parse_table("a table", data, Book(24))
 
     def test_dates_of_both_systems(self):
         """A workbook may count days from 1904 on. A time of day is the same in both."""
@@ -770,7 +770,7 @@ class Long(unittest.TestCase):
             cells = dict(zip(order_table.ORDER, "A,K1,block,buy,1,8,5,,".split(",")), **{column: cell})
             began = time.process_time()
             with self.assertRaisesRegex(order_table.BadOrders, said):
-                order_table.read_tables([("", f"{','.join(cells)}\n{','.join(cells.values())}\n".encode())], 24)
+                order_table.parse_tables([("", f"{','.join(cells)}\n{','.join(cells.values())}\n".encode())], 24)
             self.assertLess(time.process_time() - began, 1)
 
     def test_many_columns(self):
@@ -778,7 +778,7 @@ class Long(unittest.TestCase):
         heads = ",".join([*(f"c{number}" for number in range(16_000)), "scenario", "what", "participant", "order"])
         data = f"{heads}\n".encode() + b"x\n" * 1_000
         began = time.process_time()
-        for read in (changes.read_changes, lambda data, _: scenarios.read_table("a table", data, Book(24))):
+        for read in (changes.parse_changes, lambda data, _: scenarios.parse_table("a table", data, Book(24))):
             with self.assertRaises(errors.Fault):
                 read(data, 24)
         self.assertLess(time.process_time() - began, 5)
@@ -791,7 +791,7 @@ class Long(unittest.TestCase):
         held.change(Submit("GAS", "B", Order("block", "sell", 1, ())))
 
         def amended():
-            return changes.entered(held, changes.read_changes(data, 96)[0]).rows["GAS", "B"].volumes[::95]
+            return changes.book_with_commands(held, changes.parse_changes(data, 96)[0]).rows["GAS", "B"].volumes[::95]
 
         def entered():
             return [line.rpartition(":")[2] for line in requests.parse_table_records(data, "GAS", 96)[0]][::2_999]
@@ -806,13 +806,13 @@ class Long(unittest.TestCase):
 
     def test_equal_volumes_are_read_once(self):
         data = b"what,participant,order,price_eur_mwh,periods,volume_mw\namend,A,K,1,1-96,5\namend,A,L,2,1-96,5\namend,A,L,2,2-97,5\n"
-        first, same, other = (command.volumes for _, command in changes.read_changes(data, 100)[0])
+        first, same, other = (command.volumes for _, command in changes.parse_changes(data, 100)[0])
         self.assertTrue(first is same)
         self.assertEqual((first[0], other[0]), ((1, 50), (2, 50)))
 
     def test_periods_with_spaces_are_no_more_parts(self):
         quarters = ";".join(f"{at // 4:02}:{at % 4 * 15:02} - {(at + 1) // 4:02}:{(at + 1) % 4 * 15:02}" for at in range(96))
-        self.assertEqual(cell_values.read_periods(quarters, 96), list(range(1, 97)))
+        self.assertEqual(cell_values.parse_periods(quarters, 96), list(range(1, 97)))
 
 
 if __name__ == "__main__":

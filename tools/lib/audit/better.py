@@ -15,13 +15,13 @@ def find_better(problem, said, method, progress, jobs):
     """A selection that ranks above the one of right results, or None; and how it was looked for. Ends the tool if the time is over, or
     if the search fails."""
     try:
-        return {ENUMERATION: enumerate_all, HIGHS: ask_highs}[method](problem, said, progress, jobs)
+        return {ENUMERATION: search_all, HIGHS: ask_highs}[method](problem, said, progress, jobs)
     except (TimeoutError, aside.Died) as fault:
         status = command.UNDECIDED if isinstance(fault, TimeoutError) else command.FAILED
         raise command.Stop(f"the results obey the other rules, but {fault}", status) from None
 
 
-def enumerate_all(problem, said, progress, jobs, few=FEW_BLOCKS):
+def search_all(problem, said, progress, jobs, few=FEW_BLOCKS):
     """With numpy; without it if the blocks are few, or if it is missing and they aren't too many."""
     count = len(problem.blocks)
     if count <= few or count <= best.ENUMERABLE and not modules.has_module("numpy"):
@@ -39,7 +39,7 @@ def enumerate_all(problem, said, progress, jobs, few=FEW_BLOCKS):
 def ask_highs(problem, said, progress, jobs):
     """By HiGHS, which takes no program of a day without blocks."""
     if not problem.blocks:
-        return enumerate_all(problem, said, progress, jobs)
+        return search_all(problem, said, progress, jobs)
     modules.refuse_missing("scipy")
 
     def ask(tell):

@@ -41,11 +41,11 @@ class Pair(NamedTuple):
     missing: object = None  # the message if there are no results, and the journal isn't the text of a day
 
 
-def pairs_of(place):
+def require_pairs(place):
     """The days of a folder, by name, or of a manifest, in its order. None of their files is read."""
     path = Path(place)
     try:
-        pairs = named_pairs(path) if path.is_dir() else listed_pairs(path)
+        pairs = pairs_by_name(path) if path.is_dir() else require_listed_pairs(path)
     except OSError as fault:
         raise command.Stop(f"{command.shown(place)} can't be read: {fault.strerror}") from None
     if not pairs:
@@ -53,12 +53,12 @@ def pairs_of(place):
     return pairs
 
 
-def named_pairs(folder):
+def pairs_by_name(folder):
     """Each journal of a folder with the results of the same name; results without a journal too. A suffix may have capital letters, but a
     day of which two files have one name isn't read."""
     found, alike = {}, {}
     for path in sorted(folder.iterdir()):
-        key = parted(path.name)
+        key = split_suffix(path.name)
         if key[1] in (JOURNAL, RESULTS) and found.setdefault(key, path) is not path:
             said = f"{command.shown(found[key])} and {command.shown(path)} have one name: rename one of them"
             alike.setdefault(key[0], said)
@@ -67,7 +67,7 @@ def named_pairs(folder):
     return [pair._replace(unread=alike[pair.name]) if pair.name in alike else pair for pair in pairs]
 
 
-def parted(name):
+def split_suffix(name):
     """A file's name without its suffix, and the suffix in small letters. The file `.csv` is a day too, whose name is empty."""
     stem, dot, suffix = name.rpartition(".")
     return stem, f"{dot}{suffix.lower()}"
@@ -75,23 +75,23 @@ def parted(name):
 
 def pair_of(name, journal, published):
     if os.path.lexists(published):
-        return Pair(name, journal, published, file_io.unread_file(journal) or file_io.unread_file(published), None)
-    return Pair(name, journal, None, file_io.unread_file(journal), f"{command.shown(published)} is missing")
+        return Pair(name, journal, published, file_io.unread_reason(journal) or file_io.unread_reason(published), None)
+    return Pair(name, journal, None, file_io.unread_reason(journal), f"{command.shown(published)} is missing")
 
 
-def listed_pairs(path):
+def require_listed_pairs(path):
     """The pairs of a manifest: a table with the columns `journal` and `results`, whose files are sought from its own folder."""
     try:
         rows = iter(sheets.text_rows(file_io.read_bytes(path)))
         heads = [cell.strip().lower() for cell in next(rows, (0, []))[1]]
         refuse_heads(path, heads)
         pairs, lines = [], {}
-        for line, row in within(path, rows):
-            cells = {name: named_in(path.parent, cell) for name, cell in zip(heads, row)}
-            pairs.append(listed_pair(path.parent, cells, extra_cells(line, row, heads)))
+        for line, row in rows_within_limit(path, rows):
+            cells = {name: without_outer_spaces(path.parent, cell) for name, cell in zip(heads, row)}
+            pairs.append(listed_pair(path.parent, cells, extra_cells_fault(line, row, heads)))
             if cells.get(NAME):
                 lines[len(pairs) - 1] = line
-        pairs = with_own_names(pairs, lines)
+        pairs = name_apart(pairs, lines)
     except sheets.BadTable as fault:
         raise command.Stop(f"{command.shown(path)} isn't a table of days: {fault}") from None
     if not pairs:
@@ -99,7 +99,7 @@ def listed_pairs(path):
     return pairs
 
 
-def within(path, rows):
+def rows_within_limit(path, rows):
     """The rows of a manifest, which may not have too many days."""
     for count, row in enumerate(rows):
         if count == MOST_DAYS:
@@ -116,7 +116,7 @@ def refuse_heads(path, heads):
             raise command.Stop(f"{command.shown(path)} isn't a table of days: its first line names the column {name} twice")
 
 
-def extra_cells(line, row, heads):
+def extra_cells_fault(line, row, heads):
     """Why a row of a manifest can't be read, if it has cells in no named column. A name with a comma that isn't quoted is two cells."""
     if len(row) > len(heads):
         return f"line {line} of the table has {len(row)} cells, but the header has {len(heads)}"
@@ -129,11 +129,12 @@ def listed_pair(folder, cells, extra):
     journal, published = (folder / cells.get(name, "") for name in COLUMNS)
     has_results = bool(cells.get("results"))
     missing = None if has_results else f"its row names no results, and {command.shown(journal)} has no line 'results'"
-    unread = extra or unread_row(cells) or file_io.unread_file(journal) or (file_io.unread_file(published) if has_results else None)
+    unread = extra or unread_row_fault(cells) or file_io.unread_reason(journal)
+    unread = unread or (file_io.unread_reason(published) if has_results else None)
     return Pair(cells.get(NAME) or journal.stem, journal, published if has_results else None, unread, missing)
 
 
-def with_own_names(pairs, lines):
+def name_apart(pairs, lines):
     """The pairs of a manifest, of which none is read whose row gives it another's name. `lines` has the line of each such row, by the place
     of its pair."""
     places = {}  # by name
@@ -147,12 +148,12 @@ def with_own_names(pairs, lines):
     return pairs
 
 
-def named_in(folder, cell):
+def without_outer_spaces(folder, cell):
     """A cell without the spaces around it, unless a file has them in its name."""
     return cell if "\0" not in cell and os.path.lexists(folder / cell) else cell.strip()
 
 
-def unread_row(cells):
+def unread_row_fault(cells):
     """Why a row of a manifest names no files, if it names none."""
     if not cells.get("journal"):
         return "its row names no journal"
@@ -179,24 +180,24 @@ def seconds_of(args):
     return min(MORE_SECONDS + (verdict.SECONDS if args.seconds is None else args.seconds) * args.best, MOST_SECONDS)
 
 
-def audited(pair, options, running, seconds=MORE_SECONDS, is_json=False):
+def run_audit_of_day(pair, options, running, seconds=MORE_SECONDS, is_json=False):
     """As much as is kept of the record of the audit of a day, also if the audit fails."""
     if pair.unread is not None:
-        return kept(failed(pair, command.NO_INPUT, pair.unread), is_json)
+        return kept_part(record_without_verdict(pair, command.NO_INPUT, pair.unread), is_json)
     try:
-        status, out, err = ran(pair, options, running, seconds)
+        status, out, err = run_process(pair, options, running, seconds)
         with READING:
-            return kept(of_process(pair, status, out, err), is_json, out)
+            return kept_part(record_of_process(pair, status, out, err), is_json, out)
     except subprocess.TimeoutExpired as fault:
-        made = failed(pair, command.FAILED, f"its process didn't end in {fault.timeout:g} seconds")
+        made = record_without_verdict(pair, command.FAILED, f"its process didn't end in {fault.timeout:g} seconds")
     except OSError as fault:
-        made = failed(pair, command.FAILED, f"its process can't be started: {fault.strerror}")
+        made = record_without_verdict(pair, command.FAILED, f"its process can't be started: {fault.strerror}")
     except Exception as fault:
-        made = failed(pair, command.FAILED, ending.words(fault))
-    return kept(made, is_json)
+        made = record_without_verdict(pair, command.FAILED, ending.failure_words(fault))
+    return kept_part(made, is_json)
 
 
-def kept(made, is_json, out=b""):
+def kept_part(made, is_json, out=b""):
     """A day's record with the first fault alone, and the number of all; with --json also packed, as it is printed. `out` is the text of a
     process with the same record, if it has faults."""
     short = {**made, "faults": made["faults"][:1], "count": len(made["faults"])}
@@ -204,10 +205,10 @@ def kept(made, is_json, out=b""):
         return short
     if not made["faults"]:
         out = json.dumps({key: text.for_json(value) for key, value in made.items() if key != "name"}, indent=1).encode()
-    return {**short, "printed": packed(made["name"], out.strip())}
+    return {**short, "printed": compressed(made["name"], out.strip())}
 
 
-def packed(name, out):
+def compressed(name, out):
     """The lines of a day's record in the record of all days, compressed. `out` is the text of the record without the day's name."""
     stream = zlib.compressobj(1)
     parts = [stream.compress(f'  {{\n   "name": {json.dumps(text.for_json(name))},'.encode())]
@@ -216,7 +217,7 @@ def packed(name, out):
     return b"".join([*parts, stream.flush()])
 
 
-def unpacked(data):
+def decompressed(data):
     """The bytes of a packed record, in parts."""
     stream = zlib.decompressobj()
     while data:
@@ -225,17 +226,17 @@ def unpacked(data):
     yield stream.flush()
 
 
-def printed(status, records):
+def record_texts(status, records):
     """The record of all days, in parts: the records of the days aren't unpacked together."""
-    before, _, end = json.dumps({**record.of_days(status, records), "days": [[]]}, indent=1).encode().rpartition(b"  []")
+    before, _, end = json.dumps({**record.record_of_days(status, records), "days": [[]]}, indent=1).encode().rpartition(b"  []")
     for made in records:
         yield before
-        yield from unpacked(made["printed"])
+        yield from decompressed(made["printed"])
         before = b",\n"
     yield end + b"\n"
 
 
-def ran(pair, options, running, seconds):
+def run_process(pair, options, running, seconds):
     """The status of the process of a day, its output and its lines on standard error. Until it ends, it is among the `running`; after
     this number of seconds it is ended."""
     files = [file_name(path) for path in (pair.journal, pair.results) if path is not None]
@@ -249,7 +250,7 @@ def ran(pair, options, running, seconds):
     return process.returncode, out, err
 
 
-def of_process(pair, status, out, err):
+def record_of_process(pair, status, out, err):
     """The record that the process of a day printed."""
     try:
         made = json.loads(out)
@@ -261,13 +262,13 @@ def of_process(pair, status, out, err):
         pass
     said = err.decode(errors="replace").strip().splitlines()
     how = said[-1] if said else f"its process ended with {status}"
-    return failed(pair, command.FAILED, how.removeprefix("audit: "))
+    return record_without_verdict(pair, command.FAILED, how.removeprefix("audit: "))
 
 
-def failed(pair, status, message):
+def record_without_verdict(pair, status, message):
     """A record of a day without a verdict, of which no file was read."""
     files = [(role, file_name(path)) for role, path in (("journal", pair.journal), ("results", pair.results)) if path]
-    return {"name": pair.name, **record.unread(verdict.OF_STATUS[status], status, message, files)}
+    return {"name": pair.name, **record.unread_record(verdict.OF_STATUS[status], status, message, files)}
 
 
 class Work:
@@ -287,7 +288,7 @@ class Work:
         """The work of a thread."""
         while (at := self.next()) is not None:
             try:
-                self.keep(at, audited(self.pairs[at], self.options, self.running, self.seconds, self.is_json))
+                self.keep(at, run_audit_of_day(self.pairs[at], self.options, self.running, self.seconds, self.is_json))
             except MemoryError:
                 pass  # it gets its record at the end
             finally:
@@ -315,7 +316,7 @@ class Work:
         self.running.end()
 
 
-def audit_all(pairs, options, jobs, bar, seconds=MORE_SECONDS, is_json=False):
+def run_audits(pairs, options, jobs, bar, seconds=MORE_SECONDS, is_json=False):
     """As much as is kept of the records of all days, in their order; each may take this number of seconds."""
     work = Work(pairs, options, seconds, is_json)
     try:
@@ -327,11 +328,11 @@ def audit_all(pairs, options, jobs, bar, seconds=MORE_SECONDS, is_json=False):
     finally:
         work.end()
         bar.end()
-    without = ending.words(MemoryError())
-    return [made or kept(failed(pair, command.FAILED, without), is_json) for pair, made in zip(pairs, work.records)]
+    without = ending.failure_words(MemoryError())
+    return [made or kept_part(record_without_verdict(pair, command.FAILED, without), is_json) for pair, made in zip(pairs, work.records)]
 
 
-def cells(made):
+def row_of_day(made):
     """The row of a day."""
     day, faults = made["day"] or {}, made["faults"]
     words = faults[0]["words"].split("\n")[:1] if faults else (made["message"] or "").split("\n")
@@ -343,9 +344,9 @@ def cells(made):
     return [text.safe(made["name"]), made["verdict"], *numbers, shown, *ends]
 
 
-def total(records):
+def total_row(records):
     """The last row: how many days there are of each verdict, and the sums."""
-    told = ", ".join(f"{count} {kind}" for kind, count in record.counts(records).items() if count)
+    told = ", ".join(f"{count} {kind}" for kind, count in record.verdict_counts(records).items() if count)
 
     def summed(name):
         return sum((made["day"] or {}).get(name, 0) for made in records)
@@ -355,7 +356,7 @@ def total(records):
     return [text.counted(len(records), "day"), told, "", *sums, "", summed("refused"), faults, f"{seconds:.1f}", ""]
 
 
-def aligned(rows):
+def aligned_lines(rows):
     """The lines of a table."""
     rows = [[str(cell) for cell in row] for row in rows]
     widths = [max(map(len, column)) for column in zip(*rows)]
@@ -364,9 +365,9 @@ def aligned(rows):
         yield "  ".join(placed).rstrip()
 
 
-def table(records):
+def table_lines(records):
     """The lines of the table of all days."""
-    return aligned([HEADS, *map(cells, records), total(records)])
+    return aligned_lines([HEADS, *map(row_of_day, records), total_row(records)])
 
 
 def status_of(records):
@@ -374,8 +375,8 @@ def status_of(records):
     return next((status for status in WORST if status in found), command.DONE)
 
 
-def audit(args):
+def run_audits_of(args):
     """As much as is kept of the records of all days."""
-    pairs = pairs_of(args.days)
+    pairs = require_pairs(args.days)
     jobs = min(args.jobs or os.cpu_count() or 1, len(pairs))
-    return audit_all(pairs, options_of(args), jobs, StepBar("audit", len(pairs), "days", args.quiet), seconds_of(args), args.json)
+    return run_audits(pairs, options_of(args), jobs, StepBar("audit", len(pairs), "days", args.quiet), seconds_of(args), args.json)

@@ -216,7 +216,7 @@ def equal_blocks(problem):
             last[key] = place
 
 
-def questions(accepted, welfare, blocks):
+def questions_to_highs(accepted, welfare, blocks):
     """The question to HiGHS: the least welfare, and how the blocks at the first places are decided."""
     flags = [int(place in accepted) for place in range(blocks)]
     yield welfare + 1, []
@@ -232,10 +232,10 @@ def find_better(problem, accepted, welfare, progress, tell=lambda words: None):
     model.forbid(accepted)
     looked = 0
     tell(progress_words(looked))
-    for least, fixed in questions(accepted, welfare, len(problem.blocks)):
+    for least, fixed in questions_to_highs(accepted, welfare, len(problem.blocks)):
         for count in itertools.count():
             model.restrict(least, fixed, ROOM if count < TOO_MANY else 1)
-            other = solve_in_time(model, progress, looked)
+            other = solve_or_time_out(model, progress, looked)
             if other is None:
                 break
             looked += 1
@@ -254,7 +254,7 @@ def progress_words(looked):
     return f"HiGHS is still searching{found}"
 
 
-def solve_in_time(model, progress, looked):
+def solve_or_time_out(model, progress, looked):
     """The next selection that HiGHS offers, or None. Fails if no time is left."""
     left = progress.seconds_left()
     try:

@@ -63,7 +63,7 @@ class Audit:
         options = self.options
         written, published = self.read_texts()
         read = self.read_journal(written)
-        closed, reasons = book.run(read)
+        closed, reasons = book.run_commands(read)
         self.day = {"periods": read.periods, "commands": len(reasons), "refused": sum(reason is not None for reason in reasons)}
         try:
             signed = self.read_signed(read, reasons) if options.head is not None else None
@@ -73,7 +73,7 @@ class Audit:
             self.is_signed, self.wrong, self.last = False, [Fault(str(fault), "head")], f"{WRONG}: {fault}"
             return
         if options.sent is not None:
-            self.check_sent(read, reasons, closed, signed.proof if options.receipts is not None else sent.no_proof)
+            self.check_sent(read, reasons, closed, signed.proof if options.receipts is not None else sent.no_proof_words)
         if signed is not None:
             self.check_head(signed)
         if options.replies:
@@ -129,7 +129,7 @@ class Audit:
         return written, published
 
     def read_journal(self, written):
-        read = day_files.parse_journal(self.options.journal, written)
+        read = day_files.require_journal(self.options.journal, written)
         is_of_day = self.inputs[0]["role"] == "day"
         if is_of_day and journal.journal_text(read).encode() != written:
             self.odd.append(Fault("the journal of the day isn't in its written form, but has the same commands", "encoding"))
@@ -143,7 +143,7 @@ class Audit:
         self.wrong += wrong
         if wrong:
             return
-        self.right.append(f"as the rules say: {text.counted(len(reasons), 'reply', 'replies')}{sent.refused(reasons)}")
+        self.right.append(f"as the rules say: {text.counted(len(reasons), 'reply', 'replies')}{sent.refused_words(reasons)}")
 
     def check_results(self, closed, reasons, published):
         self.checked.append("results")
@@ -153,7 +153,7 @@ class Audit:
             self.wrong.append(Fault("no command closes the book, so it has no results", "journal"))
             return
         problem = selection.Problem(closed)
-        said, wrong = check.differences(problem, data)
+        said, wrong = check.results_and_differences(problem, data)
         self.wrong += wrong
         self.checked += ["sums"] if said is not None else []
         self.day.update(day_figures(problem, said))
@@ -166,7 +166,7 @@ class Audit:
             self.right.append(right_line(problem, said, reasons) + others)
             self.right.append(sums.payments_line(problem, sums.sums(problem, said)))
             if self.options.sent is not None:
-                self.right += own_lines(data, self.options.participant)
+                self.right += lines_of_participant(data, self.options.participant)
 
     def look_for_better(self, problem, said):
         """Looks for a better selection than the one of right results, and says how."""
@@ -196,7 +196,7 @@ class Audit:
         published = sent.published_of(read, reasons, options.participant)
         has_none = bool(published) and all(who != options.participant for who, _ in closed.rows)
         try:
-            own = sent.read_sent(self.read_input("sent", options.sent), options.participant, read.periods, has_none)
+            own = sent.parse_sent(self.read_input("sent", options.sent), options.participant, read.periods, has_none)
         except sent.BadSentText as fault:
             raise command.Stop(f"{command.shown(options.sent)} isn't what {options.participant} sent: {fault}") from None
         self.notes = [f"{command.shown(options.sent)}: {note}" for note in own.notes]
@@ -227,7 +227,7 @@ class Audit:
         if salts.day != head.day:
             raise command.Stop(f"{command.shown(options.salts)} has the salts of {salts.day}, and the head is of {head.day}")
         read_receipts = functools.partial(self.read_input, "receipts")
-        found = under_head.read_and_judge_folder(options.receipts, key, read_receipts) if options.receipts is not None else []
+        found = under_head.read_findings_of_folder(options.receipts, key, read_receipts) if options.receipts is not None else []
         signed = under_head.UnderHead(key, head, salts, read, reasons, found)
         signed.odd += odd
         return signed
@@ -285,7 +285,7 @@ class Audit:
 
 def reply_faults(periods, reasons, data):
     """The lines of a replies text that differ from the book's replies."""
-    (wanted, _), (found, more) = (results.lines_looked_at(part) for part in (book.replies_of(periods, reasons).encode(), data))
+    (wanted, _), (found, more) = (results.lines_and_fault(part) for part in (book.replies_of(periods, reasons).encode(), data))
     numbers = [[line.split(b",")[0] for line in part] for part in (wanted, found)]
     wrong, last = more if data else [Fault("the replies are empty", "form")], 0
     for at, place in matched_places(*numbers):
@@ -310,7 +310,7 @@ def day_figures(problem, said):
     return made
 
 
-def own_lines(data, who):
+def lines_of_participant(data, who):
     """The lines of the results about a participant's orders."""
     for number, line in enumerate(data.decode(errors="replace").splitlines(), 1):
         kind, *fields = line.split(",")
@@ -329,5 +329,5 @@ def right_line(problem, said, reasons):
     hourly = text.counted(len(problem.rows) - len(problem.blocks), "hourly order")
     return (
         f"as the rules say: {problem.periods} periods, {hourly}, {len(said.accepted)} of"
-        f" {text.counted(len(problem.blocks), 'block')} accepted, welfare {problem.euros(said.welfare)} EUR{sent.refused(reasons)}"
+        f" {text.counted(len(problem.blocks), 'block')} accepted, welfare {problem.euros(said.welfare)} EUR{sent.refused_words(reasons)}"
     )

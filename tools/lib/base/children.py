@@ -4,10 +4,10 @@ its children end, and for Python each ends with 0."""
 import signal
 
 
-def heed():
+def heed_children():
     """From now on this process sees how its children end."""
     signal.signal(signal.SIGCHLD, signal.SIG_DFL)
 
 
-def are_heeded():
+def are_children_heeded():
     return signal.getsignal(signal.SIGCHLD) != signal.SIG_IGN

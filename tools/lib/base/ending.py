@@ -55,7 +55,7 @@ def is_lack_of_files(fault):
     return any(words in str(fault).lower() for words in NO_FILES)
 
 
-def words(fault):
+def failure_words(fault):
     """The message about a failure."""
     if is_lack_of_memory(fault):
         return "out of memory"
@@ -65,7 +65,7 @@ def words(fault):
     return f"a defect of this tool, please report it: {type(fault).__name__}: {first} (DAM_DEBUG=1 shows where)"
 
 
-def interruption_status(fault):
+def status_and_message_of_interrupt(fault):
     """The status with which Ctrl-C or a signal ends a tool, and the message."""
     if isinstance(fault, Ended):
         return OF_SIGNALS + fault.number, f"ended by {signal.Signals(fault.number).name}"
@@ -77,9 +77,9 @@ def exit_by_failure(tool, fault):
     status, said = of_failures[0], None
     try:
         if isinstance(fault, KeyboardInterrupt):
-            status, said = interruption_status(fault)
+            status, said = status_and_message_of_interrupt(fault)
         else:
-            said = words(fault)
+            said = failure_words(fault)
             if os.environ.get("DAM_DEBUG") == "1":
                 sys.__excepthook__(type(fault), fault, fault.__traceback__)
         os.write(2, f"{place.command_name(tool)}: {said}\n".encode(errors="backslashreplace"))
@@ -96,20 +96,20 @@ def exit_now(status, said):
         os._exit(status)
 
 
-def watch(tool):
+def guard_tool(tool):
     """Guards a tool, for which the packages of the system are found. An old Python ends it at once."""
     if sys.version_info < (3, 10):
         os.write(2, f"{tool}: it needs Python 3.10 or newer\n".encode())
         sys.exit(FAILED)
-    guard(tool)
-    need_stack(tool)
+    exit_by_exceptions(tool)
+    exit_without_stack(tool)
     if sys.flags.no_site:  # the packages of the system, which may run code of their own, are left until now
         import site
 
         site.main()
 
 
-def need_stack(tool):
+def exit_without_stack(tool):
     """Ends the tool at once if its stack, and so that of each thread, may be too small."""
     most, _ = resource.getrlimit(resource.RLIMIT_STACK)
     if 0 <= most < LEAST_STACK:
@@ -117,7 +117,7 @@ def need_stack(tool):
         os._exit(FAILED)
 
 
-def guard(tool, failed=FAILED):
+def exit_by_exceptions(tool, failed=FAILED):
     """From now on any exception that nothing handles ends the tool in this way, with the status `failed`, and Ctrl-C at once, and the tool is
     apart from the working folder."""
     watched[:], of_failures[:] = [tool], [failed]

@@ -11,31 +11,31 @@ from .rules import VERSION
 VERDICTS = RIGHT, WRONG, ENCODING, UNREAD, UNDECIDED, FAILED = "right", "wrong", "encoding", "unread", "undecided", "failed"
 
 
-def unread(verdict, status, message, files=()):
+def unread_record(verdict, status, message, files=()):
     """The record of a day of which nothing is known. Of its files, each with its role, none was read."""
     inputs = [{"role": role, "file": file, "bytes": None, "sha256": None} for role, file in files]
     said = {"verdict": verdict, "status": status, "message": message, "version": VERSION, "seconds": 0.0, "inputs": inputs}
     return {**said, "checked": [], "day": None, "search": None, "notes": [], "faults": []}
 
 
-def counts(records):
+def verdict_counts(records):
     """How many days there are of each verdict."""
     return {kind: sum(made["verdict"] == kind for made in records) for kind in VERDICTS}
 
 
-def of_days(status, records=(), message=None):
+def record_of_days(status, records=(), message=None):
     """The record of many days."""
-    return {"status": status, "message": message, "version": VERSION, "counts": counts(records), "days": list(records)}
+    return {"status": status, "message": message, "version": VERSION, "counts": verdict_counts(records), "days": list(records)}
 
 
 def undecided_record(words, status, message):
     """The record that a command line asks for, if there is no verdict."""
     if any(word.partition("=")[0] == "--days" for word in words):
-        return of_days(status, message=message)
-    return unread(FAILED, status, message)
+        return record_of_days(status, message=message)
+    return unread_record(FAILED, status, message)
 
 
-def print_last(status, message):
+def print_record_of_failure(status, message):
     """Prints the record of an audit that fails, unless it has printed one or was interrupted."""
     if ending.watched != ["audit"]:
         return
@@ -44,4 +44,4 @@ def print_last(status, message):
         os.write(1, f"{json.dumps(undecided_record(words, status, message), indent=1)}\n".encode())
 
 
-ending.last_duties.append(print_last)
+ending.last_duties.append(print_record_of_failure)

@@ -24,7 +24,7 @@ def prepare_write(path, data, cleanups):
     """The call that puts a file in its place. Unless it's to be written in place, it's written before, next to that, and `cleanups` removes it
     if it isn't put."""
     target = link_target(str(Path(path)))
-    old = stat_of(target) if target is not None else None
+    old = stat_or_none(target) if target is not None else None
     # `Path` leaves out a slash or dot at the end, which only a folder has
     if os.path.basename(path) in ("", ".") or old is not None and stat.S_ISDIR(old.st_mode):
         raise IsADirectoryError(errno.EISDIR, os.strerror(errno.EISDIR))
@@ -36,13 +36,13 @@ def prepare_write(path, data, cleanups):
     try:
         rename = prepare_replacement(target, old, data, cleanups)
     except OSError as fault:
-        return or_in_place(in_place, old, fault)
+        return write_in_place_or_raise(in_place, old, fault)
 
     def put():
         try:
             rename()
         except OSError as fault:
-            or_in_place(in_place, old, fault)()
+            write_in_place_or_raise(in_place, old, fault)()
 
     return put
 
@@ -51,8 +51,8 @@ def prepare_new(path, data, cleanups):
     """The call that puts a new file in its place, and ends with FileExistsError if there is one by then, or a link. The file is written
     before, next to its place; `cleanups` removes it if it isn't put."""
     path = str(Path(path))
-    made = beside(path)
-    create(made, data, cleanups)
+    made = path_beside(path)
+    create_file(made, data, cleanups)
 
     def put():
         try:
@@ -61,7 +61,7 @@ def prepare_new(path, data, cleanups):
             raise
         except OSError:  # a file system without links
             create_whole(path, data)
-        remove(made)
+        remove_file(made)
 
     return put
 
@@ -69,11 +69,11 @@ def prepare_new(path, data, cleanups):
 def create_whole(path, data):
     """Writes a file that isn't there yet, and removes it if it can't be written."""
     with contextlib.ExitStack() as undo:
-        create(path, data, undo)
+        create_file(path, data, undo)
         undo.pop_all()
 
 
-def or_in_place(in_place, old, fault):
+def write_in_place_or_raise(in_place, old, fault):
     """The call that writes over an old file, if it is the one that can't be replaced."""
     if old is None or fault.errno not in FIXED:
         raise fault
@@ -108,7 +108,7 @@ def link_target(path):
     return path
 
 
-def stat_of(path):
+def stat_or_none(path):
     try:
         return os.stat(path)
     except FileNotFoundError:
@@ -117,20 +117,20 @@ def stat_of(path):
 
 def prepare_replacement(target, old, data, cleanups):
     """Writes a new file next to the target. The call that gives it the target's name; `cleanups` removes it if that isn't called."""
-    made = beside(target)
-    create(made, data, cleanups, None if old is None else functools.partial(copy_rights, target=target, old=old))
+    made = path_beside(target)
+    create_file(made, data, cleanups, None if old is None else functools.partial(copy_rights, target=target, old=old))
     return functools.partial(os.rename, made, target)
 
 
-def beside(path):
+def path_beside(path):
     """A name for a file in the same folder."""
     return os.path.join(os.path.dirname(path), f".dam-{secrets.token_hex(8)}")
 
 
-def create(path, data, cleanups, prepared=None):
+def create_file(path, data, cleanups, prepared=None):
     """Writes a file that isn't there yet, and that `cleanups` removes. Before, a call may give it rights, by its number."""
     number = os.open(path, os.O_WRONLY | os.O_CREAT | os.O_EXCL | os.O_CLOEXEC, 0o666)
-    cleanups.callback(remove, path)
+    cleanups.callback(remove_file, path)
     with open(number, "wb") as file:
         if prepared:
             prepared(number)
@@ -139,7 +139,7 @@ def create(path, data, cleanups, prepared=None):
         os.fsync(number)
 
 
-def remove(path):
+def remove_file(path):
     with contextlib.suppress(OSError):
         os.unlink(path)
 

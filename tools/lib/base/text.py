@@ -32,14 +32,14 @@ def placed_records(text, comma=b","):
     quote isn't closed goes to the end of the text; the text after a closing quote belongs to the field. Of a long line with far too many
     fields, separated by commas, only the first ones are read."""
     begin, taken = 0, []
-    for fields in csv.reader(note_lengths(csv_lines(text), taken), delimiter=comma.decode()):
+    for fields in csv.reader(noting_lengths(csv_lines(text), taken), delimiter=comma.decode()):
         if fields:
             yield begin, [field.replace(NO_NUL, "\0").encode("latin-1") for field in fields]
         begin += sum(taken)
         taken.clear()
 
 
-def note_lengths(texts, taken):
+def noting_lengths(texts, taken):
     """The texts, of which the length is noted as soon as one is taken. A long one that begins a record is cut."""
     for text in texts:
         is_first = not taken

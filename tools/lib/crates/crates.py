@@ -39,7 +39,7 @@ def all_below(crates, name):
     return found
 
 
-def link_or_copy(source, target):
+def make_link_or_copy(source, target):
     """Makes a hard link, or a copy if the file system has none. For the files of a built library, which no one changes in place."""
     try:
         os.link(source, target)

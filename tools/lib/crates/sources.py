@@ -40,28 +40,28 @@ def source_files_of(name):
     return [f"{at}/{it}" for folder in folders for at, _, names in os.walk(folder) for it in names]
 
 
-def file_sum(path):
+def read_file_sum(path):
     """Returns the SHA-256 of a file."""
     with open(path, "rb") as file:
         return hashlib.sha256(file.read()).hexdigest()
 
 
-def sum_of_files(folder, files, *words):
+def read_sum_of_files(folder, files, *words):
     """Returns the SHA-256 of some words and of files with their names."""
-    rows = [f"{file_sum(path)}  {os.path.relpath(path, folder)}" for path in sorted(files)]
+    rows = [f"{read_file_sum(path)}  {os.path.relpath(path, folder)}" for path in sorted(files)]
     return hashlib.sha256("\n".join([*words, *rows]).encode("utf-8", "surrogateescape")).hexdigest()
 
 
-def source_sums(crate):
+def read_source_sums(crate):
     """Returns the sum of the sources of a crate, and of each crate below it."""
     below = crates.read_crates(TOP)
     # a repository without threads has no file HANDLES
-    handles = file_sum(f"{TOP}/HANDLES") if os.path.exists(f"{TOP}/HANDLES") else ""
+    handles = read_file_sum(f"{TOP}/HANDLES") if os.path.exists(f"{TOP}/HANDLES") else ""
     found = {}
     for name in sorted({crate, *crates.all_below(below, crate)}):
-        found[name] = sum_of_files(f"{TOP}/crates/{name}", source_files_of(name), handles, *below[name])
+        found[name] = read_sum_of_files(f"{TOP}/crates/{name}", source_files_of(name), handles, *below[name])
     if crate == LIBRARY:
-        found["library"] = sum_of_files(f"{TOP}/library", [f"{TOP}/library/{it}" for it in IN_C])
+        found["library"] = read_sum_of_files(f"{TOP}/library", [f"{TOP}/library/{it}" for it in IN_C])
     return found
 
 
@@ -87,13 +87,13 @@ def record_path(path):
 def write_record(crate, before, *paths):
     """Records that files were built of a crate, if its sources are still those whose sums were taken before. Otherwise it removes what
     was recorded of these files."""
-    is_same = source_sums(crate) == before
+    is_same = read_source_sums(crate) == before
     for path in paths:
         if not is_same:
             if os.path.exists(record_path(path)):
                 os.remove(record_path(path))
             continue
-        told = {"sha256": file_sum(path), "kit": run_for_kit(), "sources": before}
+        told = {"sha256": read_file_sum(path), "kit": run_for_kit(), "sources": before}
         if crate == LIBRARY:
             told["compiler"] = run_for_first_line([*os.environ.get("CC", "cc").split(), "--version"])
         with open(record_path(path), "w", encoding="utf-8") as file:
@@ -112,7 +112,7 @@ def read_record(path):
     return told if isinstance(told, dict) and {"sha256", "kit", "sources"} <= told.keys() else None
 
 
-def build_fault(path, crate):
+def read_build_fault(path, crate):
     """Returns why a file was not built of the present sources, or None if it is."""
     name = os.path.relpath(path, TOP)
     if not os.path.isfile(path):
@@ -120,18 +120,18 @@ def build_fault(path, crate):
     told = read_record(path)
     if not told:
         return f"{name} has no record of the sources that it was built of"
-    if told["sha256"] != file_sum(path):
+    if told["sha256"] != read_file_sum(path):
         return f"{name} is not the file that was built: another one took its place"
-    present = source_sums(crate)
+    present = read_source_sums(crate)
     others = sorted(it for it in {*present, *told["sources"]} if present.get(it) != told["sources"].get(it))
     return f"{name} was built of other sources: {', '.join(others)} changed since" if others else None
 
 
-def print_build_fault(path, crate):
+def print_build_fault_or_date(path, crate):
     """Prints why a file was not built of the present sources, and returns 1. Otherwise gives the file the date before they were read, so
     that it is newer than its sources, and returns 0."""
     began = time.time_ns()
-    found = build_fault(path, crate)
+    found = read_build_fault(path, crate)
     if found:
         print(found)
         return 1
@@ -145,11 +145,11 @@ def print_build_fault(path, crate):
 
 def main(words):
     if len(words) == 1:
-        print(json.dumps(source_sums(words[0])))
+        print(json.dumps(read_source_sums(words[0])))
         return 0
     crate, before, *paths = words
     if before == "--fault":
-        return print_build_fault(paths[0], crate)
+        return print_build_fault_or_date(paths[0], crate)
     with open(before, encoding="utf-8") as file:
         return 0 if write_record(crate, json.load(file), *paths) else 1
 

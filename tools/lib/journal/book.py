@@ -138,7 +138,7 @@ TESTS = {
 }
 
 
-def run(journal):
+def run_commands(journal):
     """The book after the commands of a journal, and the reason for each refusal (None if the command was done)."""
     book = Book(journal.periods)
     return book, [book.apply(command) for command in journal.commands]
@@ -146,7 +146,7 @@ def run(journal):
 
 def replies_text(journal):
     """The printed text of a run: the day, and the reply to each command."""
-    return replies_of(journal.periods, run(journal)[1])
+    return replies_of(journal.periods, run_commands(journal)[1])
 
 
 def replies_of(periods, reasons):

@@ -20,7 +20,7 @@ USED = {
 DECIMAL = re.compile(r"([+-]?)([0-9]{1,9})(?:[.,]([0-9]{1,6}))?")
 
 
-def read_word(words):
+def word_parser(words):
     allowed = f"{', '.join(words[:-1])} or {words[-1]}"
 
     def read(found):
@@ -33,7 +33,7 @@ def read_word(words):
     return read
 
 
-def read_day(found):
+def parse_day(found):
     days = [str(periods) for periods in rules.DAYS]
     if found in days:
         return int(found), None
@@ -41,7 +41,7 @@ def read_day(found):
     return None, allowed
 
 
-def read_name(allowed, reader):
+def name_parser(allowed, reader):
     def read(found):
         if found.isascii() and reader(found.encode()) is not None:
             return found, None
@@ -53,18 +53,18 @@ def read_name(allowed, reader):
     return read
 
 
-read_participant = read_name(f"1 to {rules.LONGEST_PARTICIPANT} capitals A to Z", text.parse_participant)
-read_order = read_name(text.A_NAME, text.name)
+read_participant = name_parser(f"1 to {rules.LONGEST_PARTICIPANT} capitals A to Z", text.parse_participant)
+read_order = name_parser(text.A_NAME, text.name)
 
 
-def read_price(found):
+def parse_price(found):
     if found.isascii() and text.parse_price(found.encode()) is not None:
         return int(found), None
     allowed = f"it should be whole cents per MWh from {rules.LOWEST_PRICE} to {rules.HIGHEST_PRICE}"
-    return suggested(found, allowed, 100, "EUR/MWh", rules.LOWEST_PRICE, rules.HIGHEST_PRICE)
+    return suggested_number(found, allowed, 100, "EUR/MWh", rules.LOWEST_PRICE, rules.HIGHEST_PRICE)
 
 
-def suggested(found, allowed, factor, unit, least, greatest):
+def suggested_number(found, allowed, factor, unit, least, greatest):
     """The number that is meant by one that breaks its rule, if that is plain."""
     digits = DECIMAL.fullmatch(found.strip())
     if not digits:
@@ -79,7 +79,7 @@ def suggested(found, allowed, factor, unit, least, greatest):
     return int(value), f"{allowed}: write {int(value)}{shown}"
 
 
-def read_pair(pair):
+def parse_pair(pair):
     """A period and a volume of a text `period:volume`, and its fault."""
     number, colon, volume = (part.strip() for part in pair.partition(":"))
     if not colon:
@@ -92,11 +92,11 @@ def read_pair(pair):
         pair_now = int(number), int(volume)
         return pair_now, None if pair == f"{number}:{volume}" else f"{text.quoted(pair)} has a space: write {number}:{volume}"
     allowed = f"{text.quoted(volume)} in {text.quoted(pair)} should be whole tenths of a MW from 1 to {rules.GREATEST_VOLUME}"
-    value, wrong = suggested(volume, allowed, 10, "MW", 1, rules.GREATEST_VOLUME)
+    value, wrong = suggested_number(volume, allowed, 10, "MW", 1, rules.GREATEST_VOLUME)
     return (None if value is None else (int(number), value)), wrong
 
 
-def read_volumes(found):
+def parse_volumes(found):
     """Pairs by increasing period: all that is wrong with them."""
     if found.isascii() and text.parse_volumes(found.encode()) is not None:
         return text.parse_volumes(found.encode()), None
@@ -106,7 +106,7 @@ def read_volumes(found):
         return None, f"it has {count:,} pairs, and a day has at most {rules.GREATEST_PERIOD} periods"
     pairs, wrong = [], []
     for part in found.split(";"):
-        pair, fault = read_pair(part) if part.strip() else (None, "a pair between `;` is missing, or there is one `;` too many")
+        pair, fault = parse_pair(part) if part.strip() else (None, "a pair between `;` is missing, or there is one `;` too many")
         pairs.append(pair)
         wrong += [fault] if fault else []
     numbers = [pair[0] for pair in pairs if pair]
@@ -122,16 +122,16 @@ def read_volumes(found):
 READERS = {
     "participant": read_participant,
     "order": read_order,
-    "kind": read_word(["hour", "block"]),
-    "side": read_word(["buy", "sell"]),
-    "price": read_price,
-    "volumes": read_volumes,
+    "kind": word_parser(["hour", "block"]),
+    "side": word_parser(["buy", "sell"]),
+    "price": parse_price,
+    "volumes": parse_volumes,
     "parent": read_order,
     "group": read_order,
 }
 
 
-def read(name, found):
+def parse_field(name, found):
     """A field without the spaces around it: its value, and its fault."""
     bare = found.strip(" \t\u00a0")
     value, wrong = READERS[name](bare)

@@ -52,7 +52,7 @@ class BadField(Exception):
     """The number of the least field of a record that breaks its rule."""
 
 
-def read_journal(data):
+def parse_journal(data):
     """The journal that the bytes are, or its first fault."""
     if len(data) > rules.MOST_BYTES:
         raise Fault("input: TooLong")
@@ -68,9 +68,9 @@ def read_journal(data):
             raise Fault(f"input: FieldCount in record {number}")
         try:
             if number == 1:
-                periods = read_day(fields)
+                periods = parse_day(fields)
             else:
-                commands.append(read_command(fields))
+                commands.append(parse_command(fields))
         except BadField as bad:
             raise Fault(f"input: BadField in record {number} field {bad}") from None
     if periods is None:
@@ -78,30 +78,30 @@ def read_journal(data):
     return Journal(periods, commands)
 
 
-def empty(field):
+def parse_empty(field):
     return "" if field == b"" else None
 
 
-def optional_name(field):
+def parse_optional_name(field):
     return "" if field == b"" else text.name(field)
 
 
-def word_reader(*words):
+def word_parser(*words):
     """The reader of one of these words."""
     return lambda field: field.decode() if field.decode() in words else None
 
 
-def one_volume(field):
+def parse_one_volume(field):
     pairs = text.parse_volumes(field)
     return pairs if pairs and len(pairs) == 1 else None
 
 
-def read_fields(fields, *readers):
+def parse_fields(fields, *readers):
     """The values that the readers make of the fields after the first, one each; an empty field after the last reader's. The first
     that breaks its rule is the record's fault."""
     values = []
     for at in range(1, 9):
-        reader = readers[at - 1] if at <= len(readers) else empty
+        reader = readers[at - 1] if at <= len(readers) else parse_empty
         value = reader(fields[at])
         if value is None:
             raise BadField(at + 1)
@@ -109,29 +109,29 @@ def read_fields(fields, *readers):
     return values[: len(readers)]
 
 
-def read_day(fields):
-    (periods,) = read_fields(fields, word_reader(*map(str, rules.DAYS)))
+def parse_day(fields):
+    (periods,) = parse_fields(fields, word_parser(*map(str, rules.DAYS)))
     return int(periods)
 
 
-def read_command(fields):
+def parse_command(fields):
     kind = fields[0]
     if kind == b"submit":
         # The fields up to the fourth say how the ones after it are read.
         hourly = fields[3] == b"hour"
-        behind = (one_volume, empty, empty) if hourly else (text.parse_volumes, optional_name, optional_name)
-        who, name, *order = read_fields(
-            fields, text.parse_participant, text.name, word_reader("hour", "block"), word_reader("buy", "sell"), text.parse_price, *behind
+        behind = (parse_one_volume, parse_empty, parse_empty) if hourly else (text.parse_volumes, parse_optional_name, parse_optional_name)
+        who, name, *order = parse_fields(
+            fields, text.parse_participant, text.name, word_parser("hour", "block"), word_parser("buy", "sell"), text.parse_price, *behind
         )
         return Submit(who, name, Order(*order))
     if kind == b"amend":
-        readers = text.parse_participant, text.name, empty, empty, text.parse_price, text.parse_volumes
-        who, name, _, _, price, volumes = read_fields(fields, *readers)
+        readers = text.parse_participant, text.name, parse_empty, parse_empty, text.parse_price, text.parse_volumes
+        who, name, _, _, price, volumes = parse_fields(fields, *readers)
         return Amend(who, name, price, volumes)
     if kind == b"cancel":
-        return Cancel(*read_fields(fields, text.parse_participant, text.name))
+        return Cancel(*parse_fields(fields, text.parse_participant, text.name))
     if kind == b"close":
-        read_fields(fields)
+        parse_fields(fields)
         return Close()
     raise BadField(1)
 

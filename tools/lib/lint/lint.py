@@ -33,7 +33,7 @@ BYTE_ORDER_MARKS = {b"\xef\xbb\xbf": "utf-8-sig", b"\xff\xfe": "utf-16", b"\xfe\
 def is_journal(data):
     """Whether the program takes a text."""
     try:
-        journal.read_journal(data)
+        journal.parse_journal(data)
     except journal.Fault:
         return False
     return True
@@ -220,7 +220,7 @@ class Lint:
                 self.check_record(line, record)
             return
         found = record[1].strip() if len(record) > 1 else ""
-        periods, wrong = fields.read_day(found)
+        periods, wrong = fields.parse_day(found)
         whole = journal.day_line(periods or 24)
         record = self.padded(line, record, whole)
         if record[0] != "day":
@@ -234,7 +234,7 @@ class Lint:
         self.held = book.Book(periods or rules.GREATEST_PERIOD)
 
     def check_entry(self, line, record):
-        kind, wrong = fields.read_word(["submit", "amend", "cancel", "close"])(record[0].strip(" \t\u00a0"))
+        kind, wrong = fields.word_parser(["submit", "amend", "cancel", "close"])(record[0].strip(" \t\u00a0"))
         if wrong or kind != record[0]:
             self.add_finding(line, f"{text.quoted(record[0])}: {wrong or f'there is a space around it: write {kind}'}", "command")
         if kind is None:
@@ -251,7 +251,7 @@ class Lint:
             elif not found and name in ("parent", "group"):
                 values[name] = ""
             else:
-                values[name], wrong = fields.read(name, found)
+                values[name], wrong = fields.parse_field(name, found)
                 if name == "volumes" and hourly and values[name] and len(values[name]) != 1:
                     wrong = f"an hourly order has one pair, such as 8:450, not {len(values[name])}" + (f"; {wrong}" if wrong else "")
                 if wrong:
@@ -344,20 +344,20 @@ def first_word(data, comma=b","):
     return next(text.placed_records(data, comma), (0, [b""]))[1][0].strip().lower().decode(errors="replace")
 
 
-def faults(data, command="clear", bar=None):
+def find_faults(data, command="clear", bar=None):
     """The faults of a text as a journal for `dam clear`, `dam replay` or `dam day`, by line, and then the commands that the book would
     refuse. A bar shows how far it is read."""
     return Lint(data, command, bar=bar).run()
 
 
-def summary(found):
+def summary_line(found):
     """How many faults there are, and how many commands the book would refuse."""
     refused = sum(1 for one in found if one.refusal)
     counts = [(len(found) - refused, "fault"), (refused, "refused command")]
     return ", ".join(f"{count} {name}{'s' * (count > 1)}" for count, name in counts if count) or "nothing is wrong"
 
 
-def in_few_words(data, periods=None):
+def first_fault_words(data, periods=None):
     """The first faults of a text that can't be read as a journal, each on a line of its own; or as the commands of a day of as many
     periods, with the day or without it."""
     lines = [str(fault) for fault in Lint(data, "replay", periods).run() if not fault.refusal]

@@ -65,15 +65,15 @@ class Own(NamedTuple):
     notes: list  # on the table: what was read of it, and what wasn't
 
 
-def read_sent(data, who, periods, has_none):
+def parse_sent(data, who, periods, has_none):
     """The commands of a participant in a list: records as in a journal, with the records `day` and `close` or without them, or a table
     of orders. Those of others are left out. A list with those of others alone is wrong, except a table if the participant `has_none` in the
     book at the end, having cancelled them."""
     is_table = not WORDS.match(data.removeprefix(text.MARK).lstrip(SPACES))
     if is_table:
-        own, notes, others = read_table(data, periods, who)
+        own, notes, others = parse_table(data, periods, who)
     else:
-        every = list(read_records(data, periods))
+        every = list(parse_records(data, periods))
         own, notes = [sent for sent in every if sent.command.who == who], []
         others = len(every) - len(own)
     if others and not own and not (is_table and has_none):
@@ -81,25 +81,25 @@ def read_sent(data, who, periods, has_none):
     return Own(own, others, is_table, notes)
 
 
-def read_records(data, periods):
+def parse_records(data, periods):
     own = data if lint.first_word(data) == "day" else f"{journal.day_line(periods)}\n".encode() + data
     try:
-        read = journal.read_journal(own)
+        read = journal.parse_journal(own)
     except journal.Fault:
-        raise BadSentText(lint.in_few_words(data, periods).lstrip()) from None
+        raise BadSentText(lint.first_fault_words(data, periods).lstrip()) from None
     if read.periods != periods:
         raise BadSentText(f"it is for a day of {read.periods} periods, but the journal is for one of {periods}")
     first = 2 if own is data else 1
     return [Sent(at, command) for at, command in enumerate(read.commands, first) if not isinstance(command, journal.Close)]
 
 
-def read_table(data, periods, who):
+def parse_table(data, periods, who):
     """The orders of a participant in a table, as the sent commands; notes on the table; and how many others it has."""
     try:
-        table = order_table.read_cells(data)
+        table = order_table.parse_cells(data)
         if command_table.is_command_table(table):
             raise BadSentText(f"it is a table of commands, with the column {command_table.WHAT}: give records of a journal, or a table of orders")
-        orders = order_table.read_tables([("", table)], periods, who)
+        orders = order_table.parse_tables([("", table)], periods, who)
     except order_table.BadOrders as fault:
         is_table = kinds.kind_of(data) == kinds.ORDERS
         where = "its table has rows that aren't orders" if is_table else "it has no journal records and isn't a table of orders"
@@ -131,30 +131,30 @@ def paired(sent, published, key):
     return pairs, left, [entry for entries in waiting.values() for entry in entries]
 
 
-def no_proof(_):
+def no_proof_words(_):
     return ""
 
 
-def compare_sent(own, published, closed, who, look, proof=no_proof):
+def compare_sent(own, published, closed, who, look, proof=no_proof_words):
     """The faults of a participant's commands in a journal, and lines about the right ones. A table of orders may have the commands, or
     the orders at the end: of both, the one with fewer differences is meant. `look` is called now and then, and may end the comparison. Of a
     command that isn't in the journal as it was sent, `proof` says whether the operator had it."""
     commands, reasons = own.commands, [entry.reason for entry in published]
-    wrong = differences(commands, published, look=look, proof=proof)
+    wrong = difference_lines(commands, published, look=look, proof=proof)
     others = f" ({own.others} of others left out)" if own.others else ""
     if wrong and own.is_table:
-        at_the_end = differences(commands, held_of(closed, who), BOOK, look)
+        at_the_end = difference_lines(commands, held_of(closed, who), BOOK, look)
         if not at_the_end:
             count = f"{text.counted(len(commands), 'order')} of {who}"
-            by = f"{text.counted(len(published), 'command')} of {who}{refused(reasons)}"
+            by = f"{text.counted(len(published), 'command')} of {who}{refused_words(reasons)}"
             return [], [f"as in the table: {count} in {BOOK}, and no others, after {by}{others}"]
         wrong = min(wrong, at_the_end, key=len)
     count = f"{text.counted(len(commands), 'command')} of {who}"
-    line = f"as sent: {count}, each once, in their order, and no others{refused(reasons)}{others}"
+    line = f"as sent: {count}, each once, in their order, and no others{refused_words(reasons)}{others}"
     return wrong, [line, *replies(commands, published)]
 
 
-def refused(reasons):
+def refused_words(reasons):
     """How many of some commands the book refused, in words; nothing if it refused none."""
     count = sum(reason is not None for reason in reasons)
     return f", {count} of {len(reasons)} commands refused" if count else ""
@@ -166,7 +166,7 @@ def held_of(closed, who):
     return [Held(number, submit) for number, submit in enumerate(own, 1)]
 
 
-def differences(sent, published, where=JOURNAL, look=lambda: None, proof=no_proof):
+def difference_lines(sent, published, where=JOURNAL, look=lambda: None, proof=no_proof_words):
     """The faults of the published commands, or of the book's, a line each, by their records."""
     pairs = subsequence.longest_pairs(*([entry.command for entry in entries] for entries in (sent, published)), look)
     there, here = ({place[side] for place in pairs} for side in (0, 1))

@@ -48,7 +48,7 @@ class Ledger:
             raise Contradiction(f"the desk's journal doesn't begin with the {len(held)} entries that it has answered")
         text = "".join(f"{record}\n" for record in [journal.day_line(self.seal.periods), *records])
         try:
-            commands = journal.read_journal(text.encode("ascii")).commands
+            commands = journal.parse_journal(text.encode("ascii")).commands
         except (journal.Fault, UnicodeEncodeError) as fault:
             raise Contradiction(f"the desk shows no journal: {fault}") from None
         if list(map(journal.command_line, commands)) != records:

@@ -62,7 +62,7 @@ def require_clearing(path):
     try:
         with subprocess.Popen([path, "clear"], stdin=subprocess.PIPE, stdout=subprocess.PIPE) as process:
             try:
-                out, _ = by_program.exchange(process, EMPTY_DAY, TRIAL_SECONDS, "it")
+                out, _ = by_program.exchange_pipes(process, EMPTY_DAY, TRIAL_SECONDS, "it")
             except BaseException:
                 process.kill()
                 raise

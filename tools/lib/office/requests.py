@@ -33,7 +33,7 @@ def parse_commands(body, kind, who, first=1):
     elif kind != RECORDS:
         raise BadRequest(f"the type of the content should be {RECORDS} or {JSON}")
     try:
-        commands = journal.read_journal(DAY + body).commands
+        commands = journal.parse_journal(DAY + body).commands
     except journal.Fault as fault:
         raise BadRequest(f"no records of a journal:{fault_words(body, fault)}") from None
     if not commands:
@@ -56,7 +56,7 @@ def fault_words(body, fault):
     if WITH_DAY.match(body):
         return " its first record is a day, which the office adds: send the commands alone"
     if len(body) <= MOST_LINTED and len(body.splitlines()) <= MOST_LINES:
-        return lint.in_few_words(body, rules.GREATEST_PERIOD)
+        return lint.first_fault_words(body, rules.GREATEST_PERIOD)
     return " " + RECORD.sub(lambda found: f"record {int(found[1]) - 1}", str(fault).removeprefix("input: "))
 
 
@@ -126,11 +126,11 @@ def parse_table_records(data, who, periods, orders=()):
     if kind in kinds.FILES - {kinds.EXCEL, kinds.LOCKED}:  # a participant may have no tool that converts it
         raise BadRequest(f"this is {kind}: save the table as .xlsx or as CSV")
     try:
-        cells = order_table.read_cells(data)
+        cells = order_table.parse_cells(data)
         if command_table.is_command_table(cells):
-            placed, notes = command_table.read_commands(cells, periods)
+            placed, notes = command_table.parse_commands(cells, periods)
         else:
-            orders = order_table.read_tables([("", cells)], periods, held=(who, orders))
+            orders = order_table.parse_tables([("", cells)], periods, held=(who, orders))
             placed, notes = orders.submits, orders.notes
             if not placed:
                 raise BadRequest("the table has no order below its first line")

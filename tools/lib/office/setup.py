@@ -22,7 +22,7 @@ WHO, SHARE = "participant", "commands"  # the columns of a table of participants
 def require_date(words):
     """The date of a word of the command line."""
     try:
-        return shapes.date_of(words)
+        return shapes.parse_date(words)
     except shapes.BadDate as fault:
         raise command.Stop(f"--day {fault}", command.COMMAND_LINE) from None
 
@@ -93,7 +93,7 @@ def read_participants(path):
 
 def parse_participants(data, notes):
     """The same of a table's bytes. A cell that would be lost is a fault. Notes say how the table was read."""
-    (line, header), *rows = list(sheets.read_rows(data, [WHO], notes, folder.MOST_COMMANDS)[0]) or [(1, [])]
+    (line, header), *rows = list(sheets.parse_rows(data, [WHO], notes, folder.MOST_COMMANDS)[0]) or [(1, [])]
     table = order_table.Table("", rows, find_columns(line, header), len(header), False, [], notes)
     order_table.refuse_unnamed(header, rows)
     found, lines, wrong = {}, {}, order_table.Faults()
@@ -105,7 +105,7 @@ def parse_participants(data, notes):
         found[who] = share
         lines.setdefault(who, line)
         for words in row.faults:
-            wrong.add(order_table.of_line(line, words))
+            wrong.add(order_table.row_fault(line, words))
     if wrong.count:
         raise wrong.as_one_fault()
     return found

@@ -189,18 +189,18 @@ def longest_beginnings(later):
         for other in others - {one}:
             earlier[other].add(one)
     found = {}
-    for head in sorted({*later, *earlier}, key=by_size, reverse=True):
+    for head in sorted({*later, *earlier}, key=size_key, reverse=True):
         if earlier[head]:
-            *others, found[head] = sorted(earlier[head], key=by_size)
+            *others, found[head] = sorted(earlier[head], key=size_key)
             earlier[found[head]].update(others)
     return found
 
 
-def by_size(head):
+def size_key(head):
     return head.size, head.root
 
 
-def judge(receipt, head, key, links, place=Place("the receipt")):
+def verdict_and_words(receipt, head, key, links, place=Place("the receipt")):
     """The verdict on a receipt, compared with a head that was published if one is given, and the words for it. The links get what the
     operator signed."""
     entry, signer = f"entry {receipt.number} of {receipt.head}", signing.signer_name(key, receipt.head)
@@ -233,7 +233,7 @@ def reply_fault(receipt):
     return None
 
 
-def read_and_judge(path, head, key, links, who=None):
+def read_findings(path, head, key, links, who=None):
     """The findings on the receipts of a file, one in each line. A line that is none is named, and so is a file that can't be read. If a
     participant is named, all are its own."""
     try:
@@ -241,13 +241,13 @@ def read_and_judge(path, head, key, links, who=None):
     except command.Stop as fault:
         yield unread_finding(path, fault)
         return
-    yield from judge_bytes(path, data, head, key, links, who)
+    yield from findings_on_bytes(path, data, head, key, links, who)
 
 
-def judge_bytes(path, data, head, key, links, who=None):
+def findings_on_bytes(path, data, head, key, links, who=None):
     """The same from the bytes of the file."""
     try:
-        lines = heads.lines_of(data)
+        lines = heads.require_lines(data)
     except heads.BadRecord as fault:
         yield Finding(path, None, UNREAD, f"it isn't read: {fault}")
         return
@@ -259,7 +259,7 @@ def judge_bytes(path, data, head, key, links, who=None):
         except heads.BadRecord as fault:
             yield Finding(path, number, UNREAD, f"it isn't a receipt: {fault}", about=LINE)
             continue
-        found, words = judge(receipt, head, key, links, Place(path, number))
+        found, words = verdict_and_words(receipt, head, key, links, Place(path, number))
         if who is not None and receipt.who != who and STATUSES[found] != command.DIFFERS:
             found, words = UNREAD, f"it isn't a receipt of {who}: {words}"
         if found == RIGHT and not is_written:
@@ -298,7 +298,7 @@ def differences(path, commands, findings, who):
     own, others = (RIGHT, ENCODING, UNDECIDED), (CONTRARY, IMPOSSIBLE)
     is_contrary = any(finding.verdict in others for finding in findings)
     each = [received_commands(findings, who, verdicts) for verdicts in ((own, others, own + others) if is_contrary else (own,))]
-    found = min((sent.differences(commands, one, "the receipts") for one in each), key=len)
+    found = min((sent.difference_lines(commands, one, "the receipts") for one in each), key=len)
     return [Finding(path, None, WRONG, str(fault)) for fault in found]
 
 

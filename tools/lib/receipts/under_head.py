@@ -150,7 +150,7 @@ class UnderHead:
                 yield Fault(f"{name}: {head}: {fault}", "head")
 
 
-def receipt_files(folder):
+def list_receipt_files(folder):
     """The files of receipts of a folder, or the one that is given. A folder has no others."""
     if not os.path.isdir(folder):
         return [folder]
@@ -158,19 +158,19 @@ def receipt_files(folder):
     for path in paths:
         if path.suffix != ".jsonl":
             raise command.Stop(f"{command.shown(folder)} has {text.quoted(path.name)}, which isn't a file of receipts, NAME.jsonl")
-        if fault := file_io.unread_file(path):
+        if fault := file_io.unread_reason(path):
             raise command.Stop(fault)
     if not paths:
         raise command.Stop(f"{command.shown(folder)} has no file of receipts, NAME.jsonl")
     return paths
 
 
-def read_and_judge_folder(folder, key, read=file_io.read_bytes):
+def read_findings_of_folder(folder, key, read=file_io.read_bytes):
     """The findings on the receipts of a folder, or of one file, whose bytes `read` gives: whether the operator signed each. All have to be
     receipts."""
     links, findings = receipts.Links([], key, []), []
-    for path in receipt_files(folder):
-        for finding in receipts.judge_bytes(str(path), read(path), None, key, links):
+    for path in list_receipt_files(folder):
+        for finding in receipts.findings_on_bytes(str(path), read(path), None, key, links):
             if finding.verdict == receipts.UNREAD:
                 raise command.Stop(str(finding))
             findings.append(finding)

@@ -239,13 +239,13 @@ def block_words(found):
 
 
 @functools.cache
-def sheet(width):
+def curve_sheet(width):
     return curves.CurveSheet(width)
 
 
 def draw_curves(day, number, folded):
     """The curves of a period, under a line that opens them if there are many: then one at a time is open."""
-    picture = draw_picture(lambda width: sheet(width).draw(day, number), f"period{number}", curve_words(day, number))
+    picture = draw_picture(lambda width: curve_sheet(width).draw(day, number), f"period{number}", curve_words(day, number))
     if not folded:
         return picture
     said, words = day.said, "no trade"
@@ -257,28 +257,28 @@ def draw_curves(day, number, folded):
 
 def draw_folded_curves(number):
     """The same in a process of its own, which has the day from the one that started it."""
-    return draw_curves(draw_all_curves.day, number, True)
+    return draw_curves(drawing_curves.day, number, True)
 
 
 @contextlib.contextmanager
-def draw_all_curves(day, numbers):
+def drawing_curves(day, numbers):
     """A source of the curves of some periods, in their order. Many are drawn by several processes, which begin at once, so that the rest of
     the page can be made in the meantime; a line says how far they are."""
     jobs = min(len(os.sched_getaffinity(0)), len(numbers))
     if len(numbers) <= FEW_CURVES or jobs == 1:
         yield (draw_curves(day, number, len(numbers) > MOST_SHOWN) for number in numbers)
         return
-    draw_all_curves.day, bar = day, StepBar("report", len(numbers), "curves")
+    drawing_curves.day, bar = day, StepBar("report", len(numbers), "curves")
     with aside.blocking_interrupts():
         made = multiprocessing.get_context("fork").Pool(jobs)
     with made as pool:
         try:
-            yield with_steps(pool.imap(draw_folded_curves, numbers), bar)
+            yield stepping(pool.imap(draw_folded_curves, numbers), bar)
         finally:
             bar.end()
 
 
-def with_steps(made, bar):
+def stepping(made, bar):
     """Yields each that is made, and takes a step of the bar after it."""
     for one in made:
         yield one
@@ -367,8 +367,8 @@ def day_page(day, title, curves, date=None, who=None, with_limits=True):
     """The page of a day, or of a participant's part of it, with the curves of some periods, and the date of delivery if it is known; with
     the limits that rejected blocks needed, or without them."""
     found = decisions.decisions(day.problem, day.said.accepted, day.outcome)
-    needed = limits.of_rejected(day, who, with_limits)  # before the curves, whose processes are copies of this one
-    with draw_all_curves(day, curves) as drawn_curves:
+    needed = limits.run_for_rejected(day, who, with_limits)  # before the curves, whose processes are copies of this one
+    with drawing_curves(day, curves) as drawn_curves:
         parts = list(own_sections(day, who, needed, drawn_curves) if who else sections(day, found, needed, drawn_curves))
     return style.TEMPLATES.get_template("page.html").render(
         title=title,

@@ -16,11 +16,11 @@ def better_word(row, price):
     return f"its limit {row.order.price} is {'better' if better else 'worse'} than the price {price}"
 
 
-def differences(problem, data):
+def results_and_differences(problem, data):
     """The results of a text (None if it has none), and each difference from the results of their own selection of blocks, as a
     line with its place: first the faults of the selection itself, then the numbers in the order of their lines, and last the sums
     that don't add up. One wrong block changes the prices of many periods, so its own fault is said before these."""
-    said, wrong = results.read_results(problem, data)
+    said, wrong = results.parse_results(problem, data)
     if said is None:
         return None, wrong
     follows = selection.outcome(problem, said.accepted)

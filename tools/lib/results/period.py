@@ -63,7 +63,7 @@ def is_better(order, price):
     return limit > price if side == "buy" else limit < price
 
 
-def filled(orders, side, price, total):
+def fill_by_price(orders, side, price, total):
     """Gives a total volume to the orders of a side at the price, in book order: pairs of a place and a volume."""
     for place, (of, limit, quantity) in enumerate(orders):
         if of == side and limit == price:
@@ -84,7 +84,7 @@ def execution(orders, net, price):
     buying = min(buying, sold + selling + net - bought)
     selling = bought + buying - net - sold
     for side, total in (("buy", buying), ("sell", selling)):
-        for place, quantity in filled(orders, side, price, total):
+        for place, quantity in fill_by_price(orders, side, price, total):
             executed[place] = quantity
     return tuple(executed)
 

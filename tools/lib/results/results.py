@@ -65,7 +65,7 @@ def line_values(line, known, behind):
     return values
 
 
-def beginning(line):
+def known_beginning(line):
     """The subject of a line, if it is one of results: its known fields."""
     fields = line.split(b",", 3)
     return tuple(fields[: {b"day": 2, b"welfare": 1, b"period": 2}.get(fields[0], 3)])
@@ -97,12 +97,12 @@ def plain_text(data):
         data = data.rstrip(b"\n") + b"\n"
         odd.append("empty lines follow the last line")
     if QUOTED.search(data):
-        data = b"".join(QUOTED.sub(rb"\1", part) for part in parts_of(data))
+        data = b"".join(QUOTED.sub(rb"\1", part) for part in split_fields(data))
         odd.append("fields stand in quotes")
     return data, [Fault(words, "encoding") for words in odd]
 
 
-def parts_of(data):
+def split_fields(data):
     """The parts of a text, each of whole fields: to change all fields at once takes far more memory."""
     begin = 0
     while begin < len(data):
@@ -132,23 +132,23 @@ def foreign_fault(wanted, beginnings):
 def foreign_message(line, wanted):
     """The message about results of which no line is one of this journal's."""
     for comma, name in ((b";", "semicolons"), (b"\t", "tabs")):
-        if comma in line and beginning(line.replace(comma, b",")) in wanted:
+        if comma in line and known_beginning(line.replace(comma, b",")) in wanted:
             words = f"the fields of the results are separated by {name} instead of commas: the first line is {text.quoted(line)}"
             return Fault(words, "form", 1)
     return Fault(f"none of the lines of the results belongs to this journal: the first is {text.quoted(line)}", "journal", 1)
 
 
-def read_results(problem, data):
+def parse_results(problem, data):
     """The results that a text is for this problem, and the faults of its form; results are None if something is."""
     wrong, lines, values = [], {}, []
     if not data.endswith(b"\n"):
         wrong.append(Fault("the last line of the results has no line end", "form"))
-    found, more = lines_looked_at(data)
+    found, more = lines_and_fault(data)
     wrong += more
     expected = list(expected_lines(problem))
     last = 0  # the last line that was found
     wanted = [tuple(field.encode() for field in known) for _, known, _ in expected]
-    beginnings = [beginning(line) for line in found]
+    beginnings = [known_beginning(line) for line in found]
     if set(wanted).isdisjoint(beginnings):
         return None, [foreign_message(found[0], wanted) if data else Fault("the results are empty", "form")]
     pairs = matched_places(wanted, beginnings)
@@ -176,7 +176,7 @@ def read_results(problem, data):
     return results_of_values(problem, values, lines), wrong
 
 
-def lines_looked_at(data):
+def lines_and_fault(data):
     """The lines of a text that are looked at, and a fault if there are more."""
     found = data.removesuffix(b"\n").split(b"\n", MOST_LINES)
     if len(found) <= MOST_LINES:

@@ -18,7 +18,7 @@ class Answer(ctypes.Structure):
 
 
 @functools.cache
-def clear_call(path):
+def load_clear_call(path):
     """The call of a library that clears a journal."""
     try:
         call = ctypes.CDLL(path).dam_clear_seeded
@@ -43,11 +43,11 @@ def call_library(path, text, nodes=MOST_NODES):
     """The status and the text that the library prints for a text; names are hashed with random bytes. Other threads run in the meantime."""
     secret, buffer = os.urandom(16), buffers.own
     with ending.exiting_at_signals():
-        answer = clear_call(path)(secret, len(secret), text, len(text), nodes, buffer, MOST_ANSWER)
+        answer = load_clear_call(path)(secret, len(secret), text, len(text), nodes, buffer, MOST_ANSWER)
     return answer.status, ctypes.string_at(buffer, min(answer.length, MOST_ANSWER))
 
 
-def cleared_by_library(path, text):
+def run_library(path, text):
     """The output of `dam clear` for a text, by the library for C."""
     status, shown = call_library(path, text)
     if status:

@@ -26,7 +26,7 @@ RUN_SECONDS = 3_600  # that a run may take if no timeout is named: of one that h
 START_SECONDS = 10  # that programs may take to start, if they are no longer wanted
 
 
-def program_of(program=None):
+def require_program(program=None):
     if program == "":
         raise Unstarted("a program with an empty name can't be run")
     named = program or os.environ.get("DAM")
@@ -38,7 +38,7 @@ def program_of(program=None):
 
 def run_program(words, text, timeout=None, running=None):
     """The status of a run of a program, its output, and its lines on standard error. While it runs, it is among `running`."""
-    if not children.are_heeded():
+    if not children.are_children_heeded():
         raise Unstarted(f"{words[0]} can't be run: this process ignores SIGCHLD, so it wouldn't see with which status a run ends")
     with contextlib.ExitStack() as ends:
         try:
@@ -47,7 +47,7 @@ def run_program(words, text, timeout=None, running=None):
             raise Unstarted(f"{words[0]} can't be run: {fault.strerror}") from None
         ends.enter_context(process)
         try:
-            out, said = exchange(process, text, timeout, words[0])
+            out, said = exchange_pipes(process, text, timeout, words[0])
         except subprocess.TimeoutExpired:
             process.kill()
             raise TimedOut(f"{words[0]} took longer than {timeout:g} seconds") from None
@@ -59,7 +59,7 @@ def run_program(words, text, timeout=None, running=None):
     return process.returncode, out, said
 
 
-def exchange(process, text, timeout, name):
+def exchange_pipes(process, text, timeout, name):
     """Gives a process its input, and returns its output and the last part of its standard error, if that is a pipe, once it has ended. A
     process that prints without an end takes little memory: its output is a fault, with its name."""
     until = None if timeout is None else time.monotonic() + timeout
@@ -75,7 +75,7 @@ def exchange(process, text, timeout, name):
                 raise subprocess.TimeoutExpired(process.args, timeout)
             for stream in (key.fileobj for key, _ in ready):
                 if stream is process.stdin:
-                    left = left[written(stream, left[: select.PIPE_BUF]) :]
+                    left = left[write_some(stream, left[: select.PIPE_BUF]) :]
                     is_over = not left
                 else:
                     is_over = not streams[stream].take(os.read(stream.fileno(), PART))
@@ -86,7 +86,7 @@ def exchange(process, text, timeout, name):
     return tuple(kept.whole() for kept in streams.values())
 
 
-def written(stream, data):
+def write_some(stream, data):
     """How many bytes a process has taken; all of them if it doesn't read any more."""
     try:
         return os.write(stream.fileno(), data)

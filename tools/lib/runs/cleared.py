@@ -113,15 +113,15 @@ def refuse_wrong(held, orders, printed, name):
     """A fault if results break the rules. They may be right, and another selection of blocks better: this isn't looked at."""
     problem = selection.Problem(held)
     accepted = {place for place, block in enumerate(problem.blocks) if orders[block.who, block.name]}
-    if printed == following(problem, accepted):  # the usual case, and far quicker to see
+    if printed == results_of_selection(problem, accepted):  # the usual case, and far quicker to see
         return
-    said, wrong = check.differences(problem, printed)
+    said, wrong = check.results_and_differences(problem, printed)
     if said is None:
         raise Fault(f"{NO_RESULTS}: {wrong[0]}")
     raise Wrong(f"the program's results of {name} break the rules ({wrong[0]})")
 
 
-def following(problem, accepted):
+def results_of_selection(problem, accepted):
     """The results of the selection that accepts these places; None if it isn't eligible."""
     outcome = selection.outcome(problem, accepted)
     if any(selection.link_faults(problem, accepted)) or outcome.welfare is None:

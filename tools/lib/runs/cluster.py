@@ -26,7 +26,7 @@ def first_line(fault):
 
 
 @contextlib.contextmanager
-def without_settings():
+def hiding_settings():
     """In this block dask finds no folder with settings."""
     before = dict(os.environ)
     os.environ.update(HOME=surroundings.NO_HOME, DASK_ROOT_CONFIG=surroundings.NO_HOME)
@@ -37,9 +37,9 @@ def without_settings():
         os.environ.update(before)
 
 
-def imported():
+def import_dask():
     """dask's part for clusters, with the settings that dask itself has: others may name code to run, or keep dask from being imported."""
-    with without_settings():
+    with hiding_settings():
         import dask.config
 
         dask.config.refresh(paths=[], env={})  # also without those of Python's own folder
@@ -47,7 +47,7 @@ def imported():
     return distributed
 
 
-def take_certificates(address):
+def set_certificates(address):
     """Takes the settings of TLS, which are no code, if the address needs them."""
     if address.startswith("tls:"):
         import dask.config
@@ -72,12 +72,12 @@ class Cluster:
         found = ADDRESS.fullmatch(address)
         if not found:
             raise Fault(f"{self.name} should be an address such as tcp://10.0.0.1:8786")
-        distributed = imported()
+        distributed = import_dask()
         logging.disable(logging.CRITICAL)
         warnings.simplefilter("ignore")
         began = time.monotonic()
         try:
-            take_certificates(address)
+            set_certificates(address)
             socket.create_connection((found["host"].strip("[]"), int(found["port"])), SECONDS).close()
             return distributed.Client(address, timeout=SECONDS, set_as_default=False)
         except Exception as fault:
@@ -151,7 +151,7 @@ class Awaited:
 
 
 @contextlib.contextmanager
-def executor(address):
+def connecting(address):
     """The executor of a cluster. After a failure it isn't waited for, so the process should end at once."""
     modules.refuse_missing("distributed")
     cluster = Cluster(address)

@@ -19,7 +19,7 @@ MOST_AHEAD = 1_024  # texts that wait for an executor
 
 
 @contextlib.contextmanager
-def threads_of(jobs):
+def running_threads(jobs):
     """Threads, and the programs that they run, which end with the block."""
     running, threads = by_program.Running(), concurrent.futures.ThreadPoolExecutor(jobs)
     try:
@@ -74,7 +74,7 @@ class Team:
 
 
 @contextlib.contextmanager
-def team_of(jobs):
+def running_team(jobs):
     """A team, and the programs that it runs, which end with the block."""
     running, team = by_program.Running(), Team(jobs)
     try:
@@ -90,12 +90,12 @@ def run_clear(text, program=None, running=None, nodes=MOST_NODES, timeout=None):
     program is named, or a timeout, which only a run of the program can have. The pair has no type of this package, so that any executor
     can send it."""
     try:
-        path = None if program is not None or timeout is not None else which.library()
+        path = None if program is not None or timeout is not None else which.find_library()
         if path:
             status, out = by_library.call_library(path, text, nodes)
             said = out
         else:
-            words = [by_program.program_of(program), *by_program.ONE_WORKER, f"--nodes={nodes}"]
+            words = [by_program.require_program(program), *by_program.ONE_WORKER, f"--nodes={nodes}"]
             status, out, said = by_program.run_program(words, text, by_program.RUN_SECONDS if timeout is None else timeout, running)
             if not status and not by_program.has_results(out):
                 return 0, f"{words[0]} printed no results of this journal"
@@ -110,7 +110,7 @@ def run_clear(text, program=None, running=None, nodes=MOST_NODES, timeout=None):
     return status, by_program.fault_words(status, said)
 
 
-def result(answered):
+def result_or_raise(answered):
     """The bytes of an answer, or its fault."""
     status, found = answered
     if status in (LATE, UNSTARTED):
@@ -118,29 +118,29 @@ def result(answered):
     return found if status is None else Fault(found, status or None)
 
 
-def processors():
+def count_processors():
     return len(os.sched_getaffinity(0))
 
 
-def answers(texts, jobs=None, executor=None, program=None, call=run_clear):
+def run_clears(texts, jobs=None, executor=None, program=None, call=run_clear):
     """For each text, in their order, the output of `dam clear` as bytes, or a `Fault`; a text that is a fault already stays one. Texts are
     taken as they are needed, so there may be any number of them. If no more answers are asked for, the runs that are left are ended."""
     if jobs is not None and jobs < 1:
         raise ValueError("jobs should be 1 or more")
     if executor is not None:
-        yield from in_order(texts, lambda text: executor.submit(call, text, program), jobs or MOST_AHEAD)
+        yield from submit_in_order(texts, lambda text: executor.submit(call, text, program), jobs or MOST_AHEAD)
         return
-    jobs = jobs or processors()
-    with team_of(jobs) as (team, running):
-        yield from in_order(texts, lambda text: team.submit(call, text, program, running), AHEAD * jobs)
+    jobs = jobs or count_processors()
+    with running_team(jobs) as (team, running):
+        yield from submit_in_order(texts, lambda text: team.submit(call, text, program, running), AHEAD * jobs)
 
 
-def in_order(texts, submit, most):
+def submit_in_order(texts, submit, most):
     """The results of the jobs submitted for the texts, in order. At most `most` of them wait."""
     waiting = collections.deque()
     try:
         for text in texts:
-            waiting.append(text if isinstance(text, Fault) else submit_text(submit, text))
+            waiting.append(text if isinstance(text, Fault) else submit_or_raise(submit, text))
             if len(waiting) >= most:
                 yield wait_for(waiting.popleft())
         while waiting:
@@ -151,7 +151,7 @@ def in_order(texts, submit, most):
                 future.cancel()
 
 
-def submit_text(submit, text):
+def submit_or_raise(submit, text):
     try:
         return submit(text)
     except (OSError, RuntimeError) as fault:  # of a broken pool, or one that was shut down
@@ -163,14 +163,14 @@ def wait_for(future):
     if isinstance(future, Fault):
         return future
     try:
-        return result(future.result())
+        return result_or_raise(future.result())
     except Lost:
         raise
     except (Exception, concurrent.futures.CancelledError) as fault:
         return Fault(f"the executor failed: {type(fault).__name__}: {fault}")
 
 
-def with_bar(results, whole=None, unit="day", quiet=False):
+def stepping_bar(results, whole=None, unit="day", quiet=False):
     """The same results, with a bar at a terminal that says how far they are, if tqdm is installed."""
     if quiet or not sys.stderr.isatty():
         return results

@@ -77,7 +77,7 @@ def find_program():
     return None
 
 
-def library():
+def find_library():
     """The path of the library for C, or its name if the system has it; None if there is none, or if a program is to be run instead."""
     found = where()
     return found.path if found and found.what == "library" else None

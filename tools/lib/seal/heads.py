@@ -136,7 +136,7 @@ def line_of(value):
 def command_of(record):
     """The command of a record in its written form; None for any other text."""
     try:
-        read = journal.read_journal(f"{journal.day_line(rules.GREATEST_PERIOD)}\n{record}".encode("ascii"))
+        read = journal.parse_journal(f"{journal.day_line(rules.GREATEST_PERIOD)}\n{record}".encode("ascii"))
     except (journal.Fault, UnicodeEncodeError):
         return None
     if len(read.commands) != 1 or journal.command_line(read.commands[0]) != record:
@@ -165,7 +165,7 @@ def parse_number(value, least, most, name):
     return value
 
 
-def members(value, kind, names):
+def require_members(value, kind, names):
     """The values of an object that has these members and no others."""
     if not isinstance(value, dict) or value.get("format") != kind:
         raise BadRecord(f"it isn't an object with the format {kind}")
@@ -177,7 +177,7 @@ def members(value, kind, names):
 
 
 def parse_head(value):
-    day, periods, size, root, signature = members(value, HEAD, ("day", "periods", "size", "root", "signature"))
+    day, periods, size, root, signature = require_members(value, HEAD, ("day", "periods", "size", "root", "signature"))
     if not isinstance(day, str) or not DAY.fullmatch(day):
         raise BadRecord(f"the day {shown_value(day)} should be {A_DAY}")
     if type(periods) is not int or periods not in rules.DAYS:
@@ -195,7 +195,7 @@ def parse_path(value, most):
 
 
 def parse_receipt(value):
-    number, record, reply, salt, path, head = members(value, RECEIPT, ("number", "record", "reply", "salt", "path", "head"))
+    number, record, reply, salt, path, head = require_members(value, RECEIPT, ("number", "record", "reply", "salt", "path", "head"))
     number = parse_number(number, 1, MOST_ENTRIES, "the number")
     if not isinstance(record, str) or command_of(record) is None:
         raise BadRecord(f"the record {shown_value(record)} isn't a record of a written journal")
@@ -205,18 +205,18 @@ def parse_receipt(value):
 
 
 def parse_extension(value):
-    old, new, path = members(value, EXTENSION, ("from", "to", "path"))
+    old, new, path = require_members(value, EXTENSION, ("from", "to", "path"))
     return Extension(parse_head(old), parse_head(new), parse_path(path, LONGEST_PROOF))
 
 
 def parse_salts(value):
-    day, secret = members(value, SALTS, ("day", "secret"))
+    day, secret = require_members(value, SALTS, ("day", "secret"))
     if not isinstance(day, str) or not DAY.fullmatch(day):
         raise BadRecord(f"the day {shown_value(day)} should be {A_DAY}")
     return Salts(day, parse_base64(secret, HASH_BYTES))
 
 
-def unrepeated(pairs):
+def require_unrepeated(pairs):
     """The object of these members, none of which comes twice."""
     made = dict(pairs)
     if len(made) != len(pairs):
@@ -229,13 +229,13 @@ def parse(data, read):
     if len(data) > LONGEST_LINE:
         raise BadRecord(f"it has {len(data):,} bytes, and none has more than {LONGEST_LINE:,}")
     try:
-        value = read(json.loads(data.decode("ascii"), object_pairs_hook=unrepeated))
+        value = read(json.loads(data.decode("ascii"), object_pairs_hook=require_unrepeated))
     except (ValueError, RecursionError):
         raise BadRecord("it isn't JSON in ASCII") from None
     return value, line_of(value) == data
 
 
-def lines_of(data):
+def require_lines(data):
     """The lines of a file, each with its end. There are at most as many as a journal has entries."""
     if data.count(b"\n") + data.count(b"\r") > 2 * MOST_ENTRIES or len(lines := data.splitlines(keepends=True)) > MOST_ENTRIES:
         raise BadRecord(f"it has more than {MOST_ENTRIES:,} lines")

@@ -44,7 +44,7 @@ def parse_scaled(cell, factor, least, greatest, unit, decimal_comma):
         raise BadOrders(f"it is empty, or a formula that wasn't saved with its value: it should be a number of {unit}, such as 92.5")
     found = DECIMAL[decimal_comma].fullmatch(cell)
     if not found:
-        raise BadOrders(f"{text.quoted(cell)} should be a number of {unit}, {such_as(cell, decimal_comma)}")
+        raise BadOrders(f"{text.quoted(cell)} should be a number of {unit}, {example_words(cell, decimal_comma)}")
     sign, whole, rest = found.groups()
     digits = len(str(factor)) - 1
     if len(rest or "") > digits:
@@ -57,7 +57,7 @@ def parse_scaled(cell, factor, least, greatest, unit, decimal_comma):
     return int(value)
 
 
-def such_as(cell, decimal_comma):
+def example_words(cell, decimal_comma):
     """An example of a number, or how to write the one of a cell that has separators of thousands."""
     found = GROUPED.fullmatch(cell)
     if not found:
@@ -66,7 +66,7 @@ def such_as(cell, decimal_comma):
     return f"without separators of thousands: {whole}{mark + digits if digits else ''}"
 
 
-def parts(cell):
+def split_parts(cell):
     return [part for part in re.split(r"[;\s]+", cell) if part]
 
 
@@ -78,17 +78,17 @@ def refuse_empty(cell):
             raise BadOrders(f"part {number} of {text.quoted(cell)} is empty: write it, or remove its semicolon")
 
 
-def read_periods(cell, periods):
+def parse_periods(cell, periods):
     """Periods and runs of periods of the day by increasing number, such as `8`, `8-20` or `1;3;5-7`, or clock times, such as
     `07:00-08:00`. A dash may be of any kind, with spaces around it."""
     refuse_empty(cell)
     cell = spans.dashed(cell)
-    if not parts(cell):
+    if not split_parts(cell):
         raise BadOrders("it should name a period, such as 8, or several, such as 8-20 or 1;3;5-7, or times, such as 07:00-20:00")
     if ":" in cell:
-        numbers = read_times(cell, periods)
+        numbers = parse_times(cell, periods)
     else:
-        numbers = read_numbers(cell, periods)
+        numbers = parse_numbers(cell, periods)
     if any(one >= other for one, other in zip(numbers, numbers[1:])):
         raise BadOrders(f"the periods {text.quoted(cell)} should increase")
     if numbers[-1] > periods:
@@ -98,9 +98,9 @@ def read_periods(cell, periods):
 
 
 @functools.lru_cache(MOST_KEPT)
-def kept_periods(cell, periods):
+def parse_kept_periods(cell, periods):
     """The same, kept for other cells."""
-    return tuple(read_periods(cell, periods))
+    return tuple(parse_periods(cell, periods))
 
 
 def refuse_many(found, cell):
@@ -109,8 +109,8 @@ def refuse_many(found, cell):
         raise BadOrders(f"{text.quoted(cell)} has {len(found):,} parts: a day has at most {rules.GREATEST_PERIOD} periods")
 
 
-def read_numbers(cell, periods):
-    refuse_many(parts(cell), cell)
+def parse_numbers(cell, periods):
+    refuse_many(split_parts(cell), cell)
     try:
         return spans.parse_periods(cell, rules.GREATEST_PERIOD, periods=periods)
     except ValueError as fault:
@@ -125,9 +125,9 @@ def an_hour_from(cell):
     return f"{hour:02}:{minute}-{hour + 1:02}:{minute}"
 
 
-def read_times(cell, periods):
+def parse_times(cell, periods):
     """The periods between clock times."""
-    numbers, spans_of_time = [], parts(cell)
+    numbers, spans_of_time = [], split_parts(cell)
     refuse_many(spans_of_time, cell)
     for part in spans_of_time:
         found = TIMES.fullmatch(part)
@@ -151,11 +151,11 @@ def refuse_thousands(cell):
 
 
 @functools.lru_cache(MOST_LISTS)
-def read_volumes(cell, numbers, decimal_comma):
+def parse_volumes(cell, numbers, decimal_comma):
     """One volume for all periods, or one for each, separated by `;`."""
     refuse_empty(cell)
     refuse_thousands(cell)
-    found = parts(cell)
+    found = split_parts(cell)
     values = [parse_scaled(part, 10, 1, rules.GREATEST_VOLUME, "MW", decimal_comma) for part in found[: rules.GREATEST_PERIOD]]
     if len(found) == 1:
         values *= len(numbers)
@@ -164,7 +164,7 @@ def read_volumes(cell, numbers, decimal_comma):
     return tuple(zip(numbers, values))
 
 
-def word_reader(*words):
+def word_parser(*words):
     def read(cell):
         if cell.lower() not in words:
             raise BadOrders(f"{text.quoted(cell)} should be {' or '.join(words)}")
@@ -173,12 +173,12 @@ def word_reader(*words):
     return read
 
 
-def field_reader(name):
+def field_parser(name):
     """A name, as a field of a journal; for one that breaks its rule the message says the right form."""
 
     @functools.lru_cache(MOST_KEPT)
     def read(cell):
-        found, wrong = fields.read(name, cell)
+        found, wrong = fields.parse_field(name, cell)
         if wrong:
             raise BadOrders(f"{text.quoted(cell)} {wrong.removeprefix('it ')}")
         return found
@@ -186,8 +186,8 @@ def field_reader(name):
     return read
 
 
-read_participant, read_name = field_reader("participant"), field_reader("order")
+read_participant, read_name = field_parser("participant"), field_parser("order")
 
 
-def read_price(cell, decimal_comma):
+def parse_price(cell, decimal_comma):
     return parse_scaled(cell, 100, rules.LOWEST_PRICE, rules.HIGHEST_PRICE, "EUR/MWh", decimal_comma)

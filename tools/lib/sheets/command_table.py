@@ -17,8 +17,8 @@ class Columns:
     orders are needed as far as its commands have them."""
 
     def __init__(self, found, needed):
-        self.places = {name: at for at, name in reversed(list(enumerate(header_of(found))))}  # the first of each name
-        self.table = order_table.table_of("", found, self.needed(found.rest()), (*needed, WHAT))
+        self.places = {name: at for at, name in reversed(list(enumerate(column_names(found))))}  # the first of each name
+        self.table = order_table.require_order_table("", found, self.needed(found.rest()), (*needed, WHAT))
         for name in needed:
             if name not in self.places:
                 raise order_table.BadOrders(f"line {found.header()[0]}: there is no column {name}")
@@ -47,17 +47,17 @@ class Columns:
         """The command that a row adds to a day, None if it adds none; and the faults of the row."""
         row, what = order_table.Row(cells, self.table, periods), self.cell(cells, WHAT).lower()
         add_other_faults(row, what)
-        return None if self.is_empty(cells) else read_command(row, what), row.faults
+        return None if self.is_empty(cells) else parse_command(row, what), row.faults
 
 
-def header_of(found):
+def column_names(found):
     """The names of a table's columns, by its cells."""
     return [cell.strip().lower() for cell in found.header()[1]]
 
 
 def is_command_table(found):
     """Whether a table, given by its cells, has the column `what`."""
-    return WHAT in header_of(found)
+    return WHAT in column_names(found)
 
 
 def add_other_faults(row, what):
@@ -68,16 +68,16 @@ def add_other_faults(row, what):
             row.faults.append(f"column {name}: {text.quoted(cell)} should be left out: {article} {what} has no {name}")
 
 
-def read_command(row, what):
+def parse_command(row, what):
     """The command of a row: an order to submit, or the amend or cancel of one. Faults are added to the row's faults."""
     if what == "cancel":
         return journal.Cancel(row.read("participant", cell_values.read_participant), row.read("order", cell_values.read_name))
     if what == "amend":
         who, name = row.read("participant", cell_values.read_participant), row.read("order", cell_values.read_name)
-        price = row.read("price_eur_mwh", lambda cell: cell_values.read_price(cell, row.decimal_comma))
-        numbers = row.read("periods", lambda cell: cell_values.kept_periods(cell, row.periods))
+        price = row.read("price_eur_mwh", lambda cell: cell_values.parse_price(cell, row.decimal_comma))
+        numbers = row.read("periods", lambda cell: cell_values.parse_kept_periods(cell, row.periods))
         volumes = row.read(
-            "volume_mw", lambda cell: cell_values.read_volumes(cell, numbers or row.periods_of_volumes(cell), row.decimal_comma)
+            "volume_mw", lambda cell: cell_values.parse_volumes(cell, numbers or row.periods_of_volumes(cell), row.decimal_comma)
         )
         return journal.Amend(who, name, price, volumes)
     if what in ("", "submit"):
@@ -100,7 +100,7 @@ class Commands:
                 yield line, command
 
 
-def read_commands(given, periods):
+def parse_commands(given, periods):
     """The commands of a table by its cells, each with its line; and notes on the table. Their faults, a line each, are
     `order_table.BadOrders`."""
     wrong = order_table.Faults()
@@ -113,7 +113,7 @@ def read_commands(given, periods):
     for line, cells in columns.table.rows:
         _, faults = columns.read(cells, periods)
         for words in faults:
-            wrong.add(order_table.of_line(line, words))
+            wrong.add(order_table.row_fault(line, words))
     if wrong.count:
         raise wrong.as_one_fault()
     return Commands(columns, periods), columns.table.notes

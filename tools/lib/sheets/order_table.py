@@ -46,7 +46,7 @@ def find_columns(line, header, needed, further):
             places[name] = at - 1
         elif name in further or WHAT in further and name in REPLY:
             continue
-        elif alike := meant_by(name, missing, needed):
+        elif alike := columns_meant(name, missing, needed):
             wrong.append(f"line {line}, column {at}: {text.quoted(cell)} is not a column: write {alike[0]}")
         elif name and name not in further:
             notes.append(f"the column {text.quoted(cell)} isn't used")
@@ -58,7 +58,7 @@ def find_columns(line, header, needed, further):
     return places, notes
 
 
-def meant_by(name, missing, needed):
+def columns_meant(name, missing, needed):
     """The missing columns that a name probably stands for: those that are needed, and of which it is the first word, or one like it."""
     return [one for one in missing if one in needed and one.startswith(f"{name}_")] or difflib.get_close_matches(name, missing, 1, ALIKE)
 
@@ -101,22 +101,22 @@ class Row:
 
     def periods_of_volumes(self, cell):
         """As many periods as there are volumes, if the periods can't be read."""
-        return range(1, 1 + max(len(cell_values.parts(cell)), 1))
+        return range(1, 1 + max(len(cell_values.split_parts(cell)), 1))
 
     def probable_name(self, name):
         """A name, or the one that was probably meant if it breaks its rule, so that other lines that name it aren't wrong too."""
-        return fields.read(name, self.cell(name))[0]
+        return fields.parse_field(name, self.cell(name))[0]
 
     def command(self):
         """The submit that the row is; of no use if something is wrong."""
         who, name = self.read("participant", cell_values.read_participant), self.read("order", cell_values.read_name)
-        kind = self.read("kind", cell_values.word_reader("hour", "block"))
-        side = self.read("side", cell_values.word_reader("buy", "sell"))
-        price = self.read("price_eur_mwh", lambda cell: cell_values.read_price(cell, self.decimal_comma))
-        numbers = self.read("periods", lambda cell: cell_values.kept_periods(cell, self.periods))
+        kind = self.read("kind", cell_values.word_parser("hour", "block"))
+        side = self.read("side", cell_values.word_parser("buy", "sell"))
+        price = self.read("price_eur_mwh", lambda cell: cell_values.parse_price(cell, self.decimal_comma))
+        numbers = self.read("periods", lambda cell: cell_values.parse_kept_periods(cell, self.periods))
         if kind == "hour" and numbers and len(numbers) != 1:
             self.faults.append(f"column periods: an hourly order has one period, not {len(numbers)}")
-        of_volumes = lambda cell: cell_values.read_volumes(cell, numbers or self.periods_of_volumes(cell), self.decimal_comma)
+        of_volumes = lambda cell: cell_values.parse_volumes(cell, numbers or self.periods_of_volumes(cell), self.decimal_comma)
         volumes = self.read("volume_mw", of_volumes)
         parent, group = (self.read_link(name, kind) for name in OPTIONAL)
         return journal.Submit(who, name, journal.Order(kind, side, price, volumes, parent, group))
@@ -210,7 +210,7 @@ class Cells(NamedTuple):
         return itertools.islice(self.rows, 1, None)
 
 
-def read_cells(data, most=MOST_ROWS, is_long=False):
+def parse_cells(data, most=MOST_ROWS, is_long=False):
     """The cells of a table of `most` rows after its first one. Those of a text that may be long aren't kept."""
     kind, read = kinds.kind_of(data), []
     if kind in (kinds.JOURNAL, kinds.DAY):
@@ -218,7 +218,7 @@ def read_cells(data, most=MOST_ROWS, is_long=False):
     if kind in kinds.FILES - {kinds.EXCEL}:
         raise BadOrders(f"this is {kind}: {kinds.ADVICE[kind]}")
     try:
-        rows, decimal_comma = sheets.read_rows(data, NEEDED, read, most, is_long)
+        rows, decimal_comma = sheets.parse_rows(data, NEEDED, read, most, is_long)
         count = refuse_many_rows(rows, most)
     except sheets.BadTable as fault:
         raise BadOrders(str(fault)) from None
@@ -237,7 +237,7 @@ def refuse_many_rows(rows, most):
     return count
 
 
-def table_of(name, found, needed=NEEDED, further=()):
+def require_order_table(name, found, needed=NEEDED, further=()):
     """A table of orders by its cells, of which the header has been read; or one that needs other columns, and has further ones."""
     (line, header), read = found.header(), found.read
     if WHAT not in further:
@@ -276,7 +276,7 @@ def refuse_commands(header, rows):
             raise BadOrders(f"line {line}, column {WHAT}: {text.quoted(word)}: {words}")
 
 
-def of_line(line, words):
+def row_fault(line, words):
     """The fault of a row, or of one of its columns."""
     return f"line {line}{',' if words.startswith('column ') else ':'} {words}"
 
@@ -306,7 +306,7 @@ class Orders(NamedTuple):
     others: int
 
 
-def read_tables(sources, periods, who=None, raises=False, held=None):
+def parse_tables(sources, periods, who=None, raises=False, held=None):
     """The orders of tables, given as pairs of a name for messages and bytes or cells, for a day of `periods` periods; of one participant,
     or of all. Of the others' rows only the participant and the number of cells are read. `raises`: names are put into capitals, with a
     note. `held`: an owner, whom the messages call you, and its orders in the book, as pairs of a name and a kind. If something is wrong
@@ -316,7 +316,7 @@ def read_tables(sources, periods, who=None, raises=False, held=None):
     wrong, notes, tables = Faults(), [], []
     for name, data in sources:
         try:
-            tables.append(table_of(name, data if isinstance(data, Cells) else read_cells(data)))
+            tables.append(require_order_table(name, data if isinstance(data, Cells) else parse_cells(data)))
         except BadOrders as fault:
             for line in str(fault).split("\n"):
                 wrong.add(f"{name}: {line}" if name else line)
@@ -336,7 +336,7 @@ def read_tables(sources, periods, who=None, raises=False, held=None):
                 submits += [] if row.faults else [(number, command)]
                 raised.update(row.raised)
             for words in row.faults:
-                wrong.add(table.told(of_line(line, words)))
+                wrong.add(table.told(row_fault(line, words)))
         notes += [table.told(capitals_note(raised))] if raised else []
     if wrong.count:
         read = [table.told(note) for table in tables for note in table.read]
@@ -356,6 +356,6 @@ def journal_of(orders, periods, closing):
     return journal.Journal(periods, [submit for _, submit in orders.submits] + [journal.Close()] * closing)
 
 
-def read_orders(data, periods, closing):
+def parse_orders(data, periods, closing):
     """The journal of one table of orders."""
-    return journal_of(read_tables([("", data)], periods), periods, closing)
+    return journal_of(parse_tables([("", data)], periods), periods, closing)

@@ -18,7 +18,7 @@ class BadDate(Exception):
     """A text that is no date, or a date that doesn't fit the day."""
 
 
-def date_of(words):
+def parse_date(words):
     """The date of a text such as 2026-11-25."""
     try:
         if re.fullmatch(r"[0-9]{4}-[0-9]{2}-[0-9]{2}", words):
@@ -31,7 +31,7 @@ def date_of(words):
 def as_date(date):
     """A date, the date of a time, or the date of a text."""
     if isinstance(date, str):
-        return date_of(date)
+        return parse_date(date)
     try:
         return datetime.date(date.year, date.month, date.day)
     except (AttributeError, TypeError, ValueError):

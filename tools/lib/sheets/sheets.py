@@ -34,7 +34,7 @@ def is_workbook(data):
     return data.startswith(XLSX)
 
 
-def read_rows(data, needed=(), notes=None, most=None, is_long=False):
+def parse_rows(data, needed=(), notes=None, most=None, is_long=False):
     """The rows of a table, each with the number of its first line; and whether a comma may be the decimal point. A text is separated by
     commas, semicolons or tabs, whichever its header has most of. Of a workbook it is the sheet `orders`, or else the first that has the
     needed columns. It isn't read further if it has more than `most` rows after its first one. Notes say which sheet was read, and that a
@@ -51,7 +51,7 @@ def read_rows(data, needed=(), notes=None, most=None, is_long=False):
     return rows, True
 
 
-def encoding_of(data, notes):
+def require_encoding(data, notes):
     """The encoding of a table: UTF-8, UTF-16 with its mark, or else Windows-1252, whose letters no order has."""
     if data.startswith((codecs.BOM_UTF16_LE, codecs.BOM_UTF16_BE)):
         return "utf-16"
@@ -134,7 +134,7 @@ class Text:
     def __init__(self, data, notes, most, times):
         """`times`: how many times the cells and the text of a workbook it may have."""
         self.data, self.most, self.times = data, most, times
-        self.encoding = encoding_of(data, notes)
+        self.encoding = require_encoding(data, notes)
         self.delimiter = max(",;\t", key=self.first_line().count)
         self.has_decimal_comma = self.delimiter != ","
         self.is_counted = False  # once it was read to its end, it keeps to the limits
@@ -203,7 +203,7 @@ def unescaped(cell):
     return ESCAPED.sub(r"\1", cell) if "'" in cell else cell
 
 
-def workbook_writer():
+def writer_of_workbooks():
     """The package that writes workbooks. Each sheet is first a temporary file; lxml wouldn't say why one can't be written."""
     os.environ["OPENPYXL_LXML"] = "False"
     import openpyxl
@@ -216,7 +216,7 @@ def workbook_bytes(tables):
     for name, rows in tables.items():
         if len(rows) > limits.LAST_ROW:
             raise BadTable(f"the table {name} has {len(rows):,} rows, but a sheet of an Excel workbook has at most {limits.LAST_ROW:,}")
-    openpyxl = workbook_writer()
+    openpyxl = writer_of_workbooks()
     from openpyxl.styles import Font
     from openpyxl.utils import get_column_letter
 

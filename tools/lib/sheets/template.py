@@ -33,7 +33,7 @@ ROWS = [
 
 def template_bytes():
     """The bytes of the workbook."""
-    book = sheets.workbook_writer().Workbook()
+    book = sheets.writer_of_workbooks().Workbook()
     sheet = book.active
     sheet.title = ORDERS
     fill_sheet(sheet, [])

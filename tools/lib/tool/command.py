@@ -23,8 +23,8 @@ class Stop(Exception):
 
 def run(name, main):
     """Runs a tool's `main`, and ends with its status. A fault, Ctrl-C or another signal is one line on standard error."""
-    hold_streams()
-    children.heed()
+    open_closed_streams()
+    children.heed_children()
     ending.raise_signals()
     try:
         sys.exit(main())
@@ -44,11 +44,11 @@ def status_and_message(fault):
     if isinstance(fault, Stop):
         return fault.status, str(fault)
     if isinstance(fault, KeyboardInterrupt):
-        return ending.interruption_status(fault)
+        return ending.status_and_message_of_interrupt(fault)
     if isinstance(fault, OSError) and not ending.is_lack_of_memory(fault) and not ending.is_lack_of_files(fault):
         where = "a device failed" if fault.filename is None else f"{shown(os.fsdecode(fault.filename))} can't be used"
         return NO_INPUT, f"{where}: {fault.strerror}"
-    return FAILED, ending.words(fault)
+    return FAILED, ending.failure_words(fault)
 
 
 def without_controls(words):
@@ -64,7 +64,7 @@ def print_note(tool, words):
         discard_stream(sys.stderr)
 
 
-def hold_streams():
+def open_closed_streams():
     """Lets no other file take the number of a closed standard stream. Python has None for such a stream, and would print to standard
     output the text that is meant for a closed standard error."""
     while (number := os.open(os.devnull, os.O_RDWR)) <= 2:

@@ -8,7 +8,7 @@ from ..base.rules import VERSION
 from . import file_io
 
 
-def participant(word):
+def parse_participant(word):
     """A participant's name on the command line."""
     if text.parse_participant(word.encode(errors="surrogateescape")) is None:
         raise argparse.ArgumentTypeError(f"{text.quoted(word)} should be {text.A_PARTICIPANT}")

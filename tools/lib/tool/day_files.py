@@ -10,7 +10,7 @@ from . import command, file_io
 SEE_AUDIT = place.with_commands_of_here("see tools/audit")
 
 
-def read_texts(path, results_path):
+def read_day_texts(path, results_path):
     """The bytes of a journal and of results: from two files, or from one with the text of a day."""
     data = file_io.read_bytes(path)
     if results_path is not None:
@@ -37,11 +37,11 @@ def refuse_other_kind(path, data, right, hints=()):
         raise command.Stop(f"{command.shown(path)} {'is' if kind in kinds.FILES else 'has'} {kind} instead of {right}{hint}")
 
 
-def parse_journal(path, data):
+def require_journal(path, data):
     try:
-        return journal.read_journal(data)
+        return journal.parse_journal(data)
     except journal.Fault as fault:
-        raise command.Stop(f"{command.shown(path)} isn't a journal: {fault}{lint.in_few_words(data)}") from None
+        raise command.Stop(f"{command.shown(path)} isn't a journal: {fault}{lint.first_fault_words(data)}") from None
 
 
 class Day:
@@ -49,8 +49,8 @@ class Day:
     `odd` how they are encoded in another way than `dam` does it."""
 
     def __init__(self, path, results_path):
-        journal_data, results_data = read_texts(path, results_path)
-        read = parse_journal(path, journal_data)
+        journal_data, results_data = read_day_texts(path, results_path)
+        read = require_journal(path, journal_data)
         if results_path is not None:
             refuse_other_kind(results_path, results_data, kinds.RESULTS)
         self.read(read, results_data, path, results_path or path)
@@ -73,12 +73,12 @@ class Day:
         from ..results import check
 
         self.journal, self.text = read, results_data
-        self.book, self.reasons = book.run(read)
+        self.book, self.reasons = book.run_commands(read)
         if not self.book.closed:
             raise command.Stop(f"no command of {command.shown(path)} closes the book, so it has no results")
         self.problem = selection.Problem(self.book)
         data, self.odd = results.plain_text(results_data)
-        self.said, self.wrong = check.differences(self.problem, data)
+        self.said, self.wrong = check.results_and_differences(self.problem, data)
         if self.said is None:
             raise command.Stop(f"{command.shown(results_path)} has no results of this journal: {self.wrong[0]}")
         self.outcome = selection.outcome(self.problem, self.said.accepted)

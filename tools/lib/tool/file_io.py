@@ -13,7 +13,7 @@ MOST_BYTES, PART = 64 << 20, 1 << 20  # of a file that a tool reads, and of thos
 NAMED_BY_OUT = ": name it by --out to replace it"
 
 
-def binary_stream(stream):
+def require_binary_stream(stream):
     """The bytes of standard input or output, which Python has as None if it is closed."""
     if stream is None:
         raise OSError(errno.EBADF, os.strerror(errno.EBADF))
@@ -23,7 +23,8 @@ def binary_stream(stream):
 def read_bytes(path):
     """The bytes of a file; `-` is standard input. A file that has more than any text of a day may have no end, and isn't read on."""
     try:
-        with contextlib.nullcontext(binary_stream(sys.stdin)) if path == "-" else open(path, "rb", opener=open_without_waiting) as file:
+        standard = contextlib.nullcontext(require_binary_stream(sys.stdin)) if path == "-" else None
+        with standard or open(path, "rb", opener=open_without_waiting) as file:
             data = read_first_bytes(file, MOST_BYTES + 1)
     except (OSError, ValueError) as fault:
         raise command.Stop(unread_message(path, fault)) from None
@@ -43,7 +44,7 @@ def open_without_waiting(path, flags):
     return os.open(path, flags | (os.O_NONBLOCK if stat.S_ISREG(os.stat(path).st_mode) else 0))
 
 
-def unread_file(path):
+def unread_reason(path):
     """Why a path has no file that can be read, if it has none. A device or a pipe may have no end."""
     try:
         mode = os.stat(path).st_mode
@@ -70,7 +71,7 @@ def read_first_bytes(file, most):
 def write_stdout(data):
     """Writes to standard output."""
     try:
-        binary_stream(sys.stdout).write(data)
+        require_binary_stream(sys.stdout).write(data)
         sys.stdout.flush()
     except BrokenPipeError:
         raise
@@ -85,7 +86,7 @@ def print_lines(lines):
     write_stdout("".join(f"{command.without_controls(line)}\n" for line in lines).encode())
 
 
-def write_bytes(tool, path, data, advice=None):
+def write_file_or_stdout(tool, path, data, advice=None):
     """Writes a file that is whole, and at a terminal says so; or standard output if the path is `-`."""
     if path == "-":
         write_stdout(data)
@@ -98,20 +99,20 @@ def write_files(tool, files, advice=None):
     the tool ends as by `refuse_to_replace`."""
     prepare = replacing.prepare_new if advice else replacing.prepare_write
     with contextlib.ExitStack() as cleanups:
-        puts = {path: call_for_output(path, prepare, path, data, cleanups) for path, data in files.items()}
+        puts = {path: write_or_stop(path, prepare, path, data, cleanups) for path, data in files.items()}
         for path, put in puts.items():
-            call_for_output(path, put, advice=advice)
+            write_or_stop(path, put, advice=advice)
             if sys.stderr.isatty():
                 command.print_note(tool, f"{command.shown(path)} was written")
 
 
-def call_for_output(path, call, *words, advice=None):
+def write_or_stop(path, call, *words, advice=None):
     """The result of a call for a file that is written."""
     try:
         return call(*words)
     except OSError as fault:
         if advice and isinstance(fault, FileExistsError):
-            raise there_already(path, advice) from None
+            raise taken_fault(path, advice) from None
         raise command.Stop(f"{command.shown(path)} can't be written: {fault.strerror}") from None
 
 
@@ -126,10 +127,10 @@ def is_same(path, other):
 def refuse_to_replace(path, advice):
     """Ends the tool if there is a file that nobody asked to replace."""
     if os.path.lexists(path):
-        raise there_already(path, advice)
+        raise taken_fault(path, advice)
 
 
-def there_already(path, advice):
+def taken_fault(path, advice):
     """The fault of a file that nobody asked to replace."""
     return command.Stop(f"{command.shown(path)} is there already{advice}", command.COMMAND_LINE)
 

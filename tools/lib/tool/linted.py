@@ -26,7 +26,7 @@ class Linted:
         self.input.update(bytes=len(data), sha256=hashlib.sha256(data).hexdigest())
         bar = StepBar("lint", len(data), "bytes", self.quiet)
         try:
-            self.found = lint.faults(data, self.purpose, bar)
+            self.found = lint.find_faults(data, self.purpose, bar)
         finally:
             bar.end()
 
@@ -36,7 +36,7 @@ class Linted:
 
     def lines(self):
         """The findings for readers."""
-        return [*self.found, lint.summary(self.found)]
+        return [*self.found, lint.summary_line(self.found)]
 
     def record(self, status, message=None):
         return {

@@ -40,7 +40,7 @@ def this_python():
     return [sys.executable, *(["-I"] if sys.flags.isolated else [])]
 
 
-def debian_has(*modules):
+def run_for_modules(*modules):
     """Whether Debian's Python is a different one and has the modules. With -c alone it would also find those of the working folder."""
     if is_debians():
         return False
@@ -53,10 +53,10 @@ def debian_has(*modules):
         return False
 
 
-def restart_with(*modules):
+def exec_with_modules(*modules):
     """Starts the tool again with Debian's Python, if that has the modules and this one lacks some."""
-    if not all(map(has_module, modules)) and debian_has(*modules):
-        # without -S, nothing would find Debian's packages for a program that ending.watch doesn't guard
+    if not all(map(has_module, modules)) and run_for_modules(*modules):
+        # without -S, nothing would find Debian's packages for a program that ending.guard_tool doesn't guard
         late = ["-S"] if sys.flags.no_site else []
         os.execv(DEBIAN_PYTHON, [*ISOLATED, *late, sys.modules["__main__"].__file__, *sys.argv[1:]])
 
@@ -86,6 +86,6 @@ def missing_message(*modules):
 
 def refuse_missing(*modules):
     """Ends the tool if a module is missing."""
-    restart_with(*modules)
+    exec_with_modules(*modules)
     if lacking := [module for module in modules if not has_module(module)]:
         raise Stop(missing_message(*lacking), FAILED)

@@ -14,7 +14,7 @@ def add_options(parser):
     add("-o", "--out", default="-", help="the file to write, an Excel workbook if its name ends with .xlsx (default: standard output)")
 
 
-def check_options(args, *inputs):
+def refuse_wrong_options(args, *inputs):
     """Ends the tool if the options can't be used together, or would write over an input, or a package is missing."""
     file_io.refuse_inputs(args.out, *inputs)
     if args.json and args.decimal_comma:
@@ -42,7 +42,7 @@ def workbook_bytes(tables):
         raise command.Stop(f"{fault}: write it as {CSV}", command.COMMAND_LINE) from None
 
 
-def write(tool, args, name, rows, periods):
+def write_table(tool, args, name, rows, periods):
     """Writes a table, which is whole before the first byte is written."""
     rows = list(rows)
     if is_workbook(args.out):
@@ -51,4 +51,4 @@ def write(tool, args, name, rows, periods):
         data = shapes.as_json(name, rows, shapes.day_of_periods(periods)).encode()
     else:
         data = sheets.table_text(rows, args.decimal_comma).encode()
-    file_io.write_bytes(tool, args.out, data)
+    file_io.write_file_or_stdout(tool, args.out, data)

@@ -79,23 +79,23 @@ def in_few_lines(fault):
     return "\n  ".join(lines[:MOST_LINES] + ([f"and {more} more"] if more > 0 else []))
 
 
-def read_changes(data, periods):
+def parse_changes(data, periods):
     """Further commands for a day: records of a journal, with the records `day` and `close` or without them; a table of commands; or one of
     orders, each a submit. They are pairs of where each stands and a command, to go through once; with notes on the table."""
     try:
         if sent.WORDS.match(data.removeprefix(text.MARK)):
-            return [(f"record {entry.record}", entry.command) for entry in sent.read_records(data, periods)], []
-        table = order_table.read_cells(data)
+            return [(f"record {entry.record}", entry.command) for entry in sent.parse_records(data, periods)], []
+        table = order_table.parse_cells(data)
         if command_table.is_command_table(table):
-            commands, notes = command_table.read_commands(table, periods)
+            commands, notes = command_table.parse_commands(table, periods)
             return ((f"line {line}", command) for line, command in commands), notes
-        orders = order_table.read_tables([("", table)], periods)
+        orders = order_table.parse_tables([("", table)], periods)
         return [(f"order {number}", submit) for number, submit in orders.submits], orders.notes
     except (sent.BadSentText, order_table.BadOrders) as fault:
         raise Fault(in_few_lines(fault)) from None
 
 
-def before_close(read):
+def book_before_close(read):
     """The book of a journal as it is before its close."""
     held = book.Book(read.periods)
     for command in read.commands:
@@ -105,15 +105,15 @@ def before_close(read):
     raise Fault("no command closes the book: end the journal with close,,,,,,,,")
 
 
-def entered(held, commands):
+def book_with_commands(held, commands):
     """A book with further commands, each with where it stands; the book itself stays as it is. A command that it refuses is a fault."""
     after = held.copy()
     for place, command in commands:
-        enter(after, place, command)
+        enter_or_raise(after, place, command)
     return after
 
 
-def enter(held, place, command):
+def enter_or_raise(held, place, command):
     """Enters a command that stands at a place. If the book refuses it, that is a fault."""
     if reason := held.apply(command):
         remedy = "; amend it, or use another name" if reason == "NameTaken" else ""

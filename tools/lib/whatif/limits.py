@@ -112,14 +112,14 @@ class Search:
 
 def why_never(search, found):
     """Why a block is rejected with the best limit of the range."""
-    read = journal.read_journal(search.text(found.past_limit))
+    read = journal.parse_journal(search.text(found.past_limit))
     day = day_files.Day.of(read, search.printed[found.past_limit])
     place = day.problem.place(*search.key)
     why = decisions.decisions(day.problem, day.said.accepted, day.outcome)[place].why
     return why if why.startswith("with ") else f"it {why}"  # 'with' its family, 'it' would gain
 
 
-def others(search, found):
+def other_orders(search, found):
     """The orders whose result is another at the limit than one cent past it, without the block."""
     if found.at is None or found.past is None:
         return []
@@ -134,7 +134,7 @@ def row(search, found):
         return [*cells, "", "", "", "", f"no limit of the range is enough: with the best, {why_never(search, found)}"]
     amounts = [text.eur(amount, own.hours, thousands="") for amount in (found.at.surplus(search.key), found.at.welfare)]
     why = "every limit of the range is enough" if found.past is None else ""
-    return [*cells, text.eur_per_mwh(found.limit), *amounts, len(others(search, found)), why]
+    return [*cells, text.eur_per_mwh(found.limit), *amounts, len(other_orders(search, found)), why]
 
 
 def cases(search, found):
@@ -173,7 +173,7 @@ def record(search, found):
         "clearings": found.clearings,
         "law": LAW,
         "cases": [case(*each) for each in cases(search, found)],
-        "others": [other(key) for key in others(search, found)],
+        "others": [other(key) for key in other_orders(search, found)],
     }
 
 
@@ -203,26 +203,26 @@ def short(search):
     return f"With a limit of {text.shown_price(limit)} EUR/MWh or {BETTER[search.order.side]} it would have been accepted."
 
 
-def of_rejected(day, who=None, is_asked=True):
+def run_for_rejected(day, who=None, is_asked=True):
     """The same for each rejected block of a day, or of a participant, by place. If a limit isn't computed, the sentence says so, and why:
     never because of the time that it would take."""
     places = [place for place, block in enumerate(day.problem.blocks) if place not in day.said.accepted and who in (None, block.who)]
     if not places or day.wrong or not is_asked:
         return dict.fromkeys(places, not_computed("the results break the rules" if day.wrong else "the page was made without limits"))
-    own = engine.result(engine.run_clear(book_text(day.book.rows, day.problem.periods)))
-    if why := why_none(day, own):
+    own = engine.result_or_raise(engine.run_clear(book_text(day.book.rows, day.problem.periods)))
+    if why := run_for_fault(day, own):
         return dict.fromkeys(places, not_computed(why))
     bar = StepBar("report", len(places), "limits of rejected blocks")
-    with engine.team_of(engine.processors()) as (team, running):
+    with engine.running_team(engine.count_processors()) as (team, running):
         was = Cleared.of_day(day)  # which the program has too
-        waiting = [team.submit(sentence, day.book, day.problem.blocks[place], own, was, running) for place in places]
+        waiting = [team.submit(run_for_sentence, day.book, day.problem.blocks[place], own, was, running) for place in places]
         try:
-            return {place: after_step(promise.result(), bar) for place, promise in zip(places, waiting)}
+            return {place: step_and_return(promise.result(), bar) for place, promise in zip(places, waiting)}
         finally:
             bar.end()
 
 
-def after_step(words, bar):
+def step_and_return(words, bar):
     bar.step()
     return words
 
@@ -231,7 +231,7 @@ def not_computed(why):
     return f"Its limit wasn't computed: {why}."
 
 
-def why_none(day, own):
+def run_for_fault(day, own):
     """Why no limit can be computed, if the program fails on a day or has other results; None if it has the same."""
     try:
         if isinstance(own, Fault):
@@ -247,9 +247,9 @@ def why_none(day, own):
     return why
 
 
-def sentence(held, block, own, was, running):
+def run_for_sentence(held, block, own, was, running):
     """What a page says of a rejected block, whose day is printed as `own`, and was checked."""
-    search = Search(held, (block.who, block.name), lambda given: engine.result(engine.run_clear(given, running=running)))
+    search = Search(held, (block.who, block.name), lambda given: engine.result_or_raise(engine.run_clear(given, running=running)))
     search.keep(block.order.price, own)
     search.seen[block.order.price] = was
     try:
@@ -284,7 +284,7 @@ def table(search, found):
 
 def other_lines(search, found):
     """The orders whose result differs between the limit and one cent past it."""
-    keys = others(search, found)
+    keys = other_orders(search, found)
     if found.limit is None or found.past is None:
         return
     if not keys:

@@ -109,7 +109,7 @@ class Table:
     def __init__(self, name, data, held):
         self.name, self.held = name, held
         try:
-            self.columns = Columns(order_table.read_cells(data, MOST_ROWS, is_long=True), (SCENARIO,))
+            self.columns = Columns(order_table.parse_cells(data, MOST_ROWS, is_long=True), (SCENARIO,))
         except order_table.BadOrders as fault:
             raise Fault(f"{name}: {changes.in_few_lines(fault)}") from None
         self.count = self.checked()
@@ -172,7 +172,7 @@ class Table:
 
     def enter(self, held, line, command):
         try:
-            changes.enter(held, f"line {line}", command)
+            changes.enter_or_raise(held, f"line {line}", command)
         except Fault as fault:
             raise Fault(f"{self.name}: {fault}") from None
 
@@ -184,12 +184,12 @@ class Table:
             raise Fault(f"{self.name}: line {line}, column {SCENARIO}: {fault}") from None
         command, faults = self.columns.read(cells, self.held.periods)
         if faults:
-            wrong = "\n".join(order_table.of_line(line, words) for words in faults)
+            wrong = "\n".join(order_table.row_fault(line, words) for words in faults)
             raise Fault(f"{self.name}: {changes.in_few_lines(wrong)}")
         return command
 
 
-def read_table(name, data, held):
+def parse_table(name, data, held):
     """The scenarios of a table, and notes on it."""
     made = Table(name, data, held)
     return made, made.columns.table.notes
@@ -285,7 +285,7 @@ def quantile(found, part):
     return found[max(-(-len(found) * part // 100) - 1, 0)] if found else None
 
 
-def words(distribution):
+def distribution_words(distribution):
     """One line for each block."""
     for key in distribution.keys:
         found = distribution.surpluses[key]

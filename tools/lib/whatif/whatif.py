@@ -18,7 +18,7 @@ GRID = 2_000, 100  # cents per MWh: how far the limits of an hourly order reach 
 MOST_LIMITS = 100_000
 
 
-def eur_mwh(word):
+def parse_price(word):
     """A price of the command line in cents per MWh."""
     if not re.fullmatch(r"-?[0-9]{1,6}(\.[0-9]{1,2})?", word):
         raise argparse.ArgumentTypeError(f"{text.quoted(word)} should be a price in EUR/MWh, such as 92.50")
@@ -29,14 +29,14 @@ def eur_mwh(word):
     return cents
 
 
-def order_name(word):
+def parse_order_name(word):
     """An order's name on the command line."""
     if text.name(word.encode(errors="surrogateescape")) is None:
         raise argparse.ArgumentTypeError(f"{text.quoted(word)} should be {text.A_NAME}")
     return word
 
 
-def jobs(word):
+def parse_jobs(word):
     if not re.fullmatch(r"[1-9][0-9]{0,2}", word):
         raise argparse.ArgumentTypeError(f"{text.quoted(word)} should be a number from 1 to 999")
     return int(word)
@@ -56,13 +56,13 @@ def add_command(commands, call, name, epilog, words):
 def add_limit(commands, epilog):
     parser = add_command(commands, limit, "limit", epilog, "the worst limit at which a block is accepted")
     add = parser.add_argument
-    add("--participant", metavar="NAME", type=command_line.participant, required=True, help="the participant that entered the order")
-    add("--order", metavar="NAME", type=order_name, help="the order")
+    add("--participant", metavar="NAME", type=command_line.parse_participant, required=True, help="the participant that entered the order")
+    add("--order", metavar="NAME", type=parse_order_name, help="the order")
     add("--all", action="store_true", help="every block of the participant, a row each")
-    add("--jobs", metavar="N", type=jobs, help="the number of clearings at the same time (default: the number of processors)")
-    add("--from", dest="least", metavar="EUR", type=eur_mwh, help="for an hourly order: the least limit (default: 20 below the price)")
-    add("--to", dest="greatest", metavar="EUR", type=eur_mwh, help="the greatest limit (default: 20 above the price)")
-    add("--step", metavar="EUR", type=eur_mwh, help="the distance between two limits (default: 1.00)")
+    add("--jobs", metavar="N", type=parse_jobs, help="the number of clearings at the same time (default: the number of processors)")
+    add("--from", dest="least", metavar="EUR", type=parse_price, help="for an hourly order: the least limit (default: 20 below the price)")
+    add("--to", dest="greatest", metavar="EUR", type=parse_price, help="the greatest limit (default: 20 above the price)")
+    add("--step", metavar="EUR", type=parse_price, help="the distance between two limits (default: 1.00)")
 
 
 def add_change(commands, epilog):
@@ -71,7 +71,7 @@ def add_change(commands, epilog):
     words += " standard input"
     parser.add_argument("changes", metavar="CHANGES", help=words)
     words = "only this participant's orders, with its gain and net amount"
-    parser.add_argument("--participant", metavar="NAME", type=command_line.participant, help=words)
+    parser.add_argument("--participant", metavar="NAME", type=command_line.parse_participant, help=words)
     add_quiet(parser)
 
 
@@ -99,30 +99,30 @@ def status_of(fault):
     return command.FAILED if is_failure else command.NO_INPUT
 
 
-def check_program(args):
+def require_program(args):
     """Ends the tool if there is neither the library nor a program."""
-    if args.program or not which.library():
+    if args.program or not which.find_library():
         try:
-            args.program = by_program.program_of(args.program)
+            args.program = by_program.require_program(args.program)
         except errors.Fault:
             made = "the package dam has it" if place.IS_INSTALLED else "./dam prove builds it, and --program ./dam takes one that isn't proved"
             words = f"no program was found: {made}; or name it by --program or the environment variable DAM"
             raise command.Stop(words, command.FAILED) from None
 
 
-def read(args):
+def read_closed_book(args):
     """The book of the journal, which has to be closed."""
-    check_program(args)
-    found = day_files.parse_journal(args.journal, file_io.read_bytes(args.journal))
+    require_program(args)
+    found = day_files.require_journal(args.journal, file_io.read_bytes(args.journal))
     try:
-        return changes.before_close(found)
+        return changes.book_before_close(found)
     except errors.Fault as fault:
         raise command.Stop(f"{command.shown(args.journal)}: {fault}") from None
 
 
 def engine_of(program, running=None):
     """The engine that clears a text; a run that fails is a `Fault`."""
-    return lambda given: engine.result(engine.run_clear(given, program, running))
+    return lambda given: engine.result_or_raise(engine.run_clear(given, program, running))
 
 
 def limit(args):
@@ -130,17 +130,17 @@ def limit(args):
     the participant's gain and the welfare at that limit and one cent past it, and the other orders whose results differ. The answer is in
     words; with --decimal-comma, or a file whose name ends with .csv or .xlsx, it is a table of one row. For an hourly order it prints the
     results under some limits."""
-    output.check_options(args, args.journal)
+    output.refuse_wrong_options(args, args.journal)
     if args.all == bool(args.order):
         raise command.Stop("give --order with the order's name, or --all for every block", command.COMMAND_LINE)
-    held = read(args)
+    held = read_closed_book(args)
     if args.all:
-        return all_limits(args, held)
+        return write_all_limits(args, held)
     key = args.participant, args.order
     if key not in held.rows:
-        raise command.Stop(unknown(held, *key))
+        raise command.Stop(unknown_words(held, *key))
     if held.rows[key].kind == "hour":
-        return sampled(args, held, key)
+        return write_sampled(args, held, key)
     if (args.least, args.greatest, args.step) != (None,) * 3:
         raise command.Stop("--from, --to and --step can't be used with a block, whose limit is found exactly", command.COMMAND_LINE)
     search = limits.Search(held, key, engine_of(args.program))
@@ -148,15 +148,15 @@ def limit(args):
     if args.json:
         data = json.dumps(limits.record(search, found), indent=1) + "\n"
     elif output.is_table(args.out) or args.decimal_comma:
-        output.write("whatif", args, "limits", [limits.HEADS, limits.row(search, found)], held.periods)
+        output.write_table("whatif", args, "limits", [limits.HEADS, limits.row(search, found)], held.periods)
         return command.DONE
     else:
         data = "".join(f"{line}\n" for line in limits.lines(search, found)).rstrip("\n") + "\n"
-    file_io.write_bytes("whatif", args.out, data.encode())
+    file_io.write_file_or_stdout("whatif", args.out, data.encode())
     return command.DONE
 
 
-def unknown(held, who, name):
+def unknown_words(held, who, name):
     """The message about an order that isn't in the book."""
     own = [other for owner, other in held.rows if owner == who]
     if not own:
@@ -166,24 +166,24 @@ def unknown(held, who, name):
     return f"{who} has no order {name} in the book: {shown}"
 
 
-def all_limits(args, held):
+def write_all_limits(args, held):
     """The worst limits of all blocks of a participant, as a table."""
     keys = [key for key, order in held.rows.items() if key[0] == args.participant and order.kind == "block"]
     if not keys:
         raise command.Stop(f"{args.participant} has no block in the book")
 
-    with engine.threads_of(args.jobs or engine.processors()) as (threads, running):
+    with engine.running_threads(args.jobs or engine.count_processors()) as (threads, running):
 
         def row(key):
             search = limits.Search(held, key, engine_of(args.program, running))
             return limits.row(search, search.worst())
 
-        rows = list(engine.with_bar(threads.map(row, keys), len(keys), "block"))
-    output.write("whatif", args, "limits", [limits.HEADS, *rows], held.periods)
+        rows = list(engine.stepping_bar(threads.map(row, keys), len(keys), "block"))
+    output.write_table("whatif", args, "limits", [limits.HEADS, *rows], held.periods)
     return command.DONE
 
 
-def sampled(args, held, key):
+def write_sampled(args, held, key):
     """An hourly order under a grid of limits, as a table."""
     search = limits.Search(held, key, engine_of(args.program))
     period = held.rows[key].volumes[0][0]
@@ -198,8 +198,8 @@ def sampled(args, held, key):
     if len(grid) > MOST_LIMITS:
         raise command.Stop(f"{len(grid):,} limits are too many: give a larger --step", command.COMMAND_LINE)
     texts = [search.text(cents) for cents in grid]
-    with contextlib.closing(engine.answers(texts, args.jobs, program=args.program)) as answers:
-        for cents, printed in zip(grid, engine.with_bar(answers, len(grid), "limit")):
+    with contextlib.closing(engine.run_clears(texts, args.jobs, program=args.program)) as answers:
+        for cents, printed in zip(grid, engine.stepping_bar(answers, len(grid), "limit")):
             search.keep(cents, printed)
     rows = [["limit_eur_mwh", "executed_mw", "price_eur_mwh", "surplus_eur", "welfare_eur"]]
     for cents in grid:
@@ -210,36 +210,36 @@ def sampled(args, held, key):
     extra = "" if own in range(least, greatest + 1, step) else f", one of them the order's own, {text.shown_price(own)} EUR/MWh"
     count = text.counted(len(grid), "limit") + extra
     command.print_note("whatif", f"sampled at {count}: between them the result may be another, since {limits.NO_LAW}")
-    output.write("whatif", args, "samples", rows, held.periods)
+    output.write_table("whatif", args, "samples", rows, held.periods)
     return command.DONE
 
 
 def change(args):
     """Prints the differences if further commands are put before the close: the welfare, prices and volumes, and each order's executed
     energy and amount, in the table of tools/compare."""
-    output.check_options(args, args.journal, args.changes)
+    output.refuse_wrong_options(args, args.journal, args.changes)
     if args.journal == args.changes == "-":
         raise command.Stop("only one file can be standard input", command.COMMAND_LINE)
-    before = read(args)
+    before = read_closed_book(args)
     try:
-        further, notes = changes.read_changes(file_io.read_bytes(args.changes), before.periods)
+        further, notes = changes.parse_changes(file_io.read_bytes(args.changes), before.periods)
         for note in [] if args.quiet else notes:
             command.print_note("whatif", f"{command.shown(args.changes)}: {note}")
-        books = [before, changes.entered(before, further)]
+        books = [before, changes.book_with_commands(before, further)]
     except errors.Fault as fault:
         raise command.Stop(f"{command.shown(args.changes)}: {fault}") from None
-    rows = list(compared(books, args.participant, args.program))
+    rows = list(run_and_compare(books, args.participant, args.program))
     if len(rows) == 1 and not args.quiet:
         command.print_note("whatif", "nothing differs")
-    output.write("whatif", args, "changes", rows, before.periods)
+    output.write_table("whatif", args, "changes", rows, before.periods)
     return command.DONE
 
 
-def compared(books, who, program):
+def run_and_compare(books, who, program):
     """The differences between the results of two books, as a table: of one participant, or of all."""
     if who is not None and not any(who == owner for one in books for owner, _ in one.rows):
         raise errors.Fault(f"{who or text.quoted(who)} has no order in the book, before or after the changes")
-    printed = list(engine.answers([cleared.book_text(one.rows, one.periods) for one in books], program=program))
+    printed = list(engine.run_clears([cleared.book_text(one.rows, one.periods) for one in books], program=program))
     for found in printed:
         if isinstance(found, errors.Fault):
             raise found
@@ -255,25 +255,27 @@ def add_scenarios(commands, epilog):
     add("scenarios", metavar="SCENARIOS", nargs="?", help=words)
     words = "the table that is printed for each scenario (default: welfare; with --sample the blocks over all scenarios)"
     add("--rows", choices=scenarios.TABLES, help=words)
-    add("--participant", metavar="NAME", type=command_line.participant, help="only this participant's rows; with --sample, its orders stay")
-    add("--order", metavar="NAME", type=order_name, help="only this order of the participant")
-    add("--jobs", metavar="N", type=jobs, help="the number of clearings at the same time (default: the number of processors)")
-    add("--sample", metavar="N", type=sample_count, help="random scenarios instead of a table")
+    words = "only this participant's rows; with --sample, its orders stay"
+    add("--participant", metavar="NAME", type=command_line.parse_participant, help=words)
+    add("--order", metavar="NAME", type=parse_order_name, help="only this order of the participant")
+    add("--jobs", metavar="N", type=parse_jobs, help="the number of clearings at the same time (default: the number of processors)")
+    add("--sample", metavar="N", type=parse_sample_count, help="random scenarios instead of a table")
     add("--seed", metavar="WORD", help="the seed of the random scenarios (default: 1)")
-    add("--price-sd", metavar="EUR", type=standard_deviation, help="the standard deviation of the changes of limits (default: 3)")
-    add("--volume-sd", metavar="SHARE", type=standard_deviation, help="the standard deviation of the factor of volumes (default: 0.1)")
+    add("--price-sd", metavar="EUR", type=parse_standard_deviation, help="the standard deviation of the changes of limits (default: 3)")
+    words = "the standard deviation of the factor of volumes (default: 0.1)"
+    add("--volume-sd", metavar="SHARE", type=parse_standard_deviation, help=words)
     add("--cluster", metavar="ADDRESS", help="the scheduler of a dask cluster to run on, such as tcp://10.0.0.1:8786; with tls:// the"
         " certificates are those of ~/.config/dask or /etc/dask")
     add_quiet(parser)
 
 
-def sample_count(word):
+def parse_sample_count(word):
     if not re.fullmatch(r"[1-9][0-9]{0,6}", word):
         raise argparse.ArgumentTypeError(f"{text.quoted(word)} should be a number from 1 to 9999999")
     return int(word)
 
 
-def standard_deviation(word):
+def parse_standard_deviation(word):
     if not re.fullmatch(r"[0-9]{1,4}(\.[0-9]{1,6})?", word):
         raise argparse.ArgumentTypeError(f"{text.quoted(word)} should be a number from 0 to 9999, such as 0.1")
     return float(word)
@@ -283,7 +285,7 @@ def is_picture(path):
     return path.lower().endswith((".svg", ".png"))
 
 
-def check_scenarios(args):
+def refuse_wrong_options(args):
     """Ends the tool if the options of scenarios can't be used together."""
     def stop(words):
         raise command.Stop(words, command.COMMAND_LINE)
@@ -312,7 +314,7 @@ def check_scenarios(args):
         stop("only one file can be standard input")
 
 
-def need_asked(args, books):
+def require_asked_order(args, books):
     """Ends the tool if no book has an order that is asked for."""
     is_asked = asked_of(args)
     if not any(map(is_asked, itertools.chain.from_iterable(books))):
@@ -320,12 +322,12 @@ def need_asked(args, books):
         raise command.Stop(f"{args.participant} has no order{name} in the book or in a scenario")
 
 
-def keys_asked(args, held):
+def require_asked_keys(args, held):
     """The blocks whose distribution is asked for."""
     if args.order and (args.participant, args.order) not in held.rows:
-        raise command.Stop(unknown(held, args.participant, args.order))
+        raise command.Stop(unknown_words(held, args.participant, args.order))
     if not any(who == args.participant for who, _ in held.rows):
-        raise command.Stop(unknown(held, args.participant, None))
+        raise command.Stop(unknown_words(held, args.participant, None))
     blocks = [key for key, order in held.rows.items() if key[0] == args.participant and order.kind == "block"]
     own = [key for key in blocks if args.order in (None, key[1])]
     if not own:
@@ -335,12 +337,12 @@ def keys_asked(args, held):
 
 
 @contextlib.contextmanager
-def executor_of(args):
+def connecting_executor(args):
     """The executor of the cluster that is named, or None; and the engine that it calls."""
     if args.cluster is None:
         yield None, engine.run_clear
         return
-    with cluster.executor(args.cluster) as executor:
+    with cluster.connecting(args.cluster) as executor:
         import dam_tools
 
         yield executor, dam_tools.engine.run_clear  # by the name that it has in the package
@@ -350,29 +352,29 @@ def run_scenarios(args):
     """Prints the results of many scenarios. In a table, each scenario has a name, with the orders or commands that it adds to the journal.
     With --sample the scenarios are random: the orders of all but one participant have other limits and volumes. An output that ends with
     .svg or .png is a picture of these."""
-    output.check_options(args, args.journal, args.scenarios)
-    check_scenarios(args)
+    output.refuse_wrong_options(args, args.journal, args.scenarios)
+    refuse_wrong_options(args)
     if is_picture(args.out):
         modules.refuse_missing("matplotlib")
     if args.sample:
         modules.refuse_missing("numpy")
-    held = read(args)
+    held = read_closed_book(args)
     if args.sample is None:
         data = file_io.read_bytes(args.scenarios)
-        given, notes = scenarios.read_table(command.shown(args.scenarios), data, held)
+        given, notes = scenarios.parse_table(command.shown(args.scenarios), data, held)
         for note in [] if args.quiet else notes:
             command.print_note("whatif", f"{command.shown(args.scenarios)}: {note}")
         count = len(given)
         if args.participant:
-            need_asked(args, itertools.chain([held.rows], (scenario.rows() for scenario in given)))
+            require_asked_order(args, itertools.chain([held.rows], (scenario.rows() for scenario in given)))
     else:
         sds = [3 if args.price_sd is None else args.price_sd, 0.1 if args.volume_sd is None else args.volume_sd]
         sampler = scenarios.Sampler(held, args.participant, args.seed or "1", sds[0] * 100, sds[1])
         given, count = sampler.scenarios(args.sample), args.sample
-    over = scenarios.Distribution(held, keys_asked(args, held)) if args.sample and not args.rows else None
+    over = scenarios.Distribution(held, require_asked_keys(args, held)) if args.sample and not args.rows else None
     rows = list(scenario_rows(args, held, given, count, over))
     if over is None:
-        output.write("whatif", args, "scenarios", rows, held.periods)
+        output.write_table("whatif", args, "scenarios", rows, held.periods)
     else:
         write_distribution(args, held, over)
     return command.DONE
@@ -392,11 +394,11 @@ def scenario_rows(args, held, given, count, over):
     if over is None:
         yield ["scenario", *heads]
     with contextlib.ExitStack() as ends:
-        executor, call = ends.enter_context(executor_of(args))
+        executor, call = ends.enter_context(connecting_executor(args))
         program = args.program if args.cluster is None else None
-        answers = ends.enter_context(contextlib.closing(engine.answers(texts(), args.jobs, executor, program, call)))
+        answers = ends.enter_context(contextlib.closing(engine.run_clears(texts(), args.jobs, executor, program, call)))
         before = day_of("the day as it was", held.rows, held.periods, next(answers))
-        for number, printed in enumerate(engine.with_bar(answers, count, "scenario", args.quiet)):
+        for number, printed in enumerate(engine.stepping_bar(answers, count, "scenario", args.quiet)):
             scenario = waiting.popleft()
             name = f"scenario {scenario.name}"
             if over is None:
@@ -404,7 +406,7 @@ def scenario_rows(args, held, given, count, over):
                 continue
             if number % scenarios.EACH == 0:
                 day_of(name, scenario.rows(), held.periods, printed)
-            over.add(name, printed_of(name, printed))
+            over.add(name, require_printed(name, printed))
 
 
 def asked_of(args):
@@ -412,7 +414,7 @@ def asked_of(args):
     return lambda key: args.participant in (None, key[0]) and (key[1] is None or args.order in (None, key[1]))
 
 
-def printed_of(name, printed):
+def require_printed(name, printed):
     """The printed text; ends the tool if it is a fault."""
     if isinstance(printed, errors.Fault):
         raise command.Stop(f"{text.safe(name)}: {printed}", status_of(printed))
@@ -420,18 +422,18 @@ def printed_of(name, printed):
 
 
 def day_of(name, rows, periods, printed):
-    return Cleared.of_text(rows, periods, printed_of(name, printed), text.safe(name))
+    return Cleared.of_text(rows, periods, require_printed(name, printed), text.safe(name))
 
 
 def write_distribution(args, held, over):
     """The table of the blocks over all scenarios, or a picture and then the table on standard output."""
     if not args.quiet:
-        for line in scenarios.words(over):
+        for line in scenarios.distribution_words(over):
             command.print_note("whatif", line)
     if is_picture(args.out):
         from . import scenario_picture
 
         data = scenario_picture.picture(over, args.out.lower().rpartition(".")[2])
-        file_io.write_bytes("whatif", args.out, data)
+        file_io.write_file_or_stdout("whatif", args.out, data)
         args.out = "-"
-    output.write("whatif", args, "distribution", over.table(), held.periods)
+    output.write_table("whatif", args, "distribution", over.table(), held.periods)
