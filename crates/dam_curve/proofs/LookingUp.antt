@@ -27,7 +27,7 @@ part_behind xs ys n m e f = ap (take (m - n)) (drop_at xs ys n (sym e)) ∙ take
 
 pub curve_added : (old ls : List Segment) (all : CurvesState) (curve : Curve) (ps : List (List Step)) (least most : ℤ) (d : Segment)
     → all.segments ≡ old ++ ls → curve.first ≡ length old → curve.count ≡ length ls → 0 < length ls
-    → curve.bottom ≡ (get_or ls (length ls - 1) d).most → curve.top ≡ (get_or ls 0 d).most
+    → curve.least ≡ (get_or ls (length ls - 1) d).most → curve.most ≡ (get_or ls 0 d).most
     → IsCurve ps least most ls → IsCurveAt all curve ps least most
 curve_added old ls all curve ps least most d e first count some bottom top is =
     let at : segments_at all.segments curve ≡ ls = ap (λ ws. segments_at ws curve) e
@@ -57,13 +57,13 @@ no_segment (segment ∷ ls) net e = absurd (omega (arith, e))
 
 -- ---- outside of the curve
 pub none_there : (curves : CurvesState) (curve : Curve) (ps : List (List Step)) (least most net : ℤ) → IsCurveAt curves curve ps least most
-    → least ≤ℤ net → net ≤ℤ most → (net <ℤ curve.bottom) ⊎ (curve.top <ℤ net) → None ≡ joint_welfare ps net
+    → least ≤ℤ net → net ≤ℤ most → (net <ℤ curve.least) ⊎ (curve.most <ℤ net) → None ≡ joint_welfare ps net
 none_there curves curve ps least most net is low high o =
     sym (is.is_curve.outside net low high (elim (cases_lt 0 curve.count) [
       | inl some ↦
           (let ends = is.ends some in let long = count_is curves.segments curve is.within in
           outside_from (segments_at curves.segments curve) net (omega (arith, some, long))
-          (moved curve.bottom curve.top _ _ o ends.0 ends.1))
+          (moved curve.least curve.most _ _ o ends.0 ends.1))
       | inr none ↦ (let long = count_is curves.segments curve is.within in
           no_segment (segments_at curves.segments curve) net (omega (arith, none, long)))
     ]))
@@ -73,10 +73,10 @@ none_there curves curve ps least most net is low high o =
     moved b t x y (inr more) e k = inr (omega (arith, ints, more, k))
 
 pub some_there : (curves : CurvesState) (curve : Curve) (ps : List (List Step)) (least most net w : ℤ)
-    → IsCurveAt curves curve ps least most → joint_welfare ps net ≡ Some w → least ≤ℤ net → net ≤ℤ most → (curve.bottom ≤ℤ net) × (net ≤ℤ curve.top)
+    → IsCurveAt curves curve ps least most → joint_welfare ps net ≡ Some w → least ≤ℤ net → net ≤ℤ most → (curve.least ≤ℤ net) × (net ≤ℤ curve.most)
 some_there curves curve ps least most net w is e low high = (
-  by_lt_z net curve.bottom (λ less. absurd (none (none_there curves curve ps least most net is low high (inl less)))) (λ more. more),
-  by_lt_z curve.top net (λ more. absurd (none (none_there curves curve ps least most net is low high (inr more)))) (λ less. less),
+  by_lt_z net curve.least (λ less. absurd (none (none_there curves curve ps least most net is low high (inl less)))) (λ more. more),
+  by_lt_z curve.most net (λ more. absurd (none (none_there curves curve ps least most net is low high (inr more)))) (λ less. less),
 )
   where
     none : None ≡ joint_welfare ps net → ⊥
@@ -91,7 +91,7 @@ holds_within f s (t ∷ ls) bottom net are low high =
     (λ less. holds_within f t ls bottom net are.1 low less)
 
 pub welfare_there : (curves : CurvesState) (curve : Curve) (ps : List (List Step)) (least most net : ℤ) → IsCurveAt curves curve ps least most
-    → curve.bottom ≤ℤ net → net ≤ℤ curve.top → (w : ℤ) × (joint_welfare ps net ≡ Some w)
+    → curve.least ≤ℤ net → net ≤ℤ curve.most → (w : ℤ) × (joint_welfare ps net ≡ Some w)
 welfare_there curves curve ps least most net is low high = elim (cases_lt 0 curve.count) [
   | inl some ↦
       (let ends = is.ends some in let long = count_is curves.segments curve is.within in
@@ -106,7 +106,7 @@ welfare_there curves curve ps least most net is low high = elim (cases_lt 0 curv
     among (s ∷ ls) are some under over = holds_within (joint_welfare ps) s ls (bottom_of (s ∷ ls)) net are under over
 
 pub ordered_there : (curves : CurvesState) (curve : Curve) (ps : List (List Step)) (least most : ℤ) → IsCurveAt curves curve ps least most
-    → 0 < curve.count → curve.bottom ≤ℤ curve.top
+    → 0 < curve.count → curve.least ≤ℤ curve.most
 ordered_there curves curve ps least most is some =
     let ls = segments_at curves.segments curve in
     let ends = is.ends some in let long = count_is curves.segments curve is.within in
@@ -123,7 +123,7 @@ nearest bottom top net b t low at ordered e k over under =
 
 -- the net volume lies between the ends of the segments
 pub ends_there : (curves : CurvesState) (curve : Curve) (ps : List (List Step)) (least most net at : ℤ)
-    → IsCurveAt curves curve ps least most → at ≡ net → curve.bottom ≤ℤ net → net ≤ℤ curve.top
+    → IsCurveAt curves curve ps least most → at ≡ net → curve.least ≤ℤ net → net ≤ℤ curve.most
     → (bottom_of (segments_at curves.segments curve) ≤ℤ at) × (at ≤ℤ end_of (segments_at curves.segments curve) (pos 0))
 ends_there curves curve ps least most net at is same low high = elim (cases_lt 0 curve.count) [
   | inl some ↦ (let ends = is.ends some in (omega (arith, ints, ends.0, low, same), omega (arith, ints, ends.1, high, same)))

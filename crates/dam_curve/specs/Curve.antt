@@ -126,8 +126,8 @@ pub record IsCurveAt (curves : CurvesState) (curve : Curve) (periods : List (Lis
   pub within : curve.first + curve.count ≤ length curves.segments
   pub is_curve : IsCurve periods least most (segments_at curves.segments curve)
   pub ends : 0 < curve.count
-      → (curve.bottom ≡ bottom_of (segments_at curves.segments curve)) × (curve.top ≡ end_of (segments_at curves.segments curve) (pos 0))
-  pub none : curve.count ≡ 0 → curve.top <ℤ curve.bottom
+      → (curve.least ≡ bottom_of (segments_at curves.segments curve)) × (curve.most ≡ end_of (segments_at curves.segments curve) (pos 0))
+  pub none : curve.count ≡ 0 → curve.most <ℤ curve.least
 
 -- every curve that stood there still does
 pub record Keeps (old new : CurvesState) : Type 0 where

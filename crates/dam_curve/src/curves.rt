@@ -34,8 +34,8 @@ pub struct Curve {
     pub(crate) first: u32,
     pub(crate) count: u32,
     /// The least net volume and the greatest, in tenths of a MW.
-    pub(crate) bottom: i32,
-    pub(crate) top: i32,
+    pub(crate) least: i32,
+    pub(crate) most: i32,
     pub(crate) hints: Hints,
 }
 
@@ -203,18 +203,18 @@ impl<A: Allocator> Curves<A> {
         Ok(Curve {
             first,
             count,
-            bottom: segments[segments.len() - 1].most,
-            top: segments[0].most,
+            least: segments[segments.len() - 1].most,
+            most: segments[0].most,
             hints,
         })
     }
 
     /// A place near the segment for the net volume; it may be any.
     fn place_near(&self, curve: Curve, net: i64) -> usize
-        requires least { curve.bottom ≤ℤ net }
-        requires most { net ≤ℤ curve.top }
+        requires least { curve.least ≤ℤ net }
+        requires most { net ≤ℤ curve.most }
     {
-        let under = (i64::from(curve.top) - net) as u64;
+        let under = (i64::from(curve.most) - net) as u64;
         let hint = (curve.hints.first as usize).saturating_add(
             (under >> (curve.hints.shift % 64)) as usize,
         );
@@ -240,7 +240,7 @@ impl<A: Allocator> Curves<A> {
     {
         laws::best_has_greatest_welfare();
         laws::executions_are_small();
-        if net < i64::from(curve.bottom) || net > i64::from(curve.top) {
+        if net < i64::from(curve.least) || net > i64::from(curve.most) {
             return None;
         }
         Some(self.point_within(curve, net))
@@ -251,8 +251,8 @@ impl<A: Allocator> Curves<A> {
     pub(crate) fn point_within(&self, curve: Curve, net: i64) -> Point
         requires curve { (periods : List (List Step)) × (least : ℤ) × (most : ℤ)
             × IsCurveAt self.now curve periods least most }
-        requires bottom { curve.bottom ≤ℤ net }
-        requires top { net ≤ℤ curve.top }
+        requires least { curve.least ≤ℤ net }
+        requires most { net ≤ℤ curve.most }
         ensures welfare { (periods : List (List Step)) (least most : ℤ)
             → IsCurveAt self.now curve periods least most
             → Some result.welfare ≡ joint_welfare periods net }
@@ -284,7 +284,7 @@ impl<A: Allocator> Curves<A> {
             };
         }
         let segments = segments_of(&self.segments, curve);
-        let net = net.max(i64::from(curve.bottom)).min(i64::from(curve.top));
+        let net = net.max(i64::from(curve.least)).min(i64::from(curve.most));
         line_in(segments, net, self.place_near(curve, net))
     }
 }
@@ -298,8 +298,8 @@ impl Curve {
         Curve {
             first: 0,
             count: 0,
-            bottom: 0,
-            top: -1,
+            least: 0,
+            most: -1,
             hints: Hints { first: 0, shift: 0 },
         }
     }

@@ -27,8 +27,8 @@ impl Curve {
             → (w : ℤ) × (joint_welfare periods net ≡ Some w) }
     {
         NetRange {
-            least: self.bottom,
-            most: self.top,
+            least: self.least,
+            most: self.most,
         }
     }
 }

@@ -26,7 +26,7 @@ use Rattle.dam_bound.proofs.class_curves.ClassCurves.clear_selection.Goals as go
 abbrev nothing : Class
 nothing = record {
   at = 0;
-  curve = record { first = 0; count = 0; bottom = pos 0; top = pos 0; hints = record { first = 0; shift = 0 } };
+  curve = record { first = 0; count = 0; least = pos 0; most = pos 0; hints = record { first = 0; shift = 0 } };
   nets = [];
 }
 

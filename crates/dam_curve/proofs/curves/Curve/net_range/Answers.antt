@@ -10,12 +10,12 @@ held net b t x y (inr more) e f = inr (omega (arith, ints, more, f))
 
 pub returns-clause-outside : goal.returns-clause-outside
 returns-clause-outside c curves ps least most net is low high apart =
-    let bottom : to_z w32 (of_z w32 c.args.self.bottom) ≡ c.args.self.bottom = search rules in
-    let top : to_z w32 (of_z w32 c.args.self.top) ≡ c.args.self.top = search rules in
+    let bottom : to_z w32 (of_z w32 c.args.self.least) ≡ c.args.self.least = search rules in
+    let top : to_z w32 (of_z w32 c.args.self.most) ≡ c.args.self.most = search rules in
     sym (none_there curves c.args.self ps least most net is low high (held net _ _ _ _ apart bottom top))
 
 pub returns-clause-inside : goal.returns-clause-inside
 returns-clause-inside c curves ps least most net is low high =
-    let bottom : to_z w32 (of_z w32 c.args.self.bottom) ≡ c.args.self.bottom = search rules in
-    let top : to_z w32 (of_z w32 c.args.self.top) ≡ c.args.self.top = search rules in
+    let bottom : to_z w32 (of_z w32 c.args.self.least) ≡ c.args.self.least = search rules in
+    let top : to_z w32 (of_z w32 c.args.self.most) ≡ c.args.self.most = search rules in
     welfare_there curves c.args.self ps least most net is (omega (arith, ints, low, bottom)) (omega (arith, ints, high, top))

@@ -8,7 +8,7 @@ pub place_near-requires-clause-least : goal.place_near-requires-clause-least
 place_near-requires-clause-least g c =
     let some : 0 < c.args.curve.count = search rules in
     let ordered = ordered_there _ c.args.curve _ _ _ c.requires.3 some in
-    (nearest c.args.curve.bottom c.args.curve.top (to_z w64 (of_z w64 c.args.net)) (to_z w64 (of_z w64 c.from.result))
+    (nearest c.args.curve.least c.args.curve.most (to_z w64 (of_z w64 c.args.net)) (to_z w64 (of_z w64 c.from.result))
     (to_z w64 (of_z w64 c.from-2.result)) (to_z w64 (of_z w64 c.max.result)) (to_z w64 (of_z w64 c.min-net.result)) ordered (search rules)
     (search rules) (search rules) (search rules)).0
 
@@ -16,7 +16,7 @@ pub line_in-requires-clause-bottom : goal.line_in-requires-clause-bottom
 line_in-requires-clause-bottom g c =
     let some : 0 < c.args.curve.count = search rules in
     let ordered = ordered_there _ c.args.curve _ _ _ c.requires.3 some in
-    let net = nearest c.args.curve.bottom c.args.curve.top (to_z w64 (of_z w64 c.args.net)) (to_z w64 (of_z w64 c.from.result))
+    let net = nearest c.args.curve.least c.args.curve.most (to_z w64 (of_z w64 c.args.net)) (to_z w64 (of_z w64 c.from.result))
     (to_z w64 (of_z w64 c.from-2.result)) (to_z w64 (of_z w64 c.max.result)) (to_z w64 (of_z w64 c.min-net.result)) ordered (search rules)
     (search rules) (search rules) (search rules) in
     let segments : c.segments_of-segments.result.now ≡ segments_at c.args.self.now.segments c.args.curve = search rules in
@@ -26,7 +26,7 @@ pub line_in-requires-clause-top : goal.line_in-requires-clause-top
 line_in-requires-clause-top g c =
     let some : 0 < c.args.curve.count = search rules in
     let ordered = ordered_there _ c.args.curve _ _ _ c.requires.3 some in
-    let net = nearest c.args.curve.bottom c.args.curve.top (to_z w64 (of_z w64 c.args.net)) (to_z w64 (of_z w64 c.from.result))
+    let net = nearest c.args.curve.least c.args.curve.most (to_z w64 (of_z w64 c.args.net)) (to_z w64 (of_z w64 c.from.result))
     (to_z w64 (of_z w64 c.from-2.result)) (to_z w64 (of_z w64 c.max.result)) (to_z w64 (of_z w64 c.min-net.result)) ordered (search rules)
     (search rules) (search rules) (search rules) in
     let segments : c.segments_of-segments.result.now ≡ segments_at c.args.self.now.segments c.args.curve = search rules in

@@ -9,13 +9,13 @@ pub point_in-requires-clause-bottom : goal.point_in-requires-clause-bottom
 point_in-requires-clause-bottom g c =
     let net : to_z w64 (of_z w64 c.args.net) ≡ c.args.net = search rules in
     let segments : c.segments_of-segments.result.now ≡ segments_at c.args.self.now.segments c.args.curve = search rules in
-    rw segments (ends_there _ c.args.curve _ _ _ c.args.net (to_z w64 (of_z w64 c.args.net)) c.requires.curve.3 net c.requires.bottom c.requires.top).0
+    rw segments (ends_there _ c.args.curve _ _ _ c.args.net (to_z w64 (of_z w64 c.args.net)) c.requires.curve.3 net c.requires.least c.requires.most).0
 
 pub point_in-requires-clause-top : goal.point_in-requires-clause-top
 point_in-requires-clause-top g c =
     let net : to_z w64 (of_z w64 c.args.net) ≡ c.args.net = search rules in
     let segments : c.segments_of-segments.result.now ≡ segments_at c.args.self.now.segments c.args.curve = search rules in
-    rw segments (ends_there _ c.args.curve _ _ _ c.args.net (to_z w64 (of_z w64 c.args.net)) c.requires.curve.3 net c.requires.bottom c.requires.top).1
+    rw segments (ends_there _ c.args.curve _ _ _ c.args.net (to_z w64 (of_z w64 c.args.net)) c.requires.curve.3 net c.requires.least c.requires.most).1
 
 pub returns-clause-welfare : goal.returns-clause-welfare
 returns-clause-welfare g c ps least most is =
