@@ -1,15 +1,15 @@
 -- The search for the first period of a class.
 use Rattle.std.proofs.Common.{◌≡◌, ℕ, suc, ◌+◌, ◌-◌, ◌<◌, ◌≤◌, cond, Bool, true, false, List, ap, ◌∙◌, sym, arith}
 use Rattle.dam_blocks.specs.declared.problem.Block.{Block}
-use Rattle.dam_bound.specs.Classes.{are_alike, first_from, first_of}
+use Rattle.dam_bound.specs.Classes.{are_alike, first_from, first_of_class}
 
 left_over : (at other : ℕ) → other < at → at - other ≡ suc (at - (other + 1))
 left_over at other l = omega (arith, l)
 
 -- the place is alike
 pub alike_found : (blocks : List Block) (at other : ℕ) → other < at → are_alike blocks other at ≡ true
-    → first_from blocks at other (at - other) ≡ first_from blocks at 0 at → other ≡ first_of blocks at
-unfolding first_of
+    → first_from blocks at other (at - other) ≡ first_from blocks at 0 at → other ≡ first_of_class blocks at
+unfolding first_of_class
 alike_found blocks at other l e same =
     sym (ap (first_from blocks at other) (left_over at other l)
     ∙ ap (λ (t : Bool). cond t other (first_from blocks at (suc other) (at - (other + 1)))) e) ∙ same
@@ -26,8 +26,8 @@ apart_found blocks at other l e same =
 
 -- no place before it is
 pub none_found : (blocks : List Block) (at other : ℕ) → at ≤ other → other ≤ at
-    → first_from blocks at other (at - other) ≡ first_from blocks at 0 at → at ≡ first_of blocks at
-unfolding first_of
+    → first_from blocks at other (at - other) ≡ first_from blocks at 0 at → at ≡ first_of_class blocks at
+unfolding first_of_class
 none_found blocks at other l m same =
     let here : other ≡ at = omega (arith, l, m) in
     let none : at - other ≡ 0 = omega (arith, l) in

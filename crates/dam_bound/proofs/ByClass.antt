@@ -14,7 +14,7 @@ use Rattle.dam_blocks.specs.Problem.{ProblemState}
 use Rattle.dam_blocks.specs.Selection.{over_accepted, value_in, net_volume, accepted_value}
 use Rattle.dam_blocks.specs.Eligible.{added, period_welfare, welfare_from, selection_welfare}
 use Rattle.dam_blocks.proofs.Sums.{over_accepted-plus, over_accepted-zero}
-use Rattle.dam_bound.specs.Classes.{first_of, members}
+use Rattle.dam_bound.specs.Classes.{first_of_class, members}
 use Rattle.dam_bound.specs.ClassCurves.{class_orders, day_value}
 use Rattle.dam_bound.specs.Sums.{over_periods, class_places, over_places}
 use Rattle.dam_bound.proofs.ClassPlaces.{over_same, by_class, periods_plus, listed}
@@ -56,14 +56,14 @@ joint_from f blocks sel c i (ss ∷ hours) each =
     let rest = joint_from f blocks sel c (suc i) hours (great_rest f blocks sel i ss hours each) in
     let left = over_class f blocks c (suc i) (length hours) in
     let none : left ≡ pos 0 +ℤ left = omega (arith, ints) in
-    elim (cases_eq (first_of blocks i) c) [
+    elim (cases_eq (first_of_class blocks i) c) [
       | inl e ↦
-          (let yes : (first_of blocks i == c) ≡ true = grind (arith, nat_tests) in
+          (let yes : (first_of_class blocks i == c) ≡ true = grind (arith, nat_tests) in
           ap (λ (t : Bool). joint_welfare (cond t (ss ∷ members blocks c (suc i) hours) (members blocks c (suc i) hours)) net) yes
           ∙ ap₂ both (ap (greatest_welfare ss) (sym (class_net blocks sel i c e)) ∙ here) rest
           ∙ ap (λ (t : Bool). Some (cond t (f (suc i)) (pos 0) +ℤ left)) (sym yes))
       | inr e ↦
-          (let no : (first_of blocks i == c) ≡ false = grind (arith, nat_tests) in
+          (let no : (first_of_class blocks i == c) ≡ false = grind (arith, nat_tests) in
           ap (λ (t : Bool). joint_welfare (cond t (ss ∷ members blocks c (suc i) hours) (members blocks c (suc i) hours)) net) no
           ∙ rest ∙ ap Some none
           ∙ ap (λ (t : Bool). Some (cond t (f (suc i)) (pos 0) +ℤ left)) (sym no))
@@ -71,28 +71,28 @@ joint_from f blocks sel c i (ss ∷ hours) each =
 
 -- if a class has a joint welfare, each of its periods has one
 member_great : (blocks : List Block) (c i : ℕ) (net u : ℤ) (hours : List (List Step)) (k : ℕ) (ss : List Step)
-    → joint_welfare (members blocks c i hours) net ≡ Some u → slice_get hours k ≡ Some ss → first_of blocks (i + k) ≡ c
+    → joint_welfare (members blocks c i hours) net ≡ Some u → slice_get hours k ≡ Some ss → first_of_class blocks (i + k) ≡ c
     → (g : ℤ) × (greatest_welfare ss net ≡ Some g)
 member_great blocks c i net u [] k ss e at own = absurd (cc)
 member_great blocks c i net u (hour ∷ hours) zero ss e at own =
     let none : i + 0 ≡ i = omega arith in
-    let here : first_of blocks i ≡ c = ap (first_of blocks) (sym none) ∙ own in
-    let yes : (first_of blocks i == c) ≡ true = grind (arith, nat_tests) in
+    let here : first_of_class blocks i ≡ c = ap (first_of_class blocks) (sym none) ∙ own in
+    let yes : (first_of_class blocks i == c) ≡ true = grind (arith, nat_tests) in
     let parts = both_some (greatest_welfare hour net) (joint_welfare (members blocks c (suc i) hours) net) u
     (ap (λ (t : Bool). joint_welfare (cond t (hour ∷ members blocks c (suc i) hours) (members blocks c (suc i) hours)) net) (sym yes) ∙ e) in
     let same : hour ≡ ss = cc in
     (parts.0, subst (λ (hs : List Step). greatest_welfare hs net ≡ Some parts.0) same parts.2)
 member_great blocks c i net u (hour ∷ hours) (suc k) ss e at own =
     let next : i + suc k ≡ suc i + k = omega arith in
-    let there : first_of blocks (suc i + k) ≡ c = ap (first_of blocks) (sym next) ∙ own in
-    elim (cases_eq (first_of blocks i) c) [
+    let there : first_of_class blocks (suc i + k) ≡ c = ap (first_of_class blocks) (sym next) ∙ own in
+    elim (cases_eq (first_of_class blocks i) c) [
       | inl is ↦
-          (let yes : (first_of blocks i == c) ≡ true = grind (arith, nat_tests) in
+          (let yes : (first_of_class blocks i == c) ≡ true = grind (arith, nat_tests) in
           let parts = both_some (greatest_welfare hour net) (joint_welfare (members blocks c (suc i) hours) net) u
           (ap (λ (t : Bool). joint_welfare (cond t (hour ∷ members blocks c (suc i) hours) (members blocks c (suc i) hours)) net) (sym yes) ∙ e) in
           member_great blocks c (suc i) net parts.1 hours k ss parts.3 at there)
       | inr is ↦
-          (let no : (first_of blocks i == c) ≡ false = grind (arith, nat_tests) in
+          (let no : (first_of_class blocks i == c) ≡ false = grind (arith, nat_tests) in
           member_great blocks c (suc i) net u hours k ss
           (ap (λ (t : Bool). joint_welfare (cond t (hour ∷ members blocks c (suc i) hours) (members blocks c (suc i) hours)) net) (sym no) ∙ e)
           at there)
@@ -212,12 +212,12 @@ from_classes problem sel classes = whole_is problem sel (all_great problem sel (
         → (g : ℤ) × (greatest_welfare ss (net_volume problem.blocks sel (suc k)) ≡ Some g)
     period k ss at =
         let blocks = problem.blocks in
-        let c = first_of blocks k in
+        let c = first_of_class blocks k in
         let inside = slice_get_within problem.hours k ss at in
         let below = first_most blocks k in
         let place = listed blocks 0 (length problem.hours) c (first_first blocks k) (omega arith) (omega (arith, inside, below)) in
         let joint = classes place.0 c place.1 in
-        let found = member_great blocks c 0 (net_volume blocks sel (suc c)) joint.0 problem.hours k ss joint.1 at (ap (first_of blocks) (none k)) in
+        let found = member_great blocks c 0 (net_volume blocks sel (suc c)) joint.0 problem.hours k ss joint.1 at (ap (first_of_class blocks) (none k)) in
         (found.0, ap (greatest_welfare ss) (class_net blocks sel k c refl) ∙ found.1)
       where
         none : (n : ℕ) → 0 + n ≡ n

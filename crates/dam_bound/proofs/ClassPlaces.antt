@@ -8,7 +8,7 @@ use Rattle.std.proofs.lemmas.Bool.Decides.{nat_tests}
 use borrow.Author.Differences.{up, down}
 use Rattle.dam_blocks.specs.declared.problem.Block.{Block}
 use Rattle.dam_blocks.specs.Magnitude.{IsWithin}
-use Rattle.dam_bound.specs.Classes.{first_of}
+use Rattle.dam_bound.specs.Classes.{first_of_class}
 use Rattle.dam_bound.specs.Sums.{over_periods, firsts_from, over_places}
 use Rattle.dam_bound.proofs.Classing.{over_class, first_first, class_elsewhere, over_classes}
 use Rattle.dam_bound.proofs.Levelling.{drop_at}
@@ -86,35 +86,35 @@ take_get (y ∷ xs) (suc n) zero x at = (at, omega arith)
 take_get (y ∷ xs) (suc n) (suc j) x at = let rest = take_get xs n j x at in let l = rest.1 in (rest.0, omega (arith, l))
 
 -- ---- the places
-at_first : (blocks : List Block) (c n : ℕ) → first_of blocks c ≡ c → firsts_from blocks c (suc n) ≡ c ∷ firsts_from blocks (suc c) n
+at_first : (blocks : List Block) (c n : ℕ) → first_of_class blocks c ≡ c → firsts_from blocks c (suc n) ≡ c ∷ firsts_from blocks (suc c) n
 at_first blocks c n e =
-    let same : (first_of blocks c == c) ≡ true = grind (arith, nat_tests) in
+    let same : (first_of_class blocks c == c) ≡ true = grind (arith, nat_tests) in
     ap (λ (t : Bool). cond t (c ∷ firsts_from blocks (suc c) n) (firsts_from blocks (suc c) n)) same
 
-at_other : (blocks : List Block) (c n : ℕ) → first_of blocks c ≢ c → firsts_from blocks c (suc n) ≡ firsts_from blocks (suc c) n
+at_other : (blocks : List Block) (c n : ℕ) → first_of_class blocks c ≢ c → firsts_from blocks c (suc n) ≡ firsts_from blocks (suc c) n
 at_other blocks c n e =
-    let apart : (first_of blocks c == c) ≡ false = grind (arith, nat_tests) in
+    let apart : (first_of_class blocks c == c) ≡ false = grind (arith, nat_tests) in
     ap (λ (t : Bool). cond t (c ∷ firsts_from blocks (suc c) n) (firsts_from blocks (suc c) n)) apart
 
 -- a class begins at each of them
 pub record IsPlace (blocks : List Block) (c n k : ℕ) : Type 0 where
-  pub first : first_of blocks k ≡ k
+  pub first : first_of_class blocks k ≡ k
   pub from : c ≤ k
   pub below : k < c + n
 
-place_here : (blocks : List Block) (c n k : ℕ) → first_of blocks c ≡ c
+place_here : (blocks : List Block) (c n k : ℕ) → first_of_class blocks c ≡ c
     → ((i : ℕ) → slice_get (firsts_from blocks (suc c) n) i ≡ Some k → IsPlace blocks (suc c) n k)
     → (j : ℕ) → slice_get (c ∷ firsts_from blocks (suc c) n) j ≡ Some k → IsPlace blocks c (suc n) k
 place_here blocks c n k e others zero at =
     let same : c ≡ k = cc in
-    record { first = subst (λ (m : ℕ). first_of blocks m ≡ m) same e; from = omega (arith, same); below = omega (arith, same) }
+    record { first = subst (λ (m : ℕ). first_of_class blocks m ≡ m) same e; from = omega (arith, same); below = omega (arith, same) }
 place_here blocks c n k e others (suc j) at =
     let rest = others j at in let from = rest.from in let below = rest.below in
     record { first = rest.first; from = omega (arith, from); below = omega (arith, below) }
 
 pub is_place : (blocks : List Block) (c n j k : ℕ) → slice_get (firsts_from blocks c n) j ≡ Some k → IsPlace blocks c n k
 is_place blocks c zero j k at = absurd (cc)
-is_place blocks c (suc n) j k at = elim (cases_eq (first_of blocks c) c) [
+is_place blocks c (suc n) j k at = elim (cases_eq (first_of_class blocks c) c) [
   | inl e ↦
       place_here blocks c n k e (λ i found. is_place blocks (suc c) n i k found) j
       (ap (λ (ps : List ℕ). slice_get ps j) (sym (at_first blocks c n e)) ∙ at)
@@ -125,16 +125,16 @@ is_place blocks c (suc n) j k at = elim (cases_eq (first_of blocks c) c) [
 ]
 
 -- and each class begins at one of them
-pub listed : (blocks : List Block) (c n k : ℕ) → first_of blocks k ≡ k → c ≤ k → k < c + n
+pub listed : (blocks : List Block) (c n k : ℕ) → first_of_class blocks k ≡ k → c ≤ k → k < c + n
     → (j : ℕ) × (slice_get (firsts_from blocks c n) j ≡ Some k)
 listed blocks c zero k e l m = absurd (omega (arith, l, m))
 listed blocks c (suc n) k e l m = elim (cases_eq c k) [
   | inl same ↦
-      (let here = at_first blocks c n (subst (λ (m : ℕ). first_of blocks m ≡ m) (sym same) e) in
+      (let here = at_first blocks c n (subst (λ (m : ℕ). first_of_class blocks m ≡ m) (sym same) e) in
       (0, ap (λ (ps : List ℕ). slice_get ps 0) here ∙ ap (λ (m : ℕ). Some m) same))
   | inr apart ↦
       (let rest = listed blocks (suc c) n k e (omega (arith, l, apart)) (omega (arith, m)) in
-      elim (cases_eq (first_of blocks c) c) [
+      elim (cases_eq (first_of_class blocks c) c) [
         | inl own ↦ (suc rest.0, ap (λ (ps : List ℕ). slice_get ps (suc rest.0)) (at_first blocks c n own) ∙ rest.1)
         | inr other ↦ (rest.0, ap (λ (ps : List ℕ). slice_get ps rest.0) (at_other blocks c n other) ∙ rest.1)
       ])
@@ -144,7 +144,7 @@ pub few_places : (blocks : List Block) (c n : ℕ) → length (firsts_from block
 few_places blocks c zero = omega arith
 few_places blocks c (suc n) =
     let rest = few_places blocks (suc c) n in
-    elim (first_of blocks c == c) as (λ (t : Bool). length (cond t (c ∷ firsts_from blocks (suc c) n) (firsts_from blocks (suc c) n)) ≤ suc n) [
+    elim (first_of_class blocks c == c) as (λ (t : Bool). length (cond t (c ∷ firsts_from blocks (suc c) n) (firsts_from blocks (suc c) n)) ≤ suc n) [
       | true ↦ omega (arith, rest)
       | false ↦ omega (arith, rest)
     ]
@@ -162,7 +162,7 @@ rising_here blocks c n a b others (suc i) (suc j) at there l = others i j at the
 pub rising : (blocks : List Block) (c n i j a b : ℕ) → slice_get (firsts_from blocks c n) i ≡ Some a → slice_get (firsts_from blocks c n) j ≡ Some b
     → i < j → a < b
 rising blocks c zero i j a b at there l = absurd (cc)
-rising blocks c (suc n) i j a b at there l = elim (cases_eq (first_of blocks c) c) [
+rising blocks c (suc n) i j a b at there l = elim (cases_eq (first_of_class blocks c) c) [
   | inl e ↦
       rising_here blocks c n a b (λ k m f g less. rising blocks (suc c) n k m a b f g less) i j
       (ap (λ (ps : List ℕ). slice_get ps i) (sym (at_first blocks c n e)) ∙ at)
@@ -173,16 +173,16 @@ rising blocks c (suc n) i j a b at there l = elim (cases_eq (first_of blocks c) 
 ]
 
 -- one period more
-pub place_more : (blocks : List Block) (c n : ℕ) → first_of blocks (c + n) ≡ c + n
+pub place_more : (blocks : List Block) (c n : ℕ) → first_of_class blocks (c + n) ≡ c + n
     → firsts_from blocks c (suc n) ≡ firsts_from blocks c n ++ (c + n) ∷ []
 place_more blocks c zero e =
     let same : c + 0 ≡ c = omega arith in
-    at_first blocks c 0 (subst (λ (m : ℕ). first_of blocks m ≡ m) same e) ∙ ap (λ (m : ℕ). m ∷ []) (sym same)
+    at_first blocks c 0 (subst (λ (m : ℕ). first_of_class blocks m ≡ m) same e) ∙ ap (λ (m : ℕ). m ∷ []) (sym same)
 place_more blocks c (suc n) e =
     let number : c + suc n ≡ suc c + n = omega arith in
-    let rest = place_more blocks (suc c) n (subst (λ (m : ℕ). first_of blocks m ≡ m) number e)
+    let rest = place_more blocks (suc c) n (subst (λ (m : ℕ). first_of_class blocks m ≡ m) number e)
     ∙ ap (λ (m : ℕ). firsts_from blocks (suc c) n ++ m ∷ []) (sym number) in
-    elim (cases_eq (first_of blocks c) c) [
+    elim (cases_eq (first_of_class blocks c) c) [
       | inl own ↦
           at_first blocks c (suc n) own ∙ ap (λ (ps : List ℕ). c ∷ ps) rest
           ∙ ap (λ (ps : List ℕ). ps ++ (c + suc n) ∷ []) (sym (at_first blocks c n own))
@@ -190,14 +190,14 @@ place_more blocks c (suc n) e =
           at_other blocks c (suc n) other ∙ rest ∙ ap (λ (ps : List ℕ). ps ++ (c + suc n) ∷ []) (sym (at_other blocks c n other))
     ]
 
-pub place_none : (blocks : List Block) (c n : ℕ) → first_of blocks (c + n) ≢ c + n → firsts_from blocks c (suc n) ≡ firsts_from blocks c n
+pub place_none : (blocks : List Block) (c n : ℕ) → first_of_class blocks (c + n) ≢ c + n → firsts_from blocks c (suc n) ≡ firsts_from blocks c n
 place_none blocks c zero e =
     let same : c + 0 ≡ c = omega arith in
-    at_other blocks c 0 (subst (λ (m : ℕ). first_of blocks m ≢ m) same e)
+    at_other blocks c 0 (subst (λ (m : ℕ). first_of_class blocks m ≢ m) same e)
 place_none blocks c (suc n) e =
     let number : c + suc n ≡ suc c + n = omega arith in
-    let rest = place_none blocks (suc c) n (subst (λ (m : ℕ). first_of blocks m ≢ m) number e) in
-    elim (cases_eq (first_of blocks c) c) [
+    let rest = place_none blocks (suc c) n (subst (λ (m : ℕ). first_of_class blocks m ≢ m) number e) in
+    elim (cases_eq (first_of_class blocks c) c) [
       | inl own ↦ at_first blocks c (suc n) own ∙ ap (λ (ps : List ℕ). c ∷ ps) rest ∙ sym (at_first blocks c n own)
       | inr other ↦ at_other blocks c (suc n) other ∙ rest ∙ sym (at_other blocks c n other)
     ]
@@ -208,17 +208,17 @@ same_from f t zero = refl
 same_from f t (suc n) = ap (λ (z : ℤ). f t +ℤ z) (same_from f (suc t) n)
 
 -- no period is of a class that begins at a place at which none begins
-none_of : (f : ℕ → ℤ) (blocks : List Block) (c i n : ℕ) → first_of blocks c ≢ c → over_class f blocks c i n ≡ pos 0
+none_of : (f : ℕ → ℤ) (blocks : List Block) (c i n : ℕ) → first_of_class blocks c ≢ c → over_class f blocks c i n ≡ pos 0
 none_of f blocks c i zero e = refl
 none_of f blocks c i (suc n) e =
-    class_elsewhere f blocks c i n (λ same. e (ap (first_of blocks) (sym same) ∙ first_first blocks i ∙ same)) ∙ none_of f blocks c (suc i) n e
+    class_elsewhere f blocks c i n (λ same. e (ap (first_of_class blocks) (sym same) ∙ first_first blocks i ∙ same)) ∙ none_of f blocks c (suc i) n e
 
-places_alone : (g : ℕ → ℤ) (blocks : List Block) (c n : ℕ) → ((k : ℕ) → first_of blocks k ≢ k → g k ≡ pos 0)
+places_alone : (g : ℕ → ℤ) (blocks : List Block) (c n : ℕ) → ((k : ℕ) → first_of_class blocks k ≢ k → g k ≡ pos 0)
     → sum_from g c n ≡ over_places g (firsts_from blocks c n)
 places_alone g blocks c zero none = refl
 places_alone g blocks c (suc n) none =
     let rest = places_alone g blocks (suc c) n none in
-    elim (cases_eq (first_of blocks c) c) [
+    elim (cases_eq (first_of_class blocks c) c) [
       | inl e ↦ ap (λ (z : ℤ). g c +ℤ z) rest ∙ ap (over_places g) (sym (at_first blocks c n e))
       | inr e ↦
           (let nothing = none c e in let same = ap (over_places g) (at_other blocks c n e) in omega (arith, ints, rest, nothing, same))
@@ -248,7 +248,7 @@ pub class_times : (f : ℕ → ℤ) (z : ℤ) (blocks : List Block) (c i n : ℕ
 class_times f z blocks c i zero = omega (arith, ints)
 class_times f z blocks c i (suc n) =
     let rest = class_times f z blocks c (suc i) n in
-    elim (first_of blocks i == c) as (λ t. cond t (z *ℤ f (suc i)) (pos 0) +ℤ over_class (λ t. z *ℤ f t) blocks c (suc i) n
+    elim (first_of_class blocks i == c) as (λ t. cond t (z *ℤ f (suc i)) (pos 0) +ℤ over_class (λ t. z *ℤ f t) blocks c (suc i) n
     ≡ z *ℤ (cond t (f (suc i)) (pos 0) +ℤ over_class f blocks c (suc i) n)) [
       | true ↦ ap (λ (x : ℤ). z *ℤ f (suc i) +ℤ x) rest ∙ sym (times_plus z (f (suc i)) (over_class f blocks c (suc i) n))
       | false ↦

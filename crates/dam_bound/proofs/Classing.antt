@@ -9,7 +9,7 @@ use Rattle.dam_book.specs.Terms.{BlockTerms}
 use Rattle.dam_hour.specs.Best.{signed}
 use Rattle.dam_blocks.specs.declared.problem.Block.{Block}
 use Rattle.dam_blocks.specs.Selection.{volume_in, over_accepted, net_volume_of_block, net_volume}
-use Rattle.dam_bound.specs.Classes.{are_alike, first_from, first_of}
+use Rattle.dam_bound.specs.Classes.{are_alike, first_from, first_of_class}
 use Rattle.dam_bound.proofs.Worth.{sum_from}
 
 -- ---- alike periods
@@ -102,34 +102,34 @@ least_from blocks i j (suc left) s e l m f =
       ]
     ] refl
 
-pub first_most : (blocks : List Block) (i : ℕ) → first_of blocks i ≤ i
-unfolding first_of
+pub first_most : (blocks : List Block) (i : ℕ) → first_of_class blocks i ≤ i
+unfolding first_of_class
 first_most blocks i = (found_from blocks i 0 i (omega arith)).0
 
-pub first_alike : (blocks : List Block) (i : ℕ) → are_alike blocks (first_of blocks i) i ≡ true
-unfolding first_of
+pub first_alike : (blocks : List Block) (i : ℕ) → are_alike blocks (first_of_class blocks i) i ≡ true
+unfolding first_of_class
 first_alike blocks i = (found_from blocks i 0 i (omega arith)).1
 
-first_least : (blocks : List Block) (i s : ℕ) → s ≤ i → are_alike blocks s i ≡ true → first_of blocks i ≤ s
-unfolding first_of
+first_least : (blocks : List Block) (i s : ℕ) → s ≤ i → are_alike blocks s i ≡ true → first_of_class blocks i ≤ s
+unfolding first_of_class
 first_least blocks i s m f = least_from blocks i 0 i s (omega arith) (omega arith) m f
 
-pub first_first : (blocks : List Block) (i : ℕ) → first_of blocks (first_of blocks i) ≡ first_of blocks i
+pub first_first : (blocks : List Block) (i : ℕ) → first_of_class blocks (first_of_class blocks i) ≡ first_of_class blocks i
 first_first blocks i =
-    let c = first_of blocks i in
+    let c = first_of_class blocks i in
     let below = first_most blocks c in
     let up = first_most blocks i in
-    let least = first_least blocks i (first_of blocks c) (omega (arith, below, up))
-    (alike_chain blocks (first_of blocks c) c i (first_alike blocks c) (first_alike blocks i)) in
+    let least = first_least blocks i (first_of_class blocks c) (omega (arith, below, up))
+    (alike_chain blocks (first_of_class blocks c) c i (first_alike blocks c) (first_alike blocks i)) in
     omega (arith, below, least)
 
 -- the net volume of a period is the net volume of the first one of its class
-pub class_net : (blocks : List Block) (sel : List Bool) (i c : ℕ) → first_of blocks i ≡ c
+pub class_net : (blocks : List Block) (sel : List Bool) (i c : ℕ) → first_of_class blocks i ≡ c
     → net_volume blocks sel (suc i) ≡ net_volume blocks sel (suc c)
 class_net blocks sel i c e =
     sym (alike_net blocks sel c i (subst (λ (k : ℕ). are_alike blocks k i ≡ true) e (first_alike blocks i)))
 
-pub class_volume : (blocks : List Block) (i c k : ℕ) (b : Block) → first_of blocks i ≡ c → slice_get blocks k ≡ Some b
+pub class_volume : (blocks : List Block) (i c k : ℕ) (b : Block) → first_of_class blocks i ≡ c → slice_get blocks k ≡ Some b
     → volume_in b.order.volumes (suc i) ≡ volume_in b.order.volumes (suc c)
 class_volume blocks i c k b e at =
     sym (alike_volume blocks c i k b (subst (λ (k : ℕ). are_alike blocks k i ≡ true) e (first_alike blocks i)) at)
@@ -138,31 +138,31 @@ class_volume blocks i c k b e at =
 -- a number of each of the periods from the place i on whose class begins at c, added up
 abbrev pub over_class : (ℕ → ℤ) → List Block → ℕ → ℕ → ℕ → ℤ
 over_class f blocks c i zero = pos 0
-over_class f blocks c i (suc n) = cond (first_of blocks i == c) (f (suc i)) (pos 0) +ℤ over_class f blocks c (suc i) n
+over_class f blocks c i (suc n) = cond (first_of_class blocks i == c) (f (suc i)) (pos 0) +ℤ over_class f blocks c (suc i) n
 
-pub class_here : (f : ℕ → ℤ) (blocks : List Block) (c i n : ℕ) → first_of blocks i ≡ c
+pub class_here : (f : ℕ → ℤ) (blocks : List Block) (c i n : ℕ) → first_of_class blocks i ≡ c
     → over_class f blocks c i (suc n) ≡ f (suc i) +ℤ over_class f blocks c (suc i) n
 class_here f blocks c i n e =
-    let same : (first_of blocks i == c) ≡ true = grind (arith, nat_tests) in
+    let same : (first_of_class blocks i == c) ≡ true = grind (arith, nat_tests) in
     ap (λ (t : Bool). cond t (f (suc i)) (pos 0) +ℤ over_class f blocks c (suc i) n) same
 
-pub class_elsewhere : (f : ℕ → ℤ) (blocks : List Block) (c i n : ℕ) → first_of blocks i ≢ c
+pub class_elsewhere : (f : ℕ → ℤ) (blocks : List Block) (c i n : ℕ) → first_of_class blocks i ≢ c
     → over_class f blocks c i (suc n) ≡ over_class f blocks c (suc i) n
 class_elsewhere f blocks c i n e =
-    let apart : (first_of blocks i == c) ≡ false = grind (arith, nat_tests) in
+    let apart : (first_of_class blocks i == c) ≡ false = grind (arith, nat_tests) in
     let step = ap (λ (t : Bool). cond t (f (suc i)) (pos 0) +ℤ over_class f blocks c (suc i) n) apart in
     omega (arith, ints, step)
 
 -- the same number of each member
 pub same_class : (f g : ℕ → ℤ) (blocks : List Block) (c i n : ℕ)
-    → ((k : ℕ) → i ≤ k → k < i + n → first_of blocks k ≡ c → f (suc k) ≡ g (suc k))
+    → ((k : ℕ) → i ≤ k → k < i + n → first_of_class blocks k ≡ c → f (suc k) ≡ g (suc k))
     → over_class f blocks c i n ≡ over_class g blocks c i n
 same_class f g blocks c i zero each = refl
 same_class f g blocks c i (suc n) each =
     let rest = same_class f g blocks c (suc i) n (λ k l m e. each k (omega (arith, l)) (omega (arith, m)) e) in
-    elim (first_of blocks i == c) as (λ t. (first_of blocks i == c) ≡ t
+    elim (first_of_class blocks i == c) as (λ t. (first_of_class blocks i == c) ≡ t
     → cond t (f (suc i)) (pos 0) +ℤ over_class f blocks c (suc i) n ≡ cond t (g (suc i)) (pos 0) +ℤ over_class g blocks c (suc i) n) [
-      | true ↦ λ e. ap₂ (λ (a b : ℤ). a +ℤ b) (each i (omega arith) (omega arith) (equal_from (first_of blocks i) c e)) rest
+      | true ↦ λ e. ap₂ (λ (a b : ℤ). a +ℤ b) (each i (omega arith) (omega arith) (equal_from (first_of_class blocks i) c e)) rest
       | false ↦ λ e. ap (λ (b : ℤ). pos 0 +ℤ b) rest
     ] refl
 
@@ -204,7 +204,7 @@ pub over_classes : (f : ℕ → ℤ) (blocks : List Block) (i n m : ℕ) → i +
 over_classes f blocks i zero m l = none_in 0 m
 over_classes f blocks i (suc n) m l =
     let first = first_most blocks i in
-    let one = at_one (f (suc i)) (first_of blocks i) 0 m (omega arith) (omega (arith, first, l)) in
+    let one = at_one (f (suc i)) (first_of_class blocks i) 0 m (omega arith) (omega (arith, first, l)) in
     let rest = over_classes f blocks (suc i) n m (omega (arith, l)) in
-    let parts = sum_plus (λ c. cond (first_of blocks i == c) (f (suc i)) (pos 0)) (λ c. over_class f blocks c (suc i) n) 0 m in
+    let parts = sum_plus (λ c. cond (first_of_class blocks i == c) (f (suc i)) (pos 0)) (λ c. over_class f blocks c (suc i) n) 0 m in
     omega (arith, ints, one, rest, parts)

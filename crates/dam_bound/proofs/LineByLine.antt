@@ -18,7 +18,7 @@ use Rattle.dam_curve.specs.declared.line.Line.{Line}
 use Rattle.dam_blocks.specs.Problem.{ProblemState, AreBlocks}
 use Rattle.dam_blocks.specs.Magnitude.{IsWithin}
 use Rattle.dam_blocks.specs.Selection.{net_volume_of_block}
-use Rattle.dam_bound.specs.Classes.{first_of}
+use Rattle.dam_bound.specs.Classes.{first_of_class}
 use Rattle.dam_bound.specs.ClassCurves.{day_value, IsClassIn, AreClasses, AreClassCurves}
 use Rattle.dam_bound.specs.Prices.{line_in, IsClassLine, IsByLines, IsPricing}
 use Rattle.dam_bound.specs.Sums.{class_places, over_places, at_places}
@@ -43,7 +43,7 @@ mapped_long f (x ∷ xs) = ap suc (mapped_long f xs)
 -- the class at a place of the list begins at its place
 pub record IsAtPlace (problem : ProblemState) (j c : ℕ) : Type 0 where
   pub place : slice_get (class_places problem) j ≡ Some c
-  pub first : first_of problem.blocks c ≡ c
+  pub first : first_of_class problem.blocks c ≡ c
   pub inside : c < length problem.hours
   pub below : c < last_period
   pub index : j < last_period

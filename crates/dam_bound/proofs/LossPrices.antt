@@ -24,7 +24,7 @@ use Rattle.dam_blocks.specs.Selection.{accepts, over_accepted, net_volume_of_blo
 use Rattle.dam_blocks.specs.Family.{names, parent_among, parent_place, leads_to, descends, accepted_descendants}
 use Rattle.dam_blocks.specs.Eligible.{ArePrices, surplus_from, surplus_of, family_surplus}
 use Rattle.dam_blocks.proofs.Sums.{surplus_split}
-use Rattle.dam_bound.specs.Classes.{first_of, members}
+use Rattle.dam_bound.specs.Classes.{first_of_class, members}
 use Rattle.dam_bound.specs.ClassCurves.{class_orders, day_value}
 use Rattle.dam_bound.specs.Sums.{over_periods, class_places, over_places}
 use Rattle.dam_bound.proofs.ClassPlaces.{over_same, by_class, class_times, periods_plus, turned}
@@ -52,9 +52,9 @@ joint_price_from law p blocks sel c i [] (x ∷ prices) price are each is = absu
 joint_price_from law p blocks sel c i (ss ∷ hours) [] price are each is = absurd are
 joint_price_from law p blocks sel c i (ss ∷ hours) (x ∷ prices) price are each is =
     let net = net_volume blocks sel (suc c) in
-    elim (cases_eq (first_of blocks i) c) [
+    elim (cases_eq (first_of_class blocks i) c) [
       | inl e ↦
-          (let yes : (first_of blocks i == c) ≡ true = grind (arith, nat_tests) in
+          (let yes : (first_of_class blocks i == c) ≡ true = grind (arith, nat_tests) in
           let own = subst (λ (t : Bool). IsJointPrice (cond t (ss ∷ members blocks c (suc i) hours) (members blocks c (suc i) hours)) net price) yes is in
           let rest = joint_price_from law p blocks sel c (suc i) hours prices own.2 are.1 (prices_rest p i x prices each) own.4 in
           let ends = subst (λ (z : ℤ). AreEnds ss z are.0.low are.0.high) (class_net blocks sel i c e) are.0.ends in
@@ -65,7 +65,7 @@ joint_price_from law p blocks sel c i (ss ∷ hours) (x ∷ prices) price are ea
           let step = class_here p blocks c i (length hours) e in
           omega (arith, ints, sum, rest, between, here, step))
       | inr e ↦
-          (let no : (first_of blocks i == c) ≡ false = grind (arith, nat_tests) in
+          (let no : (first_of_class blocks i == c) ≡ false = grind (arith, nat_tests) in
           let own = subst (λ (t : Bool). IsJointPrice (cond t (ss ∷ members blocks c (suc i) hours) (members blocks c (suc i) hours)) net price) no is in
           joint_price_from law p blocks sel c (suc i) hours prices price are.1 (prices_rest p i x prices each) own
           ∙ sym (class_elsewhere p blocks c i (length hours) e))

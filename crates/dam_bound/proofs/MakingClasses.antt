@@ -18,7 +18,7 @@ use Rattle.dam_blocks.specs.declared.problem.Block.{Block}
 use Rattle.dam_blocks.specs.Problem.{ProblemState, AreBlocks}
 use Rattle.dam_blocks.specs.Magnitude.{IsWithin}
 use Rattle.dam_blocks.specs.Selection.{net_volume_of_block}
-use Rattle.dam_bound.specs.Classes.{first_of, members}
+use Rattle.dam_bound.specs.Classes.{first_of_class, members}
 use Rattle.dam_bound.specs.ClassCurves.{class_orders, least_net_in, most_net_in, IsClassIn, AreClasses}
 use Rattle.dam_bound.specs.Sums.{firsts_from, at_places, over_periods}
 use Rattle.dam_bound.specs.declared.class_curves.Class.{Class}
@@ -93,9 +93,9 @@ abbrev pub orders_from : ProblemState → ℕ → ℕ → List (List Step)
 orders_from problem c at = members problem.blocks c at (drop at problem.hours)
 
 pub member_here : (problem : ProblemState) (c at : ℕ) (ss : List Step) → slice_get problem.hours at ≡ Some ss
-    → first_of problem.blocks at ≡ c → orders_from problem c at ≡ ss ∷ orders_from problem c (at + 1)
+    → first_of_class problem.blocks at ≡ c → orders_from problem c at ≡ ss ∷ orders_from problem c (at + 1)
 member_here problem c at ss there e =
-    let same : (first_of problem.blocks at == c) ≡ true = grind (arith, nat_tests) in
+    let same : (first_of_class problem.blocks at == c) ≡ true = grind (arith, nat_tests) in
     let next : suc at ≡ at + 1 = omega arith in
     let later = drop (at + 1) problem.hours in
     ap (members problem.blocks c at) (drop_at problem.hours at ss there)
@@ -103,9 +103,9 @@ member_here problem c at ss there e =
     ∙ ap (λ (n : ℕ). ss ∷ members problem.blocks c n later) next
 
 pub member_elsewhere : (problem : ProblemState) (c at : ℕ) (ss : List Step) → slice_get problem.hours at ≡ Some ss
-    → first_of problem.blocks at ≢ c → orders_from problem c at ≡ orders_from problem c (at + 1)
+    → first_of_class problem.blocks at ≢ c → orders_from problem c at ≡ orders_from problem c (at + 1)
 member_elsewhere problem c at ss there e =
-    let apart : (first_of problem.blocks at == c) ≡ false = grind (arith, nat_tests) in
+    let apart : (first_of_class problem.blocks at == c) ≡ false = grind (arith, nat_tests) in
     let next : suc at ≡ at + 1 = omega arith in
     let later = drop (at + 1) problem.hours in
     ap (members problem.blocks c at) (drop_at problem.hours at ss there)
@@ -116,7 +116,7 @@ few_members : (blocks : List Block) (c i : ℕ) (hours : List (List Step)) → l
 few_members blocks c i [] = omega arith
 few_members blocks c i (ss ∷ hours) =
     let rest = few_members blocks c (suc i) hours in
-    elim (first_of blocks i == c) as (λ t.
+    elim (first_of_class blocks i == c) as (λ t.
     length (cond t (ss ∷ members blocks c (suc i) hours) (members blocks c (suc i) hours)) ≤ suc (length hours)) [
       | true ↦ omega (arith, rest)
       | false ↦ omega (arith, rest)
@@ -139,14 +139,14 @@ abbrev pub IsCurveFrom : ProblemState → ℕ → List ℤ → ℕ → List Segm
 IsCurveFrom problem c nets at segments = IsCurve (orders_from problem c at) (negative_sum nets) (positive_sum nets) segments
 
 pub curve_kept : (problem : ProblemState) (c : ℕ) (nets : List ℤ) (at : ℕ) (ss : List Step) (segments : List Segment)
-    → slice_get problem.hours at ≡ Some ss → first_of problem.blocks at ≢ c
+    → slice_get problem.hours at ≡ Some ss → first_of_class problem.blocks at ≢ c
     → IsCurveFrom problem c nets (at + 1) segments → IsCurveFrom problem c nets at segments
 curve_kept problem c nets at ss segments there apart is =
     subst (λ (hs : List (List Step)). IsCurve hs (negative_sum nets) (positive_sum nets) segments)
     (sym (member_elsewhere problem c at ss there apart)) is
 
 pub curve_more : (problem : ProblemState) (c : ℕ) (nets : List ℤ) (at : ℕ) (ss : List Step) (segments : List Segment)
-    → slice_get problem.hours at ≡ Some ss → first_of problem.blocks at ≡ c
+    → slice_get problem.hours at ≡ Some ss → first_of_class problem.blocks at ≡ c
     → IsCurve (ss ∷ orders_from problem c (at + 1)) (negative_sum nets) (positive_sum nets) segments
     → IsCurveFrom problem c nets at segments
 curve_more problem c nets at ss segments there same is =
@@ -179,7 +179,7 @@ at_end (z ∷ xs) x P each own zero y at = each 0 y at
 at_end (z ∷ xs) x P each own (suc j) y at = at_end xs x P (λ k w there. each (suc k) w there) own j y at
 
 pub one_class : (problem : ProblemState) (before after : CurvesState) (at : ℕ) (classes : List Class) (class : Class) → Keeps before after
-    → first_of problem.blocks at ≡ at → class.first_period ≡ at → length problem.blocks ≤ most_blocks
+    → first_of_class problem.blocks at ≡ at → class.first_period ≡ at → length problem.blocks ≤ most_blocks
     → IsCurveAt after class.curve (class_orders problem at) (negative_sum class.nets) (positive_sum class.nets)
     → class.nets ≡ at_places most_blocks (net_volume_of_block (at + 1)) problem.blocks
     → AreClassesSoFar problem before at classes → AreClassesSoFar problem after (at + 1) (classes ++ class ∷ [])
@@ -188,7 +188,7 @@ one_class problem before after at classes class keeps first same few curve nets 
     let none : 0 + at ≡ at = omega arith in
     let number : suc at ≡ at + 1 = omega arith in
     let blocks = problem.blocks in
-    let more = place_more blocks 0 at (ap (first_of blocks) none ∙ first ∙ sym none) in
+    let more = place_more blocks 0 at (ap (first_of_class blocks) none ∙ first ∙ sym none) in
     let low = ap negative_sum nets ∙ least_is most_blocks (at + 1) blocks few in
     let high = ap positive_sum nets ∙ most_is most_blocks (at + 1) blocks few in
     let own : IsClassIn problem after class = record {
@@ -204,14 +204,14 @@ one_class problem before after at classes class keeps first same few curve nets 
       each = at_end classes class (IsClassIn problem after) was.each own;
     }
 
-pub no_new_class : (problem : ProblemState) (curves : CurvesState) (at : ℕ) (classes : List Class) → first_of problem.blocks at ≢ at
+pub no_new_class : (problem : ProblemState) (curves : CurvesState) (at : ℕ) (classes : List Class) → first_of_class problem.blocks at ≢ at
     → AreClassesSoFar problem curves at classes → AreClassesSoFar problem curves (at + 1) classes
 no_new_class problem curves at classes apart so_far =
     let none : 0 + at ≡ at = omega arith in
     let number : suc at ≡ at + 1 = omega arith in
     record {
       places_are = so_far.places_are
-          ∙ sym (place_none problem.blocks 0 at (λ same. apart (ap (first_of problem.blocks) (sym none) ∙ same ∙ none)))
+          ∙ sym (place_none problem.blocks 0 at (λ same. apart (ap (first_of_class problem.blocks) (sym none) ∙ same ∙ none)))
           ∙ ap (firsts_from problem.blocks 0) number;
       each = so_far.each;
     }

@@ -16,7 +16,7 @@ use Rattle.dam_blocks.specs.declared.problem.Block.{Block}
 use Rattle.dam_blocks.specs.Problem.{ProblemState}
 use Rattle.dam_blocks.specs.Selection.{volume_in, net_volume_of_block, value_in, net_volume}
 use Rattle.dam_blocks.specs.Eligible.{IsClearingPrice, ArePrices, surplus_from, surplus_of}
-use Rattle.dam_bound.specs.Classes.{first_of, members}
+use Rattle.dam_bound.specs.Classes.{first_of_class, members}
 use Rattle.dam_bound.specs.ClassCurves.{class_orders, day_value}
 use Rattle.dam_bound.specs.Sums.{over_periods, class_places, over_places}
 use Rattle.dam_bound.proofs.ClassPlaces.{times_plus, turned, over_same, by_class, periods_plus, class_times}
@@ -88,14 +88,14 @@ joint_from f blocks sel c i (ss ∷ hours) each =
     let left = over_class f blocks c (suc i) (length hours) in
     let others = members blocks c (suc i) hours in
     let none : left ≡ pos 0 +ℤ left = omega (arith, ints) in
-    elim (cases_eq (first_of blocks i) c) [
+    elim (cases_eq (first_of_class blocks i) c) [
       | inl e ↦
-          (let yes : (first_of blocks i == c) ≡ true = grind (arith, nat_tests) in
+          (let yes : (first_of_class blocks i == c) ≡ true = grind (arith, nat_tests) in
           subst (λ (t : Bool). IsJointPrice (cond t (ss ∷ others) others) net (cond t (f (suc i)) (pos 0) +ℤ left)) (sym yes)
           (price_more ss others net (f (suc i)) left
           (subst (λ (z : ℤ). IsClearingPrice ss z (f (suc i))) (class_net blocks sel i c e) here) rest))
       | inr e ↦
-          (let no : (first_of blocks i == c) ≡ false = grind (arith, nat_tests) in
+          (let no : (first_of_class blocks i == c) ≡ false = grind (arith, nat_tests) in
           subst (λ (t : Bool). IsJointPrice (cond t (ss ∷ others) others) net (cond t (f (suc i)) (pos 0) +ℤ left)) (sym no)
           (subst (λ (z : ℤ). IsJointPrice others net z) none rest))
     ]

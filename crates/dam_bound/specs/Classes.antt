@@ -19,16 +19,16 @@ first_from blocks i j zero = j
 first_from blocks i j (suc left) = if are_alike blocks j i then j else first_from blocks i (suc j) left
 
 -- the place of the first period of the class of the one at i
-unfoldable pub first_of : List Block → ℕ → ℕ
-first_of blocks i = first_from blocks i 0 i
+unfoldable pub first_of_class : List Block → ℕ → ℕ
+first_of_class blocks i = first_from blocks i 0 i
 
 -- of the periods from the place i on, those whose class begins at c
 abbrev pub members : List Block → ℕ → ℕ → List (List Step) → List (List Step)
 members blocks c i [] = []
 members blocks c i (steps ∷ hours) =
-    if first_of blocks i == c then steps ∷ members blocks c (suc i) hours else members blocks c (suc i) hours
+    if first_of_class blocks i == c then steps ∷ members blocks c (suc i) hours else members blocks c (suc i) hours
 
 -- the first period of each class
 pub record AreFirsts (problem : ProblemState) (firsts : List ℕ) : Type 0 where
   pub long : length firsts ≡ last_period
-  pub each : (i d : ℕ) → i < length problem.hours → slice_index_or firsts i d ≡ first_of problem.blocks i
+  pub each : (i d : ℕ) → i < length problem.hours → slice_index_or firsts i d ≡ first_of_class problem.blocks i

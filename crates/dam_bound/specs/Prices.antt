@@ -11,7 +11,7 @@ use Rattle.dam_blocks.specs.Problem.{ProblemState}
 use Rattle.dam_blocks.specs.Magnitude.{IsWithin}
 use Rattle.dam_blocks.specs.Selection.{net_volume_of_block}
 use Rattle.dam_blocks.specs.Eligible.{selection_welfare}
-use Rattle.dam_bound.specs.Classes.{first_of}
+use Rattle.dam_bound.specs.Classes.{first_of_class}
 use Rattle.dam_bound.specs.ClassCurves.{class_orders, least_net_in, most_net_in, day_value}
 use Rattle.dam_bound.specs.Sums.{class_places, over_places, at_places}
 use Rattle.dam_bound.specs.declared.pricing.Pricing.{Pricing}
@@ -49,7 +49,7 @@ priced_gain problem lines o =
 pub record IsByLines (problem : ProblemState) (pricing : Pricing) : Type 0 where
   pub few : length problem.blocks ≤ most_blocks
   pub long : length pricing.lines ≡ last_period
-  pub lines_are : (c : ℕ) → c < length problem.hours → first_of problem.blocks c ≡ c → IsClassLine problem c (line_in pricing.lines c)
+  pub lines_are : (c : ℕ) → c < length problem.hours → first_of_class problem.blocks c ≡ c → IsClassLine problem c (line_in pricing.lines c)
   pub base_is : pricing.base ≡ over_places (λ c. (line_in pricing.lines c).surplus) (class_places problem)
   pub gains_are : pricing.gains ≡ at_places most_blocks (priced_gain problem pricing.lines) problem.blocks
 

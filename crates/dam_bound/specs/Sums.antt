@@ -3,7 +3,7 @@ use Rattle.std.specs.Prelude.{ℕ, zero, suc, ◌==◌, if◌then◌else◌, ℤ
 use Rattle.dam_book.specs.Terms.{BlockTerms}
 use Rattle.dam_blocks.specs.declared.problem.Block.{Block}
 use Rattle.dam_blocks.specs.Problem.{ProblemState}
-use Rattle.dam_bound.specs.Classes.{first_of}
+use Rattle.dam_bound.specs.Classes.{first_of_class}
 
 -- a number of each of n periods from t on, added up
 abbrev pub over_periods : (ℕ → ℤ) → ℕ → ℕ → ℤ
@@ -13,7 +13,7 @@ over_periods f t (suc n) = f t +ℤ over_periods f (suc t) n
 -- of n places from c on, those at which a class begins
 abbrev pub firsts_from : List Block → ℕ → ℕ → List ℕ
 firsts_from blocks c zero = []
-firsts_from blocks c (suc n) = if first_of blocks c == c then c ∷ firsts_from blocks (suc c) n else firsts_from blocks (suc c) n
+firsts_from blocks c (suc n) = if first_of_class blocks c == c then c ∷ firsts_from blocks (suc c) n else firsts_from blocks (suc c) n
 
 -- the places at which the classes of the problem's periods begin
 abbrev pub class_places : ProblemState → List ℕ

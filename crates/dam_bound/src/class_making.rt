@@ -12,7 +12,7 @@ ghost use Rattle.dam_bound.specs.Sums.{at_places, over_periods};
 ghost use Rattle.dam_bound.specs.inside.Numbers.{AreNumbersWithin, negative_sum, positive_sum};
 
 use crate::class_curves::Class;
-use crate::classes::firsts_of;
+use crate::classes::firsts_of_classes;
 use dam_blocks::{Block, MOST_PERIODS, Problem, net_volume_of_block, value_in};
 use dam_book::{BlockOrder, MOST_BLOCKS, Period};
 use dam_curve::{Curve, CurveSum, Curves, Supply};
@@ -118,7 +118,7 @@ pub(crate) fn add_class_curves<A: Allocator, B: Allocator + Copy>(
 {
     let blocks = problem.blocks();
     let count = usize::from(problem.periods().get());
-    let firsts = firsts_of(blocks, count);
+    let firsts = firsts_of_classes(blocks, count);
     let mut classes = Vec::with_capacity(alloc, count)?;
     for at in 0..count {
         if firsts[at] as usize == at {

@@ -2,7 +2,7 @@
 
 ghost use Rattle.std.specs.Prelude.{◌≡◌, ℕ, ◌<◌, ◌≤◌, length, slice_index_or};
 ghost use Rattle.dam_book.specs.Limits.{last_period};
-ghost use Rattle.dam_bound.specs.Classes.{are_alike, first_of};
+ghost use Rattle.dam_bound.specs.Classes.{are_alike, first_of_class};
 
 use dam_blocks::{Block, MOST_PERIODS, volume_in};
 use dam_book::Period;
@@ -24,9 +24,9 @@ fn are_alike(blocks: &[Block], one: usize, other: usize) -> bool
 }
 
 /// The place of the first period of the class of the one at a place.
-fn first_of(blocks: &[Block], at: usize) -> usize
+fn first_of_class(blocks: &[Block], at: usize) -> usize
     requires { at < last_period }
-    ensures value { result ≡ first_of blocks.now at }
+    ensures value { result ≡ first_of_class blocks.now at }
     ensures small { result ≤ at }
 {
     for other in 0..at {
@@ -38,15 +38,15 @@ fn first_of(blocks: &[Block], at: usize) -> usize
 }
 
 /// For each of the first `count` periods the place of the first one of its class.
-pub(crate) fn firsts_of(blocks: &[Block], count: usize) -> [u32; MOST_PERIODS]
+pub(crate) fn firsts_of_classes(blocks: &[Block], count: usize) -> [u32; MOST_PERIODS]
     requires { count ≤ last_period }
     ensures long { length result ≡ last_period }
     ensures each { (i d : ℕ) → i < count
-        → slice_index_or result i d ≡ first_of blocks.now i }
+        → slice_index_or result i d ≡ first_of_class blocks.now i }
 {
     let mut firsts = [0; MOST_PERIODS];
     for at in 0..count {
-        firsts[at] = first_of(blocks, at) as u32;
+        firsts[at] = first_of_class(blocks, at) as u32;
     }
     firsts
 }
