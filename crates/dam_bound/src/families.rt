@@ -22,6 +22,21 @@ pub fn descendants_of(blocks: &[Block], place: usize) -> Selection
     descendants
 }
 
+/// The places of the blocks from which the one at a place descends.
+pub fn ancestors_of(blocks: &[Block], place: usize) -> Selection
+    requires { length blocks.now ≤ most_blocks }
+    ensures { (at : ℕ) → accepts result at
+        ≡ (nat_lt at (length blocks.now) && descends blocks.now at place) }
+{
+    let mut ancestors = Selection::none();
+    for at in 0..blocks.len() {
+        if descends(blocks, at, place) {
+            ancestors = ancestors.with(at);
+        }
+    }
+    ancestors
+}
+
 /// The blocks that descend from the one at a place; nothing if none does.
 fn family_of(blocks: &[Block], place: usize) -> Option<Selection>
     requires { length blocks.now ≤ most_blocks }

@@ -53,7 +53,7 @@ mod rivals;
 
 pub use class_curves::ClassCurves;
 pub use class_prices::ClassPrices;
-pub use families::descendants_of;
+pub use families::{ancestors_of, descendants_of};
 pub use net_limits::{MOST_LIMITS, NetLimit, NetLimits, Slack};
 pub use pricing::Pricing;
 pub use relaxed::Relaxed;

@@ -2,15 +2,14 @@ ghost use Rattle.std.specs.Prelude.{◌≡◌, ◌<◌, ◌≤◌, ℤ, true, fa
 ghost use Rattle.dam_book.specs.Limits.{most_blocks};
 ghost use Rattle.dam_blocks.specs.Problem.{ProblemState};
 ghost use Rattle.dam_blocks.specs.Selection.{accepts};
-ghost use Rattle.dam_blocks.specs.Family.{descends};
 ghost use Rattle.dam_blocks.specs.Eligible.{IsEligible};
 ghost use Rattle.dam_bound.specs.Relaxed.{without_rows};
 ghost use Rattle.dam_search.specs.inside.Conflicts.{AcceptsAll, AcceptsNone, AreConflicts, Excludes, IsSetOf, is_other_of_group};
 
 use crate::priced_problem::PricedProblem;
-use dam_blocks::{Block, Problem, Selection, are_of_one_group, descends};
+use dam_blocks::{Block, Problem, Selection, are_of_one_group};
 use dam_book::MOST_BLOCKS;
-use dam_bound::{NetLimits, descendants_of};
+use dam_bound::{NetLimits, ancestors_of, descendants_of};
 use std::alloc::Allocator;
 
 /// Decisions that rule each other out, by links, by exclusive groups, by prices and by net volumes. A search asks
@@ -80,20 +79,6 @@ impl Conflicts {
     {
         self.needed_by[place].meets(accepted)
     }
-}
-
-/// The places of the blocks from which the block at `place` descends.
-fn ancestors_of(blocks: &[Block], place: usize) -> Selection
-    requires { length blocks.now ≤ most_blocks }
-    ensures { IsSetOf (length blocks.now) (λ at. descends blocks.now at place) result }
-{
-    let mut ancestors = Selection::none();
-    for at in 0..blocks.len() {
-        if descends(blocks, at, place) {
-            ancestors = ancestors.with(at);
-        }
-    }
-    ancestors
 }
 
 /// Whether the block at `at` is another one of the exclusive group of the block at `place`.
