@@ -76,7 +76,7 @@ impl<A: Allocator, B: Allocator> PrefixWalk<'_, A, B> {
     /// the value read is passed over after its own visit. 'Rejected' is walked before 'accepted', which finds good
     /// selections sooner. If the bound equals the value read, no completion has more welfare than that, and only the
     /// order of ties counts: 'accepted' comes first in it, and is walked first.
-    fn walk<I: Incumbent>(
+    fn visit<I: Incumbent>(
         &self,
         nodes: Nodes,
         prefix: &Prefix,
@@ -111,10 +111,10 @@ impl<A: Allocator, B: Allocator> PrefixWalk<'_, A, B> {
             return true;
         };
         let accept = bound_equals(bound, found.read);
-        if !self.walk(nodes, &prefix.extended(accept), incumbent, found) {
+        if !self.visit(nodes, &prefix.extended(accept), incumbent, found) {
             return false;
         }
-        self.walk(nodes, &prefix.extended(!accept), incumbent, found)
+        self.visit(nodes, &prefix.extended(!accept), incumbent, found)
     }
 }
 
@@ -163,7 +163,7 @@ pub fn walk_by_prefixes<A: Allocator, B: Allocator, I: Incumbent>(
         visited: 0,
     };
     let prefix = Prefix::of_piece(depth, piece);
-    let done = prefix_walk.walk(nodes, &prefix, incumbent, &mut found);
+    let done = prefix_walk.visit(nodes, &prefix, incumbent, &mut found);
     PieceAnswer {
         piece,
         best: found.best,

@@ -19,42 +19,42 @@ sound problem prefix best read done f covers = record {
   others = covers;
 }
 
-pub walk-done-requires-clause-depth : goal.walk-done-requires-clause-depth
-walk-done-requires-clause-depth g c =
+pub visit-done-requires-clause-depth : goal.visit-done-requires-clause-depth
+visit-done-requires-clause-depth g c =
     let long = as_long c.of_piece-prefix.result c.args.depth c.args.piece c.of_piece-prefix.ensures in
     omega (arith, long, c.requires.depth)
 
-pub walk-done-requires-clause-going : goal.walk-done-requires-clause-going
-walk-done-requires-clause-going g c = record { within = omega arith; read = omega arith; best = tt; offered = omega arith }
+pub visit-done-requires-clause-going : goal.visit-done-requires-clause-going
+visit-done-requires-clause-going g c = record { within = omega arith; read = omega arith; best = tt; offered = omega arith }
 
 pub returns-clause-sound : goal.returns-clause-sound
 returns-clause-sound g c =
-    let found = c.walk-done.new.found in
-    subst (λ (prefix : List Bool). IsSound c.args.problem.now prefix found.best found.read c.walk-done.result) c.of_piece-prefix.ensures
-    (sound c.args.problem.now c.of_piece-prefix.result found.best found.read c.walk-done.result c.walk-done.ensures.walked.finds
-    c.walk-done.ensures.walked.covers)
+    let found = c.visit-done.new.found in
+    subst (λ (prefix : List Bool). IsSound c.args.problem.now prefix found.best found.read c.visit-done.result) c.of_piece-prefix.ensures
+    (sound c.args.problem.now c.of_piece-prefix.result found.best found.read c.visit-done.result c.visit-done.ensures.walked.finds
+    c.visit-done.ensures.walked.covers)
 
 pub returns-clause-spent : goal.returns-clause-spent
 returns-clause-spent g c =
     let told = g.I.Incumbent.greatest_read c.args.incumbent.now in let n = length c.args.problem.now.blocks in
     let long = as_long c.of_piece-prefix.result c.args.depth c.args.piece c.of_piece-prefix.ensures in
-    let found = c.walk-done.new.found in let walked = c.walk-done.ensures.walked in
+    let found = c.visit-done.new.found in let walked = c.visit-done.ensures.walked in
     subst (λ (left : ℕ). IsSpent c.args.problem.now (choice c.args.depth c.args.piece) (n - left) told c.args.nodes found.visited
-    found.read c.walk-done.result) long
+    found.read c.visit-done.result) long
     (subst (λ (prefix : List Bool). IsSpent c.args.problem.now prefix (n - length c.of_piece-prefix.result) told c.args.nodes
-    found.visited found.read c.walk-done.result) c.of_piece-prefix.ensures
+    found.visited found.read c.visit-done.result) c.of_piece-prefix.ensures
     (spent_from c.args.problem.now c.of_piece-prefix.result (n - length c.of_piece-prefix.result) told c.args.nodes found.visited
-    found.read c.walk-done.result walked.spends walked.needed))
+    found.read c.visit-done.result walked.spends walked.needed))
 
 pub returns-clause-read : goal.returns-clause-read
 returns-clause-read g c some few =
     let long = as_long c.of_piece-prefix.result c.args.depth c.args.piece c.of_piece-prefix.ensures in
-    c.walk-done.ensures.walked.reads.asked some (omega (arith, long, few))
+    c.visit-done.ensures.walked.reads.asked some (omega (arith, long, few))
 
 pub returns-clause-unread : goal.returns-clause-unread
 returns-clause-unread g c h =
     let long = as_long c.of_piece-prefix.result c.args.depth c.args.piece c.of_piece-prefix.ensures in
     elim h [
-      | inl none ↦ c.walk-done.ensures.walked.reads.unvisited none
-      | inr full ↦ c.walk-done.ensures.walked.reads.full (omega (arith, long, full))
+      | inl none ↦ c.visit-done.ensures.walked.reads.unvisited none
+      | inr full ↦ c.visit-done.ensures.walked.reads.full (omega (arith, long, full))
     ]

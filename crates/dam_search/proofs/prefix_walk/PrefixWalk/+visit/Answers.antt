@@ -9,7 +9,7 @@ use Rattle.dam_search.specs.inside.PrefixWalk.{Spends, ReadsIncumbent, IsWalked}
 use Rattle.dam_search.proofs.Ranks.{finds_nothing, finds_shorter, finds_twice, covers_both, welfare_rises}
 use Rattle.dam_search.proofs.Walks.{spends_none, spends_nothing, spends_one, spends_first, spends_both, reads_nothing, reads_asked}
 use Rattle.dam_search.proofs.Walks.{unreached, less, needed_one, needed_both}
-use Rattle.dam_search.proofs.prefix_walk.PrefixWalk.+walk.Goals as goal
+use Rattle.dam_search.proofs.prefix_walk.PrefixWalk.+visit.Goals as goal
 
 -- a prefix that isn't full leaves some block undecided
 undecided : (prefix : List Bool) (depth count n : ℕ) → depth ≡ length prefix → count ≡ n
@@ -114,20 +114,20 @@ from_next problem next prefix nodes told top told' top' before after done seen e
     subst (λ (b : Bool). IsWalked problem prefix nodes told top told' top' before after b) f
     (subst (λ (xs : List Bool). IsWalked problem xs nodes told top told' top' before after done) e walked)
 
-pub returns-then-not-walk-clause-walked : goal.returns-then-not-walk-clause-walked
-returns-then-not-walk-clause-walked g t c =
+pub returns-then-not-visit-clause-walked : goal.returns-then-not-visit-clause-walked
+returns-then-not-visit-clause-walked g t c =
     let problem = c.args.self.now.problem.now in let prefix = c.args.prefix.now in let n = length problem.blocks in
     let first = c.bound_equals-accept.result in let nodes = c.args.nodes in let told = g.I.Incumbent.greatest_read in
     let inside =
     undecided prefix c.depth.result c.block_count.result n c.depth.ensures.value c.block_count.ensures.value
     c.requires.depth c.if-depth-block_count.false in
-    let least = c.read-found.result in let before = c.args.found.now.visited in let after = c.walk.new.found.visited in
-    let walked = from_next problem c.extended.result (prefix ++ first ∷ []) nodes _ _ _ _ _ _ c.walk.result false c.extended.ensures
-    c.if-not-walk.true c.walk.ensures.walked in
+    let least = c.read-found.result in let before = c.args.found.now.visited in let after = c.visit.new.found.visited in
+    let walked = from_next problem c.extended.result (prefix ++ first ∷ []) nodes _ _ _ _ _ _ c.visit.result false c.extended.ensures
+    c.if-not-visit.true c.visit.ensures.walked in
     let one =
     subst (λ (v : ℕ). Spends problem (prefix ++ first ∷ []) (n - length (prefix ++ first ∷ [])) v nodes (before + 1) after false)
     c.read-found.ensures.greatest_read walked.spends in
-    let a = c.args.found.now.best in let b = c.walk.new.found.best in
+    let a = c.args.found.now.best in let b = c.visit.new.found.best in
     let offered = walked.offered in let grows = walked.reads.grows in let reads = walked.reads.greatest_read in
     let more = walked.spends.grows in
     record {
@@ -138,8 +138,8 @@ returns-then-not-walk-clause-walked g t c =
           c.in-Some.ensures.1 one;
       needed = λ done. absurd (cc);
       reads =
-          reads_asked (n - length prefix) before after c.args.found.now.read c.walk.new.found.read (told c.args.incumbent.now)
-          (told c.walk.new.incumbent) (omega (arith, inside)) (omega (arith, more)) c.requires.going.read
+          reads_asked (n - length prefix) before after c.args.found.now.read c.visit.new.found.read (told c.args.incumbent.now)
+          (told c.visit.new.incumbent) (omega (arith, inside)) (omega (arith, more)) c.requires.going.read
           (omega (arith, c.read-found.ensures.rises, grows)) (omega (arith, c.read-found.ensures.greatest_read, grows, reads));
       offered = omega (arith, offered, c.read-found.ensures.greatest_offer);
     }
@@ -152,17 +152,17 @@ returns-clause-walked g t c =
     let inside =
     undecided prefix c.depth.result c.block_count.result n c.depth.ensures.value c.block_count.ensures.value
     c.requires.depth c.if-depth-block_count.false in
-    let least = c.read-found.result in let later = told c.walk.new.incumbent in
-    let before = c.args.found.now.visited in let middle = c.walk.new.found.visited in let after = c.walk-2.new.found.visited in
-    let w = from_next problem c.extended.result (prefix ++ first ∷ []) nodes _ _ _ _ _ _ c.walk.result true c.extended.ensures
-    c.if-not-walk.false c.walk.ensures.walked in
-    let v = from_next problem c.extended-2.result (prefix ++ not first ∷ []) nodes _ _ _ _ _ _ c.walk-2.result c.walk-2.result
-    c.extended-2.ensures refl c.walk-2.ensures.walked in
+    let least = c.read-found.result in let later = told c.visit.new.incumbent in
+    let before = c.args.found.now.visited in let middle = c.visit.new.found.visited in let after = c.visit-2.new.found.visited in
+    let w = from_next problem c.extended.result (prefix ++ first ∷ []) nodes _ _ _ _ _ _ c.visit.result true c.extended.ensures
+    c.if-not-visit.false c.visit.ensures.walked in
+    let v = from_next problem c.extended-2.result (prefix ++ not first ∷ []) nodes _ _ _ _ _ _ c.visit-2.result c.visit-2.result
+    c.extended-2.ensures refl c.visit-2.ensures.walked in
     let asked = c.read-found.ensures.greatest_read in let raised = w.reads.greatest_read in
     let one =
     subst (λ (v : ℕ). Spends problem (prefix ++ first ∷ []) (n - length (prefix ++ first ∷ [])) v nodes (before + 1) middle true)
     asked w.spends in
-    let a = c.args.found.now.best in let b = c.walk.new.found.best in let z = c.walk-2.new.found.best in
+    let a = c.args.found.now.best in let b = c.visit.new.found.best in let z = c.visit-2.new.found.best in
     let few : length prefix < most_blocks = omega (arith, inside, c.block_count.ensures.valid.few_blocks) in
     let grows = w.reads.grows in let grows' = v.reads.grows in let raised' = v.reads.greatest_read in
     let more = w.spends.grows in let more' = v.spends.grows in
@@ -173,17 +173,17 @@ returns-clause-walked g t c =
           (finds_shorter problem prefix (first ∷ []) a b w.finds)
           (finds_shorter problem prefix (not first ∷ []) b z v.finds);
       covers = λ done.
-          covers_both problem prefix first a b z c.walk.new.found.read c.walk-2.new.found.read c.ranking_is_total.ensures.transitive
+          covers_both problem prefix first a b z c.visit.new.found.read c.visit-2.new.found.read c.ranking_is_total.ensures.transitive
           c.completions_split.ensures.extended few c.requires.going.best w.finds
           (w.covers refl) v.finds (v.covers done) grows';
       spends =
-          spends_both problem prefix first n (told c.args.incumbent.now) least later nodes before middle after c.walk-2.result inside
+          spends_both problem prefix first n (told c.args.incumbent.now) least later nodes before middle after c.visit-2.result inside
           c.read-found.ensures.rises (omega (arith, asked, raised)) c.in-Some.ensures.1 one v.spends;
-      needed = λ done. needed_both problem prefix first n c.walk.new.found.read c.walk-2.new.found.read before middle after
+      needed = λ done. needed_both problem prefix first n c.visit.new.found.read c.visit-2.new.found.read before middle after
           inside few more more' grows' (w.needed refl) (v.needed done);
       reads =
-          reads_asked (n - length prefix) before after c.args.found.now.read c.walk-2.new.found.read (told c.args.incumbent.now)
-          (told c.walk-2.new.incumbent) (omega (arith, inside)) (omega (arith, more, more')) c.requires.going.read
+          reads_asked (n - length prefix) before after c.args.found.now.read c.visit-2.new.found.read (told c.args.incumbent.now)
+          (told c.visit-2.new.incumbent) (omega (arith, inside)) (omega (arith, more, more')) c.requires.going.read
           (omega (arith, c.read-found.ensures.rises, grows, grows')) (omega (arith, asked, raised, raised', grows, grows'));
       offered =
           let rises = welfare_rises b z v.finds.rises in
