@@ -1,7 +1,7 @@
-ghost use Rattle.std.specs.Prelude.{◌≡◌, false, codes, decimal, IfOk};
+ghost use Rattle.std.specs.Prelude.{◌≡◌, false, codes, IfOk};
 ghost use Rattle.clap.specs.declared.builder.command.Command.TheViews.{out-Command as fields_of};
 ghost use Rattle.clap.specs.Words.{app_of, new_app, rule_of, shape_of};
-ghost use Rattle.dam_line.specs.Options.{terms_of};
+ghost use Rattle.dam_line.specs.Options.{HasItsNumbers, terms_of};
 ghost use Rattle.dam_line.specs.Line.{clear, day, program, rule_for, with_plan, with_subcommands};
 
 use crate::options::{CUT, NODES, NumberOption, WORKERS};
@@ -63,7 +63,7 @@ Example:
 
 /// The option as `clap` has it.
 fn number_option<'a>(alloc: Global, option: NumberOption) -> Arg<'a>
-    requires { option.default_text.now ≡ decimal option.default }
+    requires { HasItsNumbers option }
     ensures rule { rule_of result ≡ rule_for (terms_of option) }
     ensures local { result.global ≡ false }
 {

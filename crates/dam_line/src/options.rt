@@ -1,6 +1,6 @@
 use dam_plan::{MOST_CUT, MOST_NODES, MOST_WORKERS};
 
-/// An option with a number. A contract sees it without its texts of help.
+/// An option with a number.
 #[derive(Clone, Copy)]
 pub struct NumberOption {
     pub name: &'static str,

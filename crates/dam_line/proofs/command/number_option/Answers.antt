@@ -31,7 +31,7 @@ returns-clause-rule c =
       c.action.ensures,
       c.long.ensures,
       parser,
-      c.requires,
+      c.requires.default,
     )
     (ap (λ (r : Rule). record r {
       long = Some option.name.now;

@@ -1,4 +1,4 @@
--- Each default's text is the text of its number, and each argument adds its rule.
+-- Each option's texts have its numbers, and each argument adds its rule.
 use Rattle.std.proofs.Common.{◌∙◌, refl, ap, ap₂}
 use Rattle.std.proofs.lemmas.Result.{IfOk-weaker}
 use Rattle.std.specs.Fmt.{digits}
@@ -7,15 +7,15 @@ use Rattle.dam_line.proofs.command.with_plan.Goals as goal
 
 pub number_option-requires : goal.number_option-requires
 unfolding digits
-number_option-requires c = refl
+number_option-requires c = record { default = refl; range = refl }
 
 pub number_option-requires-2 : goal.number_option-requires-2
 unfolding digits
-number_option-requires-2 c = refl
+number_option-requires-2 c = record { default = refl; range = refl }
 
 pub number_option-requires-3 : goal.number_option-requires-3
 unfolding digits
-number_option-requires-3 c = refl
+number_option-requires-3 c = record { default = refl; range = refl }
 
 pub returns-clause-app : goal.returns-clause-app
 returns-clause-app c =
