@@ -1,13 +1,14 @@
 -- The text that a person at a terminal reads about a fault of the input, and about words that name a file or ask for
 -- the version.
-use Rattle.std.specs.Prelude.{◌≡◌, ◌≢◌, ◌≤◌, ◌+◌, ◌==◌, ◌||◌, ℕ, ℤ, pos, Bool, false, not, List, [], ◌∷◌, ◌++◌, take, codes}
+use Rattle.std.specs.Prelude.{◌≡◌, ◌≢◌, ◌≤◌, ◌+◌, ◌%◌, ◌==◌, ◌||◌, ℕ, ℤ, pos, Bool, true, false, not, List, [], ◌∷◌, ◌++◌, length, take, codes, decimal}
 use Rattle.std.specs.Prelude.{Option, None, Some, option_map, if◌then◌else◌}
 use Rattle.std.specs.Fmt.{signed_decimal}
 use Rattle.std.specs.List.{list_any}
 use Rattle.std.specs.Str.{bytes_eq}
-use Rattle.dam_book.specs.Limits.{lowest_price, highest_price, greatest_volume}
+use Rattle.dam_book.specs.Limits.{lowest_price, highest_price, greatest_volume, most_entries}
+use Rattle.dam_results.specs.Limits.{most_bytes}
 use Rattle.dam_results.specs.declared.journal_reading.JournalFault.{JournalFault}
-use Rattle.dam_results.specs.declared.journal_reading.JournalFault.TheVariants.{BadField}
+use Rattle.dam_results.specs.declared.journal_reading.JournalFault.TheVariants.{BadField, TooLong, TooManyRecords}
 use Rattle.dam_cli.specs.declared.advice.Rule.{Rule}
 use Rattle.dam_cli.specs.declared.advice.Rule.TheVariants.{Plain, Within}
 
@@ -31,8 +32,27 @@ abbrev pub ShowsRange : ℤ → ℤ → Rule → Type 0
 ShowsRange least greatest (Plain text) = ⊥
 ShowsRange least greatest (Within before shown_least shown_greatest after) = (shown_least ≡ least) × (shown_greatest ≡ greatest)
 
--- for a bad price or bad volumes in a command's record, the rule shows the limits on them
+-- decimal digits, with a comma before each three
+abbrev pub with_commas : List ℕ → List ℕ
+with_commas [] = []
+with_commas (digit ∷ []) = digit ∷ []
+with_commas (digit ∷ next ∷ rest) =
+    if length (next ∷ rest) % 3 == 0 then digit ∷ 44 ∷ with_commas (next ∷ rest) else digit ∷ with_commas (next ∷ rest)
+
+-- whether the text has this part
+abbrev pub has_part : List ℕ → List ℕ → Bool
+has_part part [] = false
+has_part part (byte ∷ rest) = bytes_eq (take (length part) (byte ∷ rest)) part || has_part part rest
+
+-- the rule has this number between two blanks
+abbrev pub HasNumber : ℕ → Rule → Type 0
+HasNumber number rule = has_part (codes " " ++ (with_commas (decimal number) ++ codes " ")) (rule_text rule) ≡ true
+
+-- for a journal that is too long, the rule has the most bytes or commands; for a bad price or bad volumes in a command's
+-- record, it shows the limits on them
 abbrev pub ShowsItsLimits : JournalFault → Rule → Type 0
+ShowsItsLimits TooLong rule = HasNumber most_bytes rule
+ShowsItsLimits TooManyRecords rule = HasNumber most_entries rule
 ShowsItsLimits (BadField at field) rule = at ≢ 1 → (field ≡ 6 → ShowsRange lowest_price highest_price rule)
     × (field ≡ 7 → ShowsRange (pos 1) (pos greatest_volume) rule)
 ShowsItsLimits fault rule = Unit {0}

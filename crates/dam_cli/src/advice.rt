@@ -1,13 +1,13 @@
 //! The text that a person at a terminal reads in addition to a fault of the input, or to the refusal of words that name
 //! a file or ask for the version.
 
-ghost use Rattle.std.specs.Prelude.{◌≡◌, ◌≤◌, ◌↔◌, pos, false, map, IfSome, IsSome, option_map};
+ghost use Rattle.std.specs.Prelude.{◌≡◌, ◌-◌, ◌≤◌, ◌↔◌, pos, false, map, IfSome, IsSome, option_map};
 ghost use Rattle.std.specs.List.{list_any};
 ghost use Rattle.std.specs.String.{string_bytes};
 ghost use Rattle.dam_results.specs.declared.journal_reading.JournalFault.{JournalFault};
 ghost use Rattle.dam_engines.specs.Fault.{fault_status, input_status};
-ghost use Rattle.dam_book.specs.Limits.{lowest_price, highest_price, greatest_volume};
-ghost use Rattle.dam_cli.specs.Advice.{BeginsWithField, NamesItsField, ShowsRange, ShowsItsLimits, rule_text};
+ghost use Rattle.dam_book.specs.Limits.{lowest_price, highest_price, greatest_volume, most_entries};
+ghost use Rattle.dam_cli.specs.Advice.{BeginsWithField, HasNumber, NamesItsField, ShowsRange, ShowsItsLimits, rule_text};
 ghost use Rattle.dam_cli.specs.Advice.{file_in, first_file, has_number, is_command, is_option, is_version_word};
 
 use dam_book::{GREATEST_VOLUME, HIGHEST_PRICE, LOWEST_PRICE};
@@ -55,6 +55,8 @@ pub fn rule_of(fault: &RunFault) -> Option<Rule>
         → IfSome result (λ rule. NamesItsField given (rule_text rule)) }
     ensures limits { (given : JournalFault) → fault.now ≡ RunFault.Input given
         → IfSome result (λ rule. ShowsItsLimits given rule) }
+    ensures commands { fault.now ≡ RunFault.TooManyCommands
+        → IfSome result (HasNumber (most_entries - 1)) }
 {
     let text = match fault {
         RunFault::Input(fault) => return rule_of_journal(*fault),
