@@ -5,6 +5,7 @@ ghost use Rattle.dam_blocks.specs.Magnitude.{IsWithin};
 ghost use Rattle.dam_search.specs.inside.PriceWalk.{with_place_if, with_all, bound_after};
 
 use dam_blocks::Selection;
+use dam_bound::{Pricing, Slack};
 
 /// A node of a walk by prices: decisions on some blocks, and the places of the others.
 ///
@@ -19,6 +20,10 @@ pub(crate) struct Node<'a> {
     pub(crate) left: &'a [u8],
     /// At least the welfare of each open selection.
     pub(crate) bound: i64,
+    /// The prices that give the bound.
+    pub(crate) pricing: &'a Pricing,
+    /// The slack that the decisions leave under the limits on net volumes.
+    pub(crate) slack: &'a Slack,
 }
 
 /// The selection, which accepts the block at `place` too if `decided`.
@@ -59,13 +64,14 @@ impl Node<'_> {
         top
     }
 
-    /// The node with a decision on the block at `place`, which has this gain, and `left` left.
+    /// The node with a decision on the block at `place`, which has this gain, and `left` and `slack` left.
     pub(crate) fn after_decision<'b>(
-        &self,
+        &'b self,
         place: usize,
         left: &'b [u8],
         accept: bool,
         gain: i64,
+        slack: &'b Slack,
     ) -> Node<'b>
         requires place { place < most_blocks }
         requires bound { pos 0 ≤ℤ self.now.bound }
@@ -74,12 +80,16 @@ impl Node<'_> {
         ensures rejected { result.rejected ≡ with_place_if (not accept) self.now.rejected place }
         ensures left { result.left.now ≡ left.now }
         ensures bound { result.bound ≡ bound_after accept self.now.bound gain }
+        ensures pricing { result.pricing.now ≡ self.now.pricing.now }
+        ensures slack { result.slack.now ≡ slack.now }
     {
         Node {
             accepted: with_place_if(accept, self.accepted, place),
             rejected: with_place_if(!accept, self.rejected, place),
             left,
             bound: bound_after(accept, self.bound, gain),
+            pricing: self.pricing,
+            slack,
         }
     }
 }

@@ -157,19 +157,12 @@ impl<A: Allocator, P: PricedProblem> PriceWalk<'_, A, P> {
     /// Visits a node: reads the incumbent, and walks the node unless it is passed over.
     #[cycle(visit)]
     #[inline(always)]
-    fn visit<I: Incumbent>(
-        &self,
-        node: &Node,
-        pricing: &Pricing,
-        slack: &Slack,
-        incumbent: &mut I,
-        found: &mut WalkState,
-    )
+    fn visit<I: Incumbent>(&self, node: &Node, incumbent: &mut I, found: &mut WalkState)
         requires node { IsNode node.now.accepted node.now.rejected node.now.left.now }
-        requires bounded { IsBounded (P.problem self.now.priced.now) pricing.now
+        requires bounded { IsBounded (P.problem self.now.priced.now) node.now.pricing.now
             node.now.accepted node.now.left.now node.now.bound }
         requires slack { IsSlack self.now.problem.now self.now.conflicts.now.limits.limits
-            node.now.accepted node.now.left.now slack.now }
+            node.now.accepted node.now.left.now node.now.slack.now }
         requires ready { IsReady
             (I.greatest_read incumbent.old) (I.greatest_offer incumbent.old) found.old }
         ensures walked { IsWalkedOpen self.now.problem.now node.now.accepted node.now.left.now
@@ -185,10 +178,10 @@ impl<A: Allocator, P: PricedProblem> PriceWalk<'_, A, P> {
             return;
         }
         if node.left.len() < LEAST_LEFT_TO_REPRICE {
-            self.branch(node, pricing, slack, incumbent, found);
+            self.branch(node, incumbent, found);
             return;
         }
-        self.branch_repriced(node, pricing, slack, incumbent, found);
+        self.branch_repriced(node, incumbent, found);
     }
 
     /// Walks a node with prices of its own, if they give it a lesser bound.
@@ -196,19 +189,12 @@ impl<A: Allocator, P: PricedProblem> PriceWalk<'_, A, P> {
     /// It isn't inlined, since the prices take space on the stack.
     #[cycle(visit)]
     #[inline(never)]
-    fn branch_repriced<I: Incumbent>(
-        &self,
-        node: &Node,
-        pricing: &Pricing,
-        slack: &Slack,
-        incumbent: &mut I,
-        found: &mut WalkState,
-    )
+    fn branch_repriced<I: Incumbent>(&self, node: &Node, incumbent: &mut I, found: &mut WalkState)
         requires node { IsNode node.now.accepted node.now.rejected node.now.left.now }
-        requires bounded { IsBounded (P.problem self.now.priced.now) pricing.now
+        requires bounded { IsBounded (P.problem self.now.priced.now) node.now.pricing.now
             node.now.accepted node.now.left.now node.now.bound }
         requires slack { IsSlack self.now.problem.now self.now.conflicts.now.limits.limits
-            node.now.accepted node.now.left.now slack.now }
+            node.now.accepted node.now.left.now node.now.slack.now }
         requires reached { (pos found.old.read ≤ℤ node.now.bound) × (found.old.read < 2 ^ 63) }
         requires ready { IsReady
             (I.greatest_read incumbent.old) (I.greatest_offer incumbent.old) found.old }
@@ -224,7 +210,7 @@ impl<A: Allocator, P: PricedProblem> PriceWalk<'_, A, P> {
             .write_pricing(node.accepted, node.left, &mut own_pricing);
         let bound = own_pricing.bound(node.accepted, node.left);
         if bound >= node.bound {
-            self.branch(node, pricing, slack, incumbent, found);
+            self.branch(node, incumbent, found);
             return;
         }
         let node = Node {
@@ -232,29 +218,24 @@ impl<A: Allocator, P: PricedProblem> PriceWalk<'_, A, P> {
             rejected: node.rejected,
             left: node.left,
             bound,
+            pricing: &own_pricing,
+            slack: node.slack,
         };
         if is_passed(&node, found) {
             return;
         }
-        self.branch(&node, &own_pricing, slack, incumbent, found);
+        self.branch(&node, incumbent, found);
     }
 
     /// Walks both decisions on the next place, first the one that the sign of the block's gain is for. If no place
     /// is left, it tries the selection.
     #[cycle(visit)]
-    fn branch<I: Incumbent>(
-        &self,
-        node: &Node,
-        pricing: &Pricing,
-        slack: &Slack,
-        incumbent: &mut I,
-        found: &mut WalkState,
-    )
+    fn branch<I: Incumbent>(&self, node: &Node, incumbent: &mut I, found: &mut WalkState)
         requires node { IsNode node.now.accepted node.now.rejected node.now.left.now }
-        requires bounded { IsBounded (P.problem self.now.priced.now) pricing.now
+        requires bounded { IsBounded (P.problem self.now.priced.now) node.now.pricing.now
             node.now.accepted node.now.left.now node.now.bound }
         requires slack { IsSlack self.now.problem.now self.now.conflicts.now.limits.limits
-            node.now.accepted node.now.left.now slack.now }
+            node.now.accepted node.now.left.now node.now.slack.now }
         requires reached { (pos found.old.read ≤ℤ node.now.bound) × (found.old.read < 2 ^ 63) }
         requires ready { IsReady
             (I.greatest_read incumbent.old) (I.greatest_offer incumbent.old) found.old }
@@ -266,13 +247,13 @@ impl<A: Allocator, P: PricedProblem> PriceWalk<'_, A, P> {
     {
         dam_blocks::laws::ranking_is_total();
         let Some((place, left)) = node.left.split_first() else {
-            self.offer_if_best(node.accepted, pricing, incumbent, found);
+            self.offer_if_best(node.accepted, node.pricing, incumbent, found);
             return;
         };
         let place = usize::from(*place);
-        let accept = pricing.gains[place] >= 0;
-        self.decide(node, place, left, accept, pricing, slack, incumbent, found);
-        self.decide(node, place, left, !accept, pricing, slack, incumbent, found);
+        let accept = node.pricing.gains[place] >= 0;
+        self.decide(node, place, left, accept, incumbent, found);
+        self.decide(node, place, left, !accept, incumbent, found);
     }
 
     /// Walks the node with this decision on the block at `place`, unless no eligible selection has it, by the conflicts
@@ -284,17 +265,15 @@ impl<A: Allocator, P: PricedProblem> PriceWalk<'_, A, P> {
         place: usize,
         left: &[u8],
         accept: bool,
-        pricing: &Pricing,
-        slack: &Slack,
         incumbent: &mut I,
         found: &mut WalkState,
     )
         requires split { node.now.left.now ≡ place ∷ left.now }
         requires node { IsNode node.now.accepted node.now.rejected node.now.left.now }
-        requires bounded { IsBounded (P.problem self.now.priced.now) pricing.now
+        requires bounded { IsBounded (P.problem self.now.priced.now) node.now.pricing.now
             node.now.accepted node.now.left.now node.now.bound }
         requires slack { IsSlack self.now.problem.now self.now.conflicts.now.limits.limits
-            node.now.accepted node.now.left.now slack.now }
+            node.now.accepted node.now.left.now node.now.slack.now }
         requires reached { pos 0 ≤ℤ node.now.bound }
         requires ready { IsReady
             (I.greatest_read incumbent.old) (I.greatest_offer incumbent.old) found.old }
@@ -309,11 +288,12 @@ impl<A: Allocator, P: PricedProblem> PriceWalk<'_, A, P> {
             return;
         }
         let limits = &self.conflicts.limits;
-        let Some(slack) = limits.slack_after(slack, place, accept) else {
+        let Some(slack) = limits.slack_after(node.slack, place, accept) else {
             return;
         };
-        let next = node.after_decision(place, left, accept, pricing.gains[place]);
-        self.visit(&next, pricing, &slack, incumbent, found);
+        let gain = node.pricing.gains[place];
+        let next = (&*node).after_decision(place, &*left, accept, gain, &slack);
+        self.visit(&next, incumbent, found);
     }
 }
 
@@ -385,13 +365,15 @@ impl<A: Allocator, P: PricedProblem> PriceWalk<'_, A, P> {
             rejected: rejected_under(self.depth, accepted),
             left: self.order,
             bound,
+            pricing: &pricing,
+            slack: &slack,
         };
         let mut found = WalkState {
             best: None,
             read: incumbent.read(),
             visited: 0,
         };
-        self.visit(&node, &pricing, &slack, incumbent, &mut found);
+        self.visit(&node, incumbent, &mut found);
         PieceAnswer {
             piece,
             best: found.best,

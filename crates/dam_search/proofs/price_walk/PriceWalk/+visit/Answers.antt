@@ -3,6 +3,8 @@ use Rattle.std.proofs.Common.{◌≡◌, ℕ, ℤ, pos, List, ◌∷◌, length,
 use Rattle.std.proofs.lemmas.Int.{ints, to_z-of_z}
 use mir.Syntax.{w64}
 use mir.Val.{SFits}
+use Rattle.dam_bound.specs.declared.pricing.Pricing.{Pricing}
+use Rattle.dam_bound.specs.declared.net_limits.Slack.{Slack}
 use Rattle.dam_search.specs.inside.PriceWalk.{IsNode, IsBounded, IsSlack, IsWalkedOpen, with_place_if, bound_after}
 use Rattle.dam_search.proofs.Opens.{all_within, accepts_taken, accepts_none_rejected, node_after, bounded_after, open_any, open_here, not_both}
 use Rattle.dam_search.proofs.Opens.{walked_nothing, walked_over, walked_both, node_is, bounded_is, under_bound}
@@ -56,9 +58,9 @@ decide-returns-in_default-clause-walked g t c =
     let limits = c.args.self.now.conflicts.now.limits.limits in
     let accept = c.args.accept in let place = c.args.place in let left = c.args.left.now in
     let is = subst (λ (xs : List ℕ). IsNode node.accepted node.rejected xs) c.requires.split c.requires.node in
-    let slack = subst (λ (xs : List ℕ). IsSlack problem limits node.accepted xs c.args.slack.now) c.requires.split c.requires.slack in
+    let slack = subst (λ (xs : List ℕ). IsSlack problem limits node.accepted xs c.args.node.now.slack.now) c.requires.split c.requires.slack in
     walked_nothing problem (with_place_if accept node.accepted place) left _ _ c.args.found.now c.requires.ready
-    (λ sel w opened e. absurd (no_slack problem limits accept node.accepted node.rejected place left c.args.slack.now sel w is slack
+    (λ sel w opened e. absurd (no_slack problem limits accept node.accepted node.rejected place left c.args.node.now.slack.now sel w is slack
     (c.slack_after.ensures.none c.in_default.is) opened e))
 
 pub decide-visit-requires : goal.decide-visit-requires
@@ -66,9 +68,9 @@ decide-visit-requires g t c κs within =
     let node = c.args.node.now in let next = c.after_decision-next.result in let relaxed = g.P.PricedProblem.problem c.args.self.now.priced.now in
     let accept = c.args.accept in let place = c.args.place in let left = c.args.left.now in
     let is = subst (λ (xs : List ℕ). IsNode node.accepted node.rejected xs) c.requires.split c.requires.node in
-    let bounded = subst (λ (xs : List ℕ). IsBounded relaxed c.args.pricing.now node.accepted xs node.bound) c.requires.split c.requires.bounded in
+    let bounded = subst (λ (xs : List ℕ). IsBounded relaxed c.args.node.now.pricing.now node.accepted xs node.bound) c.requires.split c.requires.bounded in
     let ensured = c.after_decision-next.ensures in
-    let gain = get_or c.args.pricing.now.gains place (pos 0) in
+    let gain = get_or c.args.node.now.pricing.now.gains place (pos 0) in
     let own = bounded.is_pricing.small_gains place (pos 0) is.free.0 in
     let low = own.at_least in let high = own.at_most in
     let value = to_z-of_z w64 gain (omega (arith, ints, low, high)) in
@@ -76,15 +78,17 @@ decide-visit-requires g t c κs within =
     let node' : IsNode next.accepted next.rejected next.left.now =
     node_is _ _ next.accepted next.rejected left next.left.now ensured.accepted ensured.rejected ensured.left
     (node_after accept node.accepted node.rejected place left is) in
-    let bounded' : IsBounded relaxed c.args.pricing.now next.accepted next.left.now next.bound =
-    bounded_is relaxed c.args.pricing.now _ next.accepted left next.left.now _ next.bound ensured.accepted ensured.left bound
-    (bounded_after accept relaxed c.args.pricing.now node.accepted node.rejected place left node.bound is bounded) in
+    let bounded' : IsBounded relaxed next.pricing.now next.accepted next.left.now next.bound =
+    subst (λ (p : Pricing). IsBounded relaxed p next.accepted next.left.now next.bound) (sym ensured.pricing)
+    (bounded_is relaxed node.pricing.now _ next.accepted left next.left.now _ next.bound ensured.accepted ensured.left bound
+    (bounded_after accept relaxed node.pricing.now node.accepted node.rejected place left node.bound is bounded)) in
     let long = ap (λ (xs : List ℕ). length xs) ensured.left in
     let limits = c.args.self.now.conflicts.now.limits.limits in
-    let had = subst (λ (xs : List ℕ). IsSlack c.args.self.now.problem.now limits node.accepted xs c.args.slack.now) c.requires.split c.requires.slack in
-    let slack' : IsSlack c.args.self.now.problem.now limits next.accepted next.left.now c.in-Some.slack =
-    slack_after_is c.args.self.now.problem.now limits accept node.accepted node.rejected next.accepted place left next.left.now c.args.slack.now c.in-Some.slack
-    ensured.accepted ensured.left is c.in-Some.ensures.slacks c.in-Some.ensures.some had in
+    let had = subst (λ (xs : List ℕ). IsSlack c.args.self.now.problem.now limits node.accepted xs node.slack.now) c.requires.split c.requires.slack in
+    let slack' : IsSlack c.args.self.now.problem.now limits next.accepted next.left.now next.slack.now =
+    subst (λ (s : Slack). IsSlack c.args.self.now.problem.now limits next.accepted next.left.now s) (sym ensured.slack)
+    (slack_after_is c.args.self.now.problem.now limits accept node.accepted node.rejected next.accepted place left next.left.now node.slack.now c.in-Some.slack
+    ensured.accepted ensured.left is c.in-Some.ensures.slacks c.in-Some.ensures.some had) in
     search rules
 
 -- ---- prices of its own
@@ -119,5 +123,5 @@ visit-returns-then-is_passed-clause-walked g t c =
     walked_over problem node.accepted node.left.now _ _ _ _ c.args.found.now _ c.requires.ready refl (omega (arith, was, rises))
     (sym read.greatest_read) read.greatest_offer
     (λ sel w opened e. c.is_passed.ensures.passed c.if-is_passed.true sel w opened
-    (under_bound problem relaxed c.args.pricing.now node.accepted node.rejected sel node.left.now _ w c.pricing_bounds_open_selections.ensures c.args.self.now.same
+    (under_bound problem relaxed c.args.node.now.pricing.now node.accepted node.rejected sel node.left.now _ w c.pricing_bounds_open_selections.ensures c.args.self.now.same
     c.requires.node c.requires.bounded opened e))
