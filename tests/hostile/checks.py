@@ -15,9 +15,9 @@ from shared.printed import Printed
 from lib.base import rules
 
 CHUNK = 65_536  # bytes of a read
-LENGTHS = [10_000, 100_000, 1_000_000, 4_000_000, 10_000_000, rules.MOST_BYTES]  # of texts that are read
+LENGTHS = [10_000, CHUNK - 1, CHUNK, 2 * CHUNK, 100_000, 1_000_000, 4_000_000, 10_000_000, rules.MOST_BYTES]  # of texts that are read
 PIPE = 1 << 20  # the most bytes of a pipe
-AMENDS = [9, 1_100, rules.MOST_DAY_COMMANDS - rules.MOST_BLOCKS]  # of all periods, whose journals have 30 KB, one megabyte and nine
+AMENDS = [9, 1_100, rules.MOST_DAY_COMMANDS - rules.MOST_BLOCKS - 100]  # of all periods, whose journals have 40 KB, 900 KB and 8 MB
 SMALL_BOOK = 30  # orders
 UNFINISHED = 3  # the status of a search that came to its limit on nodes
 
@@ -109,20 +109,29 @@ def check_reads(runs):
             _, made = runs.program.run([word], text, RefusedCalls("read", most=most))
             at_once = "one byte" if most else "as much as it asks for"
             runs.check(f"{word} reads {len(text)} bytes by {made} calls that give {at_once}", least <= made <= greatest)
+        answer, rest = runs.run_for_answer([word], data), data.removeprefix(DAY)
         for length in LENGTHS:
-            check_whole_reads(runs, word, data + b"\n" * (length - len(data)))
+            empty = b"\n" * (length - len(data))
+            for text in (data + empty, DAY + empty + b"\n" + rest.removesuffix(b"\n")):
+                check_whole_reads(runs, word, text, answer)
 
 
-def check_whole_reads(runs, word, text):
-    """A text of any length is read by as few calls, from a file and from a pipe that holds it."""
-    about, right = f"{word} reads {len(text):,} bytes of", -(-len(text) // CHUNK) + 1
-    got, made = runs.program.run([word], text, RefusedCalls("read"))
-    runs.check(f"{about} a file by {made} calls, and not {right}", (got.status, made) == (0, right))
+def check_whole_reads(runs, word, text, answer):
+    """A text of any length is read by as few calls, from a file and from a pipe that holds it. Its empty lines change no answer."""
+    about, right = f"{word} reads {len(text):,} bytes that end with {text[-1:]!r} of", -(-len(text) // CHUNK) + 1
+    tried = [("file", lambda: runs.program.run([word], text, RefusedCalls("read")))]
     if len(text) <= PIPE:
-        with open_full_pipe(text) as pipe:
-            got, made = runs.program.run([word], text, RefusedCalls("read"), source=pipe)
-        runs.check(f"{about} a pipe by {made} calls, and not {right}", (got.status, made) == (0, right))
+        tried.append(("pipe", lambda: run_from_pipe(runs.program, word, text)))
+    for source, run in tried:
+        got, made = run()
+        is_right = answer.is_given_answer(got) and made == right
+        runs.check(f"{about} a {source} by {made} calls, and not {right}, or gives another answer: status {got.status}", is_right)
     runs.program.write_input(text).unlink()
+
+
+def run_from_pipe(program, word, text):
+    with open_full_pipe(text) as pipe:
+        return program.run([word], text, RefusedCalls("read"), source=pipe)
 
 
 def open_full_pipe(text):
@@ -138,14 +147,28 @@ def check_writes(runs):
     """A text of any length is written by one call, if the stream takes it whole."""
     refused = DAY + b"cancel,ABCDEFGH,NAME-NUMBER1,,,,,,\n" * rules.MOST_DAY_COMMANDS
     tried = [("replay", AUCTION, 500), ("replay", refused, 200_000), ("clear", AUCTION, 500), ("day", OPEN_AUCTION, 500)]
-    for count in AMENDS:
-        names = itertools.islice(itertools.cycle(peaks.NAMES), count)
-        tried.append(("day", b"".join([peaks.DAY_RECORD, *map(peaks.block_submit, peaks.NAMES), *map(peaks.block_amend, names)]), 900 * count))
-    for word, data, least in tried:
+    tried = [(*it, None) for it in tried] + [it for count in AMENDS for it in amended_journals(runs.program, count)]
+    for word, data, least, right in tried:
         got, made = runs.program.run([word], data, RefusedCalls("write"))
         about = f"{word} writes {len(got.stdout):,} bytes by {made} calls: status {got.status}, {got.stderr[:80]!r}"
         runs.check(about, got.status == 0 and len(got.stdout) >= least and made == 1)
+        if right:
+            runs.check(f"{word} of {len(data):,} bytes has another output", got.stdout == right)
         runs.program.write_input(data).unlink()
+
+
+def amended_journals(program, count):
+    """Yields a day of one participant whose blocks are amended so often, and its closed journal, each with its right output. All blocks
+    are accepted, at one price. What a block gains shows its last amend."""
+    begin = [b"day,100,,,,,,,\n", *map(peaks.block_submit, peaks.NAMES)]
+    begin += [b"submit,ABCDEFGH,B-%d,hour,buy,%d,%d:%d,,\n" % (at, rules.HIGHEST_PRICE, at, rules.GREATEST_VOLUME) for at in range(1, 101)]
+    volumes = [b";".join(b"%d:%d" % (period, 1_000 + at * period % 3_001) for period in range(1, 101)) for at in range(100)]
+    numbered = zip(range(count), itertools.cycle(peaks.NAMES), itertools.cycle(volumes))
+    amends = [peaks.block_amend(name, at * 7_919 % rules.HIGHEST_PRICE, text) for at, name, text in numbered]
+    closed = b"".join([*begin, *amends, peaks.CLOSE])
+    short, _ = program.run(["clear"], b"".join([*begin, *amends[-len(peaks.NAMES) :], peaks.CLOSE]), judge.NOTHING_REFUSED)
+    yield "day", closed.removesuffix(peaks.CLOSE), 700 * count, closed + b"results\n" + short.stdout
+    yield "clear", closed, 100, short.stdout
 
 
 def check_small_books(runs):

@@ -59,8 +59,8 @@ def block_submit(name):
     return b"submit,ABCDEFGH,%b,block,sell,%d,%b,,G-%b\n" % (name, rules.HIGHEST_PRICE, PERIODS, name[2:])
 
 
-def block_amend(name):
-    return b"amend,ABCDEFGH,%b,,,%d,%b,,\n" % (name, rules.HIGHEST_PRICE, PERIODS)
+def block_amend(name, cents=rules.HIGHEST_PRICE, volumes=PERIODS):
+    return b"amend,ABCDEFGH,%b,,,%d,%b,,\n" % (name, cents, volumes)
 
 
 def with_quotes(records):
