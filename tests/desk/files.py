@@ -1,6 +1,7 @@
 """Files that aren't a desk's, full journals, hostile lines, and lines that are cut: a named fault, and nothing is changed."""
 
 import contextlib
+import itertools
 import os
 import random
 import resource
@@ -293,13 +294,14 @@ class FileTests:
             self.counts.check(f"a closed stream {stream}: {marked}", marked in (b"", b"+" + DAY + b"+" + CLOSE))
 
     def check_own_output(self):
-        """A file that is the desk's own output, which would destroy it."""
-        for mode in ("ab", "r+b"):
-            file = write_desk_file(self.desk.make_folder(), file_of_records(DAY))
+        """A file that is the desk's own output, which would destroy it: of a day alone, of more than a megabyte, and a longest one."""
+        befores = [file_of_records(DAY), *(file_of_records(*journals.longest_records(count)) for count in (1_500, rules.MOST_RECORDS - 2))]
+        for mode, before in itertools.product(("ab", "r+b"), befores):
+            file = write_desk_file(self.desk.make_folder(), before)
             with file.open(mode) as output:
                 ran = subprocess.run([*self.desk.words, str(file)], input=CLOSE, stdout=output, stderr=subprocess.PIPE)
             got = Printed(ran.returncode, file.read_bytes(), ran.stderr)
-            self.check_run(f"an output to the file itself, opened as {mode}", got, 1, file_of_records(DAY), OWN_OUTPUT)
+            self.check_run(f"an output to the file itself, opened as {mode}, of {len(before):,} bytes", got, 1, before, OWN_OUTPUT)
 
     def check_full_journals(self):
         """A journal at its limit takes a close, and then nothing."""
