@@ -80,6 +80,25 @@ class Columns(unittest.TestCase):
         said = "line 1: there is no column participant, kind, price_eur_mwh, volume_mw; the columns are participant, order"
         self.assertTrue(any(line.startswith(said) for line in found), found)
 
+    def test_an_order_on_the_line_of_the_header(self):
+        """It would be lost. Its first cell may be part of the last heading."""
+        first, header = "GAS,LOAD-8,hour,buy,95.00,8,80", "participant,order,kind,side,price_eur_mwh,periods,volume_mw"
+        ends = "is no heading, but may be of an order: write each order on a line of its own, and headings in words"
+        for between in ("\v", "\f", "\x1c", "\x1d", "\x1e", "\x85", "\u2028", "\u2029"):
+            said = f"{text.escaped(between)}GAS' has a character that ends a line for some programs: remove it"
+            for rows in ([self.ROW], []):
+                self.assertEqual(wrong(*rows, header=f"{header},note{between}{first}"), [f"line 1, column 8: 'note{said}"])
+                self.assertEqual(wrong(*rows, header=f"{header},group{between}GAS"), [f"line 1, column 8: 'group{said}"])
+            self.assertIn("has a character that ends a line", wrong(header=f"{header}{between}{first}{between}")[0])
+            self.assertIn("has a character that ends a line", wrong(self.ROW, header=f"{header}{between}")[0])
+        for between in (" ", ",", "", ",,"):
+            (said,) = wrong(self.ROW, header=f"{header},note{between}{first}")
+            self.assertRegex(said, f"^line 1, column (9|10|11|12): 'hour' {ends}$")
+        for heading in ("hour", "Sell", "2026", "8-20", "07:00-20:00", "1;3"):
+            self.assertEqual(wrong(header=f"{header},{heading}"), [f"line 1, column 8: '{heading}' {ends}"])
+        for headings in ("hour,2026", "2025,2026,2026-11-25", "block", "buy,sell", "hour of a day,buy price,1,2", "x\x1b", "price 2026"):
+            self.assertEqual(len(made(self.ROW.removesuffix(",,"), header=f"{header},{headings}")[0]), 1)
+
     def test_headers_of_tables_put_together(self):
         lines, notes = made(self.ROW, HEADER, self.ROW.replace("A,", "B,"))
         self.assertEqual((len(lines), notes), (2, ["line 3 names the columns once more"]))

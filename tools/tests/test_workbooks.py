@@ -446,7 +446,7 @@ class Unlike(unittest.TestCase):
 
     def test_percentages(self):
         """Excel shows a price of 0.95 as 95%, so either may be meant."""
-        codes = "0%", "[Red]0.0%;-0.0%", "# %", "0 [$%]", "[$%-409]0", "0.00\\%", "0.00&quot;%&quot;", "0.00_%"
+        codes = "0%", "[Red]0.0%;-0.0%", "# %", "0 [$%]", "[$%-409]0", "0.00_%"
         formats = "".join(f'<numFmt numFmtId="{164 + at}" formatCode="{code}"/>' for at, code in enumerate(codes))
         # a number may have zeros, a sign and blanks before it
         numbers = "9", "10", "09", "+10", " 9&#10;", "0164", *map(str, range(164, 164 + len(codes)))
@@ -456,7 +456,7 @@ class Unlike(unittest.TestCase):
             for letter, value in (("E", 0.95), ("F", 8), ("G", 0.9)):
                 found, fault = self.read({"xl/styles.xml": styles.encode()}, **{letter: f'<c s="{style}"><v>{value}</v></c>'})
                 said = f"line 2, column {self.COLUMNS[letter]}: {self.PERCENTAGE.format(value)}"
-                self.assertEqual((fault, found is None), (said, True) if number not in numbers[-3:] else (None, False), number)
+                self.assertEqual((fault, found is None), (said, True) if number != numbers[-1] else (None, False), number)
         _, fault = self.read({"xl/styles.xml": styles.encode()}, E='<c s=" +0&#9;"><v>0.5</v></c>')
         self.assertEqual(fault, f"line 2, column price_eur_mwh: {self.PERCENTAGE.format('0.5')}")
 
@@ -473,8 +473,8 @@ class Unlike(unittest.TestCase):
             ("0.0.0", "5"), ("0).0", "5"), ("0&quot;x&quot;.0", "5"), ("0&quot; MW&quot;,", "5"), ("0*x,", "5"),
             ("0.00;[Red]0.00", None), ("0.00;(0.00)", None), ("0.00E-00", None), ("#\\ ##0.0", None), ("0.00&quot; EUR-MWh&quot;", None),
             ("#,##0.00", None), ("0.00;[Red]-0.00", None), ("0;-0;;@", None), ("0.0&quot; EUR/MWh&quot;", None), ("[$€-407] 0.00", None),
-            ("_-* #,##0.00\\ &quot;kr.&quot;_-;-* #,##0.00\\ &quot;kr.&quot;_-;_-* &quot;-&quot;??_-;_-@_-", None), ("0.00E+00", None), ("# ?/?", None),
-            ("General&quot; MW&quot;", None), ("0;&quot;7&quot;", None), ("0;-0;", None), ("???0", None),
+            ("0.00E+00", None), ("# ?/?", None), ("General&quot; MW&quot;", None), ("0;&quot;7&quot;", None), ("0;-0;", None),
+            ("???0", None), ("&quot;MAX -EUR &quot;0", "5"),
         ):  # fmt: skip
             styles = f'<numFmts><numFmt numFmtId="164" formatCode="{code}"/></numFmts><cellXfs><xf/><xf numFmtId="164"/></cellXfs>'
             styles = {"xl/styles.xml": f'<styleSheet xmlns="{made.MAIN[0]}">{styles}</styleSheet>'.encode()}
@@ -491,13 +491,33 @@ class Unlike(unittest.TestCase):
         styles = {"xl/styles.xml": f'<styleSheet xmlns="{made.MAIN[0]}">{styles}</styleSheet>'.encode()}
         return self.read(styles, E=f'<c s="1"><v>{number}</v></c>')
 
+    def test_formats_that_add_words(self):
+        """They may say another unit, or a multiple of one; those of orders are harmless, and so are accounts in EUR."""
+        said = "line 2, column price_eur_mwh: '5' is a number whose format adds '{}': give its cell the format General"
+        for code, words in (
+            ('0" kW"', " kW"), ("[$kW] 0", "kW"), ('0" GW"', " GW"), ('0"k"', "k"), ('0" thousand"', " thousand"), ('0" Mio"', " Mio"),
+            ('0" percent"', " percent"), ("0\\%", "%"), ('0"%"', "%"), ("0‰", "‰"), ('"minus "0', "minus "), ("$0", "$"),
+            ('_("$"* #,##0.00_);_("$"* \\(#,##0.00\\);_("$"* "-"??_);_(@_)', "$"), ('[>3]0" kW";0', " kW"), ('0\\ "k"\\W', " kW"),
+            ("0k", "k"), ('0" EUR/kWh"', " EUR/kWh"), ('"A - B "0', "A - B "), ("0*k", "k"), ("0~", "~"), ('"EUR "0" ct"', " ct"),
+        ):  # fmt: skip
+            found, fault = self.shown(code.replace('"', "&quot;").replace(">", "&gt;"), 5)
+            self.assertEqual((fault, found), (said.format(words), None), code)
+        for code in (
+            '0.0" MW"', '0" MWh"', '0"mw"', '0" EUR/MWh"', "0.00\\ €", "#,##0.00\\ [$€-407];[RED]-#,##0.00\\ [$€-407]", "[$EUR] 0.00",
+            '_-* #,##0.00\\ "€"_-;\\-* #,##0.00\\ "€"_-;_-* "-"??\\ "€"_-;_-@_-', "_(* #,##0.00_);_(* \\(#,##0.00\\);_(* \"-\"??_);_(@_)",
+            '"EUR "0"/MWh"', '0" €/MWh"', '0;-0" kW"', "#\\ ##0.00", "0.00E+00", "# ?/?", '"€"#,##0.00;-"€"#,##0.00', '0" Euro per MWh"',
+        ):  # fmt: skip
+            self.assertEqual(self.shown(code.replace('"', "&quot;"), 5)[1], None, code)
+        _, fault = self.shown("0;-0&quot; kW&quot;", -5)
+        self.assertEqual(fault, said.format(" kW").replace("5", "-5"))
+
     def test_repeated_characters(self):
         """One that fills a cell may be a digit, or look like a sign; and a cell may be filled with its number."""
         for code in ("0*0", "*50", "[&gt;3]*50;0", "0*.", "*-0", "*\uff150"):
             for number in (2, 5):
                 _, said = self.shown(code, number)
                 self.assertIn(f"'{number}' is a number that Excel shows in another way", said or "", code)
-        for code in ("* 0", "**0", "0*x", "_-* 0_-"):
+        for code in ("* 0", "**0", "_-* 0_-"):
             self.assertEqual(self.shown(code, 5)[1], None, code)
         said = "is a number that fills its cell again and again: give its cell another horizontal alignment"
         for code in ("General", "0", "0.00", "0.00;0.00"):
@@ -514,15 +534,15 @@ class Unlike(unittest.TestCase):
         minuses = *"-\u2013\u2014\u2212\uff0d\ufe63\u207b\u2011\u00b1\u25b2", "\\-", "*-"
         codes = [f"{minus if len(minus) > 1 else f'&quot;{minus}&quot;'}0" for minus in minuses]
         codes += ["\uff080\uff09", "&quot;\uff08&quot;0&quot;\uff09&quot;", "\uff0d0", "\ufe590\ufe5a", "&quot;[&quot;0&quot;]&quot;", "0)"]
-        codes += [f"&quot;{words}&quot;0" for words in ("EUR -", "-EUR ", "- EUR ", "MAX -EUR ", "(EUR ", "()")]
+        codes += [f"&quot;{words}&quot;0" for words in ("EUR -", "-EUR ", "- EUR ", "(EUR ", "()")]
         codes += [f"0&quot;{words}&quot;" for words in (" -", "- EUR", " EUR-", " EUR)")]
         for code in codes:
             _, said = self.shown(code, 5)
             self.assertIn("'5' is a number that Excel shows in another way", said or "", code)
             self.assertEqual(self.shown(f"0;{code};0", 5)[1], None, code)
             self.assertEqual(self.shown(f"0;{code};0", -5)[1], None, code)
-        plain = [f"&quot;{words}&quot;0" for words in ("(EUR) ", "A-B ", "A - B ", "+")]
-        plain += [f"0&quot;{words}&quot;" for words in ("", " (MW)", "-MW", " A - B")]
+        plain = [f"&quot;{words}&quot;0" for words in ("(EUR) ", "EUR-MWh ", "+")]
+        plain += [f"0&quot;{words}&quot;" for words in ("", " (MW)", "-MW", " EUR-MWh")]
         for code in plain:
             self.assertEqual(self.shown(code, 5)[1], None, code)
             self.assertEqual(self.shown(f"0.0;{code}", 5)[1], None, code)
@@ -737,7 +757,7 @@ class Unlike(unittest.TestCase):
         """Two times of a day, or two numbers, may be shown alike."""
         for cell, said in (
             ('<c s="1"><v>46254.25</v></c>', "'2026-08-20' is a date or a time: make the cell one of text"),
-            ('<c s="3"><v>4</v></c>', "'4' is a number with a format: make the cell one of text"),
+            ('<c s="3"><v>4</v></c>', "'4' is a number whose format adds 'days': give its cell the format General"),
             ("<c><f>A1</f></c>", "'=A1' is a formula that was saved without its value"),
         ):
             data = made.workbook_of_sheet(made.OPEN.replace(b">group<", b">scenario<"), b"<row r='2'>" + b"<c/>" * 8 + cell.encode() + b"</row>", made.CLOSE)

@@ -3,6 +3,7 @@ column."""
 
 import difflib
 import itertools
+import re
 from typing import NamedTuple
 
 from ..base import rules, text
@@ -29,16 +30,21 @@ FULL = {
     "BlocksFull": f"a book holds at most {rules.MOST_BLOCKS} blocks",
 }
 DAYS = [str(periods) for periods in rules.DAYS]
+# What ends a line for some programs, and none of a text; and parts of an order that are no heading: words, and cells of digits.
+OTHER_ENDS = re.compile("[\v\f\x1c-\x1e\x85\u2028\u2029]")
+KINDS, SIDES, DIGITS = ("hour", "block"), ("buy", "sell"), re.compile(r"[\W\d]*\d[\W\d]*")
 
 
 def find_columns(line, header, needed, further):
-    """Where each column stands, and notes on those that aren't used; if not, all that is wrong with the columns, a line each. Those that
-    are needed have to be there; the further ones are used, and read by others."""
+    """Where each column stands, and the headings of those that aren't used, by their columns; if not, all that is wrong with the columns,
+    a line each. Those that are needed have to be there; the further ones are used, and read by others."""
     names = [cell.strip().lower() for cell in header]
     missing = [name for name in ORDER if name not in names]
-    places, wrong, notes = {}, [], []
+    places, wrong, unused = {}, [], {}
     for at, (name, cell) in enumerate(zip(names, header), 1):
-        if name in places or name in further and names.index(name) < at - 1:
+        if OTHER_ENDS.search(cell):
+            wrong.append(f"line {line}, column {at}: {text.quoted(cell)} has a character that ends a line for some programs: remove it")
+        elif name in places or name in further and names.index(name) < at - 1:
             wrong.append(f"line {line}, column {at}: the column {text.quoted(name)} appears twice")
         elif isinstance(cell, Uncomputed):
             wrong.append(f"line {line}, column {at}: {cell.fault()}")
@@ -49,13 +55,17 @@ def find_columns(line, header, needed, further):
         elif alike := columns_meant(name, missing, needed):
             wrong.append(f"line {line}, column {at}: {text.quoted(cell)} is not a column: write {alike[0]}")
         elif name and name not in further:
-            notes.append(f"the column {text.quoted(cell)} isn't used")
+            unused[at] = cell
     lacking = [name for name in missing if name in needed]
     if lacking:
         wrong.append(f"line {line}: there is no column {', '.join(lacking)}; the columns are {', '.join([*further, *ORDER])}")
     if wrong:
-        raise BadOrders("\n".join([*wrong, *(f"line {line}: {note}" for note in notes)] if lacking else wrong))
-    return places, notes
+        raise BadOrders("\n".join([*wrong, *(f"line {line}: {note}" for note in unused_notes(unused))] if lacking else wrong))
+    return places, unused
+
+
+def unused_notes(unused):
+    return [f"the column {text.quoted(cell)} isn't used" for cell in unused.values()]
 
 
 def columns_meant(name, missing, needed):
@@ -110,8 +120,8 @@ class Row:
     def command(self):
         """The submit that the row is; of no use if something is wrong."""
         who, name = self.read("participant", cell_values.read_participant), self.read("order", cell_values.read_name)
-        kind = self.read("kind", cell_values.word_parser("hour", "block"))
-        side = self.read("side", cell_values.word_parser("buy", "sell"))
+        kind = self.read("kind", cell_values.word_parser(*KINDS))
+        side = self.read("side", cell_values.word_parser(*SIDES))
         price = self.read("price_eur_mwh", lambda cell: cell_values.parse_price(cell, self.decimal_comma))
         numbers = self.read("periods", lambda cell: cell_values.parse_kept_periods(cell, self.periods))
         if kind == "hour" and numbers and len(numbers) != 1:
@@ -243,15 +253,27 @@ def require_order_table(name, found, needed=NEEDED, further=()):
     if WHAT not in further:
         refuse_commands(header, found.rest())
     try:
-        places, notes = find_columns(line, header, needed, further)
+        places, unused = find_columns(line, header, needed, further)
+        refuse_lost_order(line, unused, found.rest())
         refuse_unnamed(header, found.rest())
     except BadOrders as fault:
         raise BadOrders("\n".join([str(fault), *read])) from None
-    notes = [*read, *notes]
+    notes = [*read, *unused_notes(unused)]
     again = [number for number, cells in found.rest() if cells == header]
     if again:
         notes.append(f"line {', '.join(map(str, again))} names the columns once more")
     return Table(name, Below(found), places, len(header), found.decimal_comma, notes, read)
+
+
+def refuse_lost_order(line, unused, rows):
+    """Refuses a header that goes on with an order: with a kind or side, and at least two of its price, periods and volume. In a table
+    without rows, one of these may be what is left of them."""
+    words = [at for at, cell in unused.items() if cell.strip().lower() in KINDS + SIDES]
+    numbers = [at for at, cell in unused.items() if DIGITS.fullmatch(cell)]
+    if words and len(numbers) > 1 or (words or numbers) and next(iter(rows), None) is None:
+        at = min(words + numbers)
+        said = "is no heading, but may be of an order: write each order on a line of its own, and headings in words"
+        raise BadOrders(f"line {line}, column {at}: {text.quoted(unused[at])} {said}")
 
 
 def refuse_unnamed(header, rows):

@@ -67,6 +67,16 @@ class Rounded(Changed):
         return f"{text.quoted(number)} is a number that Excel shows as {shown}: {self.remedy}"
 
 
+class Worded(Changed):
+    """A number, and the words that Excel shows next to it, with a blank between them."""
+
+    __slots__ = ()
+
+    def fault(self):
+        number, words = self.split(" ", 1)
+        return f"{text.quoted(number)} is a number whose format adds {text.quoted(words)}: {self.remedy}"
+
+
 class Styled(Unlike):
     __slots__ = ()
     kind = "a text with a format"
@@ -133,7 +143,8 @@ class Kept:
 
 
 # The kinds of cells: before each cell of a packed row stands a half of a character, which no text has, and says its kind.
-CELLS = str, int, StyledString, Uncomputed, Date, Formatted, Percentage, Changed, Repeated, Hidden, Rounded, Styled, Shortened, Truth
+NUMBERS_SHOWN = Formatted, Percentage, Changed, Repeated, Hidden, Rounded, Worded, Shortened
+CELLS = str, int, StyledString, Uncomputed, Date, *NUMBERS_SHOWN, Styled, Truth
 HALVES = {kind: chr(0xD800 + at) for at, kind in enumerate(CELLS)}
 PACKED = re.compile("([\ud800-\udfff])([^\ud800-\udfff]*)")
 

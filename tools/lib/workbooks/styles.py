@@ -7,7 +7,7 @@ import unicodedata
 from fractions import Fraction
 
 from ..base import text
-from .cells import Changed, Date, Formatted, Percentage, Repeated, Rounded, Shortened
+from .cells import Changed, Date, Formatted, Percentage, Repeated, Rounded, Shortened, Worded
 from .limits import LONGEST_FORMAT, MOST_FORMATS, MOST_OF_FORMATS, MOST_OWN_FORMATS, broken, too_many
 from .part import ANY_OTHERS, BLANK, Part, unsigned
 
@@ -30,6 +30,8 @@ POINTS = ".,\u00b7\u066b\u066c\u3001\u3002"  # and commas, in one width, of all 
 MINUS = re.compile(r"\b(?:MINUS|HYPHEN|DASH)\b")  # in the name of a character
 OTHER_MINUSES = "\u25b2\u25b3\u2500"  # the triangles of Japanese tables, and a line that looks like a minus
 REVERSED = "\u202e"  # the characters after it are shown from right to left
+# The words that a format may add: signs, of which others decide, separators of thousands, and the units of orders.
+HARMLESS = re.compile(rf"[-()+*{SEPARATORS}]*(?:(?:EUR(?:OS?)?|\u20ac)?(?: ?(?:[-/.]|per) ?MWh)?|MWh?)[-()+*{SEPARATORS}]*", re.IGNORECASE)
 LETTER, OTHER = r"[^\W\d_]", r"[\W\d_]"
 IN_BRACKETS = re.compile(r"\([^()]*\)")
 # A sign in words before or after a number: a bracket, or a minus that doesn't join words.
@@ -148,6 +150,12 @@ def hides_zero(pieces):
     return not re.search(f"[0/{GENERAL}]", "".join(map(code_of, pieces))) and "-" not in "".join(signs(pieces))
 
 
+def added_words(pieces):
+    """The words that a section of a format adds to a number, before and after digits, if they may be of another unit."""
+    words = (added(piece) or ("\0" if code_of(piece) in f"0#?.,/@{GENERAL}" or len(piece) > 1 else piece) for piece in pieces)
+    return [found for found in "".join(words).split("\0") if not HARMLESS.fullmatch("".join(map(sign, found)))]
+
+
 def changes(code):
     """Whether a format changes positive numbers, negative ones and zero. A section of its own for negative ones shows them without their
     sign, unless it has one. Under conditions, any section may be of any number, and show it without its sign."""
@@ -164,14 +172,17 @@ def changes(code):
 def of_sections(code):
     """How a format shows a number. Of a name, 0 alone shows all characters."""
     positive, negative, zero = changes(code)
-    rounds = list(map(rounding, sections_of(code)[:3]))
-    of_negative, of_others = rounds[1:2] or rounds, rounds if re.search(r"\[[<>=]", code) else rounds[:1]
+    sections = [(rounding(pieces), added_words(pieces)) for pieces in sections_of(code)[:3]]
+    is_conditional = re.search(r"\[[<>=]", code)
 
     def shown(words):
         number = decimal.Decimal(words)
         if positive if number > 0 else negative if number < 0 else zero:
             return Changed(words)
-        for rounded in of_negative if number < 0 else of_others:
+        at = 0 if number > 0 else 1 if number < 0 else 2
+        for rounded, more in sections if is_conditional else sections[at : at + 1] or sections[:1]:
+            if more:
+                return Worded(f"{words} {more[0]}")
             if (other := rounded(number)) != number:
                 return Rounded(f"{words} {other + 0}")
         return (str if code.strip() == "0" else Formatted)(words)
