@@ -2,7 +2,7 @@
 use Rattle.std.specs.Prelude.{◌≡◌, Bool, false, List, ℕ, ◌∷◌, ◌++◌}
 use Rattle.sqlite_disk.specs.declared.Disk.{Ghosts}
 use Rattle.dam_store.specs.FileLines.{lines_in, bytes_on_disk, has_byte, StandsFor}
-use Rattle.dam_store.specs.declared.store.Found.{Found}
+use Rattle.dam_store.specs.declared.open.Found.{Found}
 use Rattle.dam_store.specs.declared.store.Store.{Store}
 
 -- the disk that a store writes to

@@ -1,6 +1,7 @@
 ghost use Rattle.std.specs.Prelude.{◌≡◌};
 ghost use Rattle.dam_store.specs.Faults.{is_not_a_file};
 
+use crate::limits::MOST_FILE_BYTES;
 use sqlite_std_file::OpenError;
 use std::alloc::AllocError;
 use std::io::{self, ErrorKind};
@@ -72,8 +73,6 @@ pub enum StoreFault {
     #[error("an earlier write or sync failed")]
     Broken,
 }
-
-use crate::limits::MOST_FILE_BYTES;
 
 impl From<AllocError> for StoreFault {
     ghost use Rattle.std.specs.Prelude.{◌≡◌};

@@ -1,16 +1,20 @@
-//! The lines of a store as a text, read from the bytes of its file.
-
-ghost use Rattle.std.specs.Prelude.{◌≡◌, ◌⊎◌, ◌≤◌, ℕ, List, length, IfOk, IfErr};
+//! The lines of a store as a text, read from the bytes of its file, or from its disk.
+ghost use Rattle.std.specs.Prelude.{◌≡◌, ◌⊎◌, ◌≤◌, ℕ, List, true, false, not, length, drop, IsTrue, IfOk, IfErr, OnOk};
+ghost use Rattle.sqlite_disk.specs.Disk.{MoreFaults};
 ghost use Rattle.dam_store.specs.Limits.{most_file_bytes};
 ghost use Rattle.dam_store.specs.FileLines.{text_of, StandsFor};
-ghost use Rattle.dam_store.specs.Faults.{IsRefused};
-ghost use Rattle.dam_store.specs.inside.Shape.{IsEnd};
+ghost use Rattle.dam_store.specs.Store.{IsUntouched};
+ghost use Rattle.dam_store.specs.Faults.{is_failed_read, is_failed_sync, is_failure, is_refused_file, IsRefused};
+ghost use Rattle.dam_store.specs.inside.Shape.{IsEnd, rest_of};
+ghost use Rattle.dam_store.specs.inside.Synced.{IsRest, IsSynced};
 ghost use Rattle.dam_store.specs.declared.fault.StoreFault.TheVariants.{Memory};
 
+use crate::disk::read_file;
 use crate::fault::StoreFault;
 use crate::limits::MOST_FILE_BYTES;
 use crate::recovery::{HEAD_LINE, is_unmade};
 use crate::scan::read_lines;
+use sqlite_disk::Disk;
 use std::alloc::Global;
 
 /// The lines that a file's bytes stand for.
@@ -60,4 +64,58 @@ pub fn text_of_file_bytes(alloc: Global, file: &[u8]) -> Result<Vec<u8>, StoreFa
     }
     let found = file_lines(alloc, file)?;
     Ok(found.text)
+}
+
+/// Keeps only the bytes from `at` on, and gives the memory of the others back.
+fn keep_from(bytes: &mut Vec<u8>, at: usize)
+    requires { at ≤ length bytes.old.items }
+    ensures { bytes.new.items ≡ drop at bytes.old.items }
+{
+    let len = bytes.len() - at;
+    bytes.copy_within(at.., 0);
+    bytes.truncate(len);
+    bytes.shrink_to_fit();
+}
+
+/// Keeps only the bytes from the end of the lines on; all, if the file was never made whole.
+fn keep_after_lines(file: &mut Vec<u8>, end: Option<usize>)
+    requires { IsEnd file.old.items end }
+    ensures { file.new.items ≡ rest_of file.old.items end }
+{
+    if let Some(end) = end {
+        keep_from(file, end);
+    }
+}
+
+/// Syncs the file, and reads it. Returns the bytes from the end of its lines on, and the lines.
+pub(crate) fn sync_and_read<D: Disk>(
+    alloc: Global,
+    disk: &mut D,
+) -> Result<(Vec<u8>, FileLines), StoreFault>
+    requires usable { IsTrue (D.Disk.is_usable disk.old) }
+    ensures synced { OnOk result (IsSynced D.Disk disk.new) }
+    ensures rest { IfOk result (λ found. IsRest D.Disk disk.new found.1.end found.0.items) }
+    ensures text { IfOk result (λ found. IsTrue (D.Disk.is_clean disk.new)
+        → (lines : List (List ℕ)) × StandsFor lines (D.Disk.seen disk.old)
+        × (found.1.text.items ≡ text_of lines)) }
+    ensures untouched { IsUntouched D.Disk disk.old disk.new }
+    ensures clean { IsTrue (D.Disk.is_clean disk.new) → IsTrue (D.Disk.is_clean disk.old) }
+    ensures faults { OnOk result (D.Disk.faults disk.new ≡ D.Disk.faults disk.old) }
+    ensures failure { IfErr result (λ fault. is_failure fault ≡ true
+        → MoreFaults (D.Disk.faults disk.old) (D.Disk.faults disk.new)) }
+    ensures no_failure { IfErr result (λ fault. is_failure fault ≡ false
+        → D.Disk.faults disk.new ≡ D.Disk.faults disk.old) }
+    ensures refusal { IfErr result (λ fault. is_refused_file fault ≡ true
+        → IsTrue (D.Disk.is_clean disk.new)
+        → IsRefused (D.Disk.seen disk.old) fault) }
+    ensures no_other { IfErr result (λ fault. (is_failed_read fault ≡ true)
+        ⊎ (is_failed_sync fault ≡ true) ⊎ (is_refused_file fault ≡ true) ⊎ (fault ≡ Memory)) }
+    ensures usable { IfErr result
+        (λ fault. D.Disk.is_usable disk.new ≡ not (is_failed_sync fault)) }
+{
+    disk.sync().map_err(StoreFault::Sync)?;
+    let mut bytes = read_file(alloc, disk)?;
+    let lines = file_lines(alloc, &bytes)?;
+    keep_after_lines(&mut bytes, lines.end);
+    Ok((bytes, lines))
 }

@@ -3,7 +3,6 @@
 //! Nothing is assumed of a write that a crash cuts short: any bytes may stand in its range.
 #![tactic(auto)]
 
-mod append;
 mod batch;
 mod disk;
 mod fault;
@@ -21,4 +20,5 @@ pub use fault::{BatchFault, FileFault, StoreFault};
 pub use file::open_file;
 pub use file_lines::text_of_file_bytes;
 pub use limits::MOST_FILE_BYTES;
-pub use store::{Found, Store, Unopened};
+pub use open::{Found, Unopened};
+pub use store::Store;

@@ -1,73 +1,43 @@
-ghost use Rattle.std.specs.Prelude.{◌≡◌, ◌⊎◌, ◌≤◌, List, ℕ, length, drop, true, false, not, IsTrue, IfOk, IfErr, OnOk};
-ghost use Rattle.dam_store.specs.FileLines.{stands_for, text_of, StandsFor};
-ghost use Rattle.dam_store.specs.Store.{disk_of, found_on, is_broken, held_lines, IsSafe, IsTidy, IsUntouched};
-ghost use Rattle.dam_store.specs.Faults.{is_failed_read, is_failed_sync, is_failed_write, is_failure, is_refused_file, IsRefused};
-ghost use Rattle.dam_store.specs.StoreHistory.{Known, IsKnown, IsPossible};
-ghost use Rattle.dam_store.specs.inside.Shape.{IsEnd, rest_of};
-ghost use Rattle.dam_store.specs.inside.Synced.{IsRest, IsSynced};
-ghost use Rattle.dam_store.specs.declared.fault.StoreFault.TheVariants.{Memory};
+//! Finds the store in a file, and opens it.
+ghost use Rattle.std.specs.Prelude.{◌≡◌, ◌⊎◌, List, ℕ, true, false, not, IsTrue, IfOk, IfErr};
+ghost use Rattle.std.proofs.Props.{props};
 ghost use Rattle.sqlite_disk.specs.Disk.{MoreFaults, Only};
+ghost use Rattle.dam_store.specs.FileLines.{stands_for, text_of, StandsFor};
+ghost use Rattle.dam_store.specs.StoreHistory.{Known, IsKnown, IsPossible};
+ghost use Rattle.dam_store.specs.Faults.{is_failed_read, is_failed_sync, is_failed_write, is_failure, is_refused_file, IsRefused};
+ghost use Rattle.dam_store.specs.inside.Synced.{IsRest};
+ghost use Rattle.dam_store.specs.declared.fault.StoreFault.TheVariants.{Memory};
 
-use crate::disk::read_file;
 use crate::fault::StoreFault;
-use crate::file_lines::{FileLines, file_lines};
+use crate::file_lines::sync_and_read;
 use crate::recovery::repair;
-use crate::store::{Found, Store, Unopened};
+use crate::store::Store;
 use sqlite_disk::Disk;
 use std::alloc::Global;
 
-/// Keeps only the bytes from `at` on, and gives the memory of the others back.
-fn keep_from(bytes: &mut Vec<u8>, at: usize)
-    requires { at ≤ length bytes.old.items }
-    ensures { bytes.new.items ≡ drop at bytes.old.items }
-{
-    let len = bytes.len() - at;
-    bytes.copy_within(at.., 0);
-    bytes.truncate(len);
-    bytes.shrink_to_fit();
+/// A store that was found on a disk, before the end of its file is repaired. Nothing was written yet.
+#[derive(Drop)]
+pub struct Found<D: Disk> {
+    /// The lines that it holds, with a newline at the end of each.
+    pub text: Vec<u8>,
+    pub(crate) disk: D,
+    /// The end of the lines. None: the file was never made whole.
+    pub(crate) end: Option<usize>,
+    /// The bytes of the file from there on, or all.
+    pub(crate) rest: Vec<u8>,
+    ghost found: { IsRest D.Disk disk end rest.items } by { Prim.hlevel props },
 }
 
-/// Keeps only the bytes from the end of the lines on; all, if the file was never made whole.
-fn keep_after_lines(file: &mut Vec<u8>, end: Option<usize>)
-    requires { IsEnd file.old.items end }
-    ensures { file.new.items ≡ rest_of file.old.items end }
-{
-    if let Some(end) = end {
-        keep_from(file, end);
-    }
-}
-
-/// Syncs the file, and reads it. Returns the bytes from the end of its lines on, and the lines.
-fn sync_and_read<D: Disk>(alloc: Global, disk: &mut D) -> Result<(Vec<u8>, FileLines), StoreFault>
-    requires usable { IsTrue (D.Disk.is_usable disk.old) }
-    ensures synced { OnOk result (IsSynced D.Disk disk.new) }
-    ensures rest { IfOk result (λ found. IsRest D.Disk disk.new found.1.end found.0.items) }
-    ensures text { IfOk result (λ found. IsTrue (D.Disk.is_clean disk.new)
-        → (lines : List (List ℕ)) × StandsFor lines (D.Disk.seen disk.old)
-        × (found.1.text.items ≡ text_of lines)) }
-    ensures untouched { IsUntouched D.Disk disk.old disk.new }
-    ensures clean { IsTrue (D.Disk.is_clean disk.new) → IsTrue (D.Disk.is_clean disk.old) }
-    ensures faults { OnOk result (D.Disk.faults disk.new ≡ D.Disk.faults disk.old) }
-    ensures failure { IfErr result (λ fault. is_failure fault ≡ true
-        → MoreFaults (D.Disk.faults disk.old) (D.Disk.faults disk.new)) }
-    ensures no_failure { IfErr result (λ fault. is_failure fault ≡ false
-        → D.Disk.faults disk.new ≡ D.Disk.faults disk.old) }
-    ensures refusal { IfErr result (λ fault. is_refused_file fault ≡ true
-        → IsTrue (D.Disk.is_clean disk.new)
-        → IsRefused (D.Disk.seen disk.old) fault) }
-    ensures no_other { IfErr result (λ fault. (is_failed_read fault ≡ true)
-        ⊎ (is_failed_sync fault ≡ true) ⊎ (is_refused_file fault ≡ true) ⊎ (fault ≡ Memory)) }
-    ensures usable { IfErr result
-        (λ fault. D.Disk.is_usable disk.new ≡ not (is_failed_sync fault)) }
-{
-    disk.sync().map_err(StoreFault::Sync)?;
-    let mut bytes = read_file(alloc, disk)?;
-    let lines = file_lines(alloc, &bytes)?;
-    keep_after_lines(&mut bytes, lines.end);
-    Ok((bytes, lines))
+/// A disk that holds no store that can be opened now, and why.
+#[derive(Drop)]
+pub struct Unopened<D: Disk> {
+    pub why: StoreFault,
+    pub disk: D,
 }
 
 impl<D: Disk> Found<D> {
+    ghost use Rattle.dam_store.specs.Store.{disk_of, found_on, is_broken, held_lines, IsSafe, IsTidy, IsUntouched};
+
     /// Finds the store in the file that a crash may have left, or in an empty one. It syncs and reads the file, and writes
     /// nothing.
     pub fn find(alloc: Global, mut disk: D) -> Result<Found<D>, Unopened<D>>

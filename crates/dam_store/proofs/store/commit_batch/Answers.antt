@@ -4,7 +4,7 @@ use Rattle.dam_store.specs.FileLines.{marked, bytes_on_disk, lines_in, StandsFor
 use Rattle.dam_store.specs.inside.Shape.{IsAtRest, IsFileAtRest}
 use Rattle.dam_store.proofs.Rest.{staged_torn, staged_is, opened_torn, opened_at_rest, rest_lines, rest_from, closed_from, newline_after, after_mark, after_mark_some}
 use Rattle.dam_store.proofs.Steps.{crash_step}
-use Rattle.dam_store.proofs.append.commit_batch.Goals as goal
+use Rattle.dam_store.proofs.store.commit_batch.Goals as goal
 
 pub returns-in_err-write_and_sync-clause-crash : goal.returns-in_err-write_and_sync-clause-crash
 returns-in_err-write_and_sync-clause-crash g c clean file left =
