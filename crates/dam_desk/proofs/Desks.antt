@@ -13,7 +13,7 @@ use Rattle.dam_desk.specs.Desk.{DeskHasAnswered, Finishes, IsDesk, IsEnding, Lin
 use Rattle.dam_desk.specs.Faults.{IsWritingFault, SaysCount, fault_after, is_read, of_store}
 use Rattle.dam_desk.specs.declared.desk.Desk.{Desk}
 use Rattle.dam_desk.specs.declared.fault.DeskFault.{DeskFault}
-use Rattle.dam_desk.specs.declared.fault.DeskFault.TheVariants.{File, Store as Stores, NotAJournal, Respelled, Read, Write, Memory}
+use Rattle.dam_desk.specs.declared.fault.DeskFault.TheVariants.{File, OwnOutput, Store as Stores, NotAJournal, Respelled, Read, Write, Memory}
 use Rattle.dam_desk.specs.inside.Intake.{HasRead}
 use Rattle.dam_desk.specs.declared.intake.Intake.{Intake}
 use Rattle.dam_desk.proofs.Runs.{answers_both}
@@ -41,6 +41,7 @@ pub says_after : (before part printed : ℕ) (fault : DeskFault) → (before < 2
 says_after before part printed (Write written) so_far says =
     λ small. after_count before part printed written (so_far (omega arith)) (says (omega arith)) small
 says_after before part printed (File why) so_far says = tt
+says_after before part printed OwnOutput so_far says = tt
 says_after before part printed (Stores why) so_far says = tt
 says_after before part printed (NotAJournal why) so_far says = tt
 says_after before part printed Respelled so_far says = tt
@@ -373,6 +374,7 @@ pub written_fault : (old new : Option (List ℕ)) (text : List ℕ) (fault : Des
     → (count : ℕ) × Appends old new (take count text) × SaysCount count fault
 written_fault old new text (Write written) fault = (written, fault.1, λ small. refl)
 written_fault old new text (File why) fault = absurd fault
+written_fault old new text OwnOutput fault = absurd fault
 written_fault old new text (Stores why) fault = absurd fault
 written_fault old new text (NotAJournal why) fault = absurd fault
 written_fault old new text Respelled fault = absurd fault
@@ -437,6 +439,7 @@ all_given old mid new given buffer count before last none ended =
 
 pub writing_no_read : (old new : Option (List ℕ)) (text : List ℕ) (fault : DeskFault) → IsWritingFault old new text fault → is_read fault ≡ false
 writing_no_read old new text (File why) is = absurd is
+writing_no_read old new text OwnOutput is = absurd is
 writing_no_read old new text (Stores fault) is = absurd is
 writing_no_read old new text (NotAJournal fault) is = absurd is
 writing_no_read old new text Respelled is = absurd is

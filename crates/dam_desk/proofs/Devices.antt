@@ -4,11 +4,12 @@ use Rattle.std.proofs.lemmas.Bool.{both_ways}
 use Rattle.dam_desk.specs.Device.{SourceState, SinkState, AreDevicesAfter, IsReaderAfter}
 use Rattle.dam_desk.specs.Faults.{IsWritingFault, fault_after, is_read, is_write}
 use Rattle.dam_desk.specs.declared.fault.DeskFault.{DeskFault}
-use Rattle.dam_desk.specs.declared.fault.DeskFault.TheVariants.{File, Store, NotAJournal, Respelled, Read, Write, Memory}
+use Rattle.dam_desk.specs.declared.fault.DeskFault.TheVariants.{File, OwnOutput, Store, NotAJournal, Respelled, Read, Write, Memory}
 use Rattle.dam_desk.proofs.Ends.{read_after, write_after}
 
 not_read : {R : Type 0} (reader : SourceState R) (fault : DeskFault) → is_read fault ≡ false → reader.failed ≡ false → IsReaderAfter reader fault
 not_read reader (File why) other unfailed = unfailed
+not_read reader OwnOutput other unfailed = unfailed
 not_read reader (Store why) other unfailed = unfailed
 not_read reader (NotAJournal why) other unfailed = unfailed
 not_read reader Respelled other unfailed = unfailed
@@ -32,6 +33,7 @@ devices_after reader writer printed fault told same other unfailed device =
 writing_fault : (old new : Option (List ℕ)) (text : List ℕ) (fault : DeskFault) → IsWritingFault old new text fault
     → (is_read fault ≡ false) × (is_write fault ≡ true)
 writing_fault old new text (File why) is = absurd is
+writing_fault old new text OwnOutput is = absurd is
 writing_fault old new text (Store why) is = absurd is
 writing_fault old new text (NotAJournal why) is = absurd is
 writing_fault old new text Respelled is = absurd is

@@ -7,7 +7,7 @@ use Rattle.dam_store.specs.declared.fault.StoreFault.{StoreFault}
 use Rattle.dam_store.specs.declared.fault.StoreFault.TheVariants as store
 use Rattle.dam_desk.specs.Faults.{IsEndFault, IsWritingFault, fault_after, is_failed_sync as desk_failed_sync, is_read, is_write, of_store}
 use Rattle.dam_desk.specs.declared.fault.DeskFault.{DeskFault}
-use Rattle.dam_desk.specs.declared.fault.DeskFault.TheVariants.{File, Store, NotAJournal, Respelled, Read, Write, Memory}
+use Rattle.dam_desk.specs.declared.fault.DeskFault.TheVariants.{File, OwnOutput, Store, NotAJournal, Respelled, Read, Write, Memory}
 
 -- a write or a sync failed, or the lines have no room
 abbrev IsAppendFault : Bool → ℕ → ℕ → StoreFault → Type 0
@@ -55,6 +55,7 @@ end_store is_clean before after fault broken ready kinds more full =
 pub end_writing : (is_clean : Bool) (before after : ℕ) (old new : Option (List ℕ)) (text : List ℕ) (fault : DeskFault) → after ≡ before
     → IsWritingFault old new text fault → IsEndFault is_clean before after fault
 end_writing is_clean before after old new text (File why) same is = absurd is
+end_writing is_clean before after old new text OwnOutput same is = absurd is
 end_writing is_clean before after old new text (Store why) same is = absurd is
 end_writing is_clean before after old new text (NotAJournal why) same is = absurd is
 end_writing is_clean before after old new text Respelled same is = absurd is
@@ -78,6 +79,7 @@ err_is (Err why) P fault same p = subst P (sym same) p
 pub end_after : (is_clean : Bool) (before after printed : ℕ) (fault : DeskFault) → IsEndFault is_clean before after fault
     → IsEndFault is_clean before after (fault_after printed fault)
 end_after is_clean before after printed (File why) is = absurd is
+end_after is_clean before after printed OwnOutput is = absurd is
 end_after is_clean before after printed (Store why) is = is
 end_after is_clean before after printed (NotAJournal why) is = absurd is
 end_after is_clean before after printed Respelled is = absurd is
@@ -87,6 +89,7 @@ end_after is_clean before after printed Memory is = is
 
 pub sync_after : (printed : ℕ) (fault : DeskFault) → desk_failed_sync (fault_after printed fault) ≡ desk_failed_sync fault
 sync_after printed (File why) = refl
+sync_after printed OwnOutput = refl
 sync_after printed (Store why) = refl
 sync_after printed (NotAJournal why) = refl
 sync_after printed Respelled = refl
@@ -96,6 +99,7 @@ sync_after printed Memory = refl
 
 pub read_after : (printed : ℕ) (fault : DeskFault) → is_read (fault_after printed fault) ≡ is_read fault
 read_after printed (File why) = refl
+read_after printed OwnOutput = refl
 read_after printed (Store why) = refl
 read_after printed (NotAJournal why) = refl
 read_after printed Respelled = refl
@@ -105,6 +109,7 @@ read_after printed Memory = refl
 
 pub write_after : (printed : ℕ) (fault : DeskFault) → is_write (fault_after printed fault) ≡ is_write fault
 write_after printed (File why) = refl
+write_after printed OwnOutput = refl
 write_after printed (Store why) = refl
 write_after printed (NotAJournal why) = refl
 write_after printed Respelled = refl

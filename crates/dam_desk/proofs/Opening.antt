@@ -13,7 +13,7 @@ use Rattle.dam_desk.specs.Faults.{IsFileFault, IsOpenFault, IsWrittenJournalFaul
 use Rattle.dam_desk.specs.declared.desk_day.Day.{Day}
 use Rattle.dam_desk.specs.declared.desk.Desk.{Desk}
 use Rattle.dam_desk.specs.declared.fault.DeskFault.{DeskFault}
-use Rattle.dam_desk.specs.declared.fault.DeskFault.TheVariants.{File, Store, NotAJournal, Respelled, Read, Write, Memory}
+use Rattle.dam_desk.specs.declared.fault.DeskFault.TheVariants.{File, OwnOutput, Store, NotAJournal, Respelled, Read, Write, Memory}
 use Rattle.dam_desk.specs.inside.Intake.{HasJournal, IsReopened}
 
 same_lines : (lines other : List (List ℕ)) (file : List ℕ) → StandsFor lines file → StandsFor other file → lines ≡ other
@@ -69,6 +69,7 @@ pub text_cause : (file : List ℕ) (lines : List (List ℕ)) → StandsFor lines
 text_cause file lines stands Memory is = tt
 text_cause file lines stands (Store fault) is = absurd is
 text_cause file lines stands (File why) is = absurd is
+text_cause file lines stands OwnOutput is = absurd is
 text_cause file lines stands (NotAJournal fault) is = (lines, stands, is)
 text_cause file lines stands Respelled is = (lines, stands, is)
 text_cause file lines stands Read is = absurd is
@@ -142,6 +143,7 @@ pub text_no_sync : (text : List ℕ) (why : DeskFault) → IsWrittenJournalFault
 text_no_sync text Memory is = refl
 text_no_sync text (Store fault) is = absurd is
 text_no_sync text (File why) is = absurd is
+text_no_sync text OwnOutput is = absurd is
 text_no_sync text (NotAJournal fault) is = refl
 text_no_sync text Respelled is = refl
 text_no_sync text Read is = absurd is
@@ -165,6 +167,7 @@ text_no_call : (text : List ℕ) (why : DeskFault) → IsWrittenJournalFault tex
 text_no_call text Memory is = (refl, (refl, refl))
 text_no_call text (Store fault) is = absurd is
 text_no_call text (File why) is = absurd is
+text_no_call text OwnOutput is = absurd is
 text_no_call text (NotAJournal fault) is = (refl, (refl, refl))
 text_no_call text Respelled is = (refl, (refl, refl))
 text_no_call text Read is = absurd is

@@ -15,7 +15,7 @@ use Rattle.dam_store.specs.declared.fault.FileFault.TheVariants as files
 use Rattle.dam_store.specs.declared.fault.StoreFault.{StoreFault}
 use Rattle.dam_store.specs.declared.fault.StoreFault.TheVariants as store
 use Rattle.dam_desk.specs.declared.fault.DeskFault.{DeskFault}
-use Rattle.dam_desk.specs.declared.fault.DeskFault.TheVariants.{File, Store, NotAJournal, Respelled, Read, Write, Memory}
+use Rattle.dam_desk.specs.declared.fault.DeskFault.TheVariants.{File, OwnOutput, Store, NotAJournal, Respelled, Read, Write, Memory}
 
 -- the fault of a desk whose file has that fault
 abbrev pub of_file : FileFault → DeskFault
@@ -80,13 +80,13 @@ store_status fault = 4
 -- the same for the file's fault
 abbrev pub file_status : FileFault → ℕ
 file_status files.NotAFile = 1
-file_status files.OwnOutput = 1
 file_status files.Database = 1
 file_status fault = 4
 
 -- the same for the fault that ends a desk
 abbrev pub fault_status : DeskFault → ℕ
 fault_status (File fault) = file_status fault
+fault_status OwnOutput = 1
 fault_status (Store fault) = store_status fault
 fault_status (NotAJournal fault) = 1
 fault_status Respelled = 1

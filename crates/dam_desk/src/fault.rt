@@ -35,6 +35,9 @@ pub(crate) enum DeskFault {
     /// The file isn't opened or read.
     #[error("file: {0}")]
     File(FileFault),
+    /// Standard output goes to it.
+    #[error("file: standard output goes to it")]
+    OwnOutput,
     /// It holds no store, or the store failed.
     #[error("file: {0}")]
     Store(StoreFault),
@@ -125,7 +128,8 @@ pub(crate) fn status(fault: &DeskFault) -> u8
     ensures { result ≡ fault_status fault.now }
 {
     match fault {
-        DeskFault::File(FileFault::NotAFile | FileFault::OwnOutput | FileFault::Database)
+        DeskFault::File(FileFault::NotAFile | FileFault::Database)
+        | DeskFault::OwnOutput
         | DeskFault::NotAJournal(_)
         | DeskFault::Respelled
         | DeskFault::Store(StoreFault::NotAStore | StoreFault::TooLong | StoreFault::Full) => 1,

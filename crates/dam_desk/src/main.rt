@@ -27,7 +27,6 @@ mod text_lines;
 
 use command_line::{Job, USAGE, job_of, words};
 use dam_book::Seed;
-use dam_store::FileFault;
 use device::{Sink, Source};
 use fault::{DeskFault, status};
 use output::write_text;
@@ -62,7 +61,7 @@ fn main(rt: HostRuntime) -> ExitCode {
 /// Serves the journal in a file, from standard input to standard output.
 fn serve_standard(rt: &HostRuntime, path: &str) -> Result<(), DeskFault> {
     if is_own_output(rt, path) {
-        return Err(DeskFault::File(FileFault::OwnOutput));
+        return Err(DeskFault::OwnOutput);
     }
     let (mut input, mut output) = (Source::new(rt.stdin()), Sink::new(rt.stdout()));
     let ended = serve_file(rt, path, Wary, &mut input, &mut output)?;

@@ -16,9 +16,6 @@ pub enum FileFault {
     /// It, or the file `PATH-wal` next to it, isn't a regular file, or has a second name.
     #[error("it isn't a regular file with one name, or FILE-wal next to it isn't")]
     NotAFile,
-    /// Standard output goes to it.
-    #[error("standard output goes to it")]
-    OwnOutput,
     /// The files of a database have its name.
     #[error("a database's files have its name")]
     Database,
