@@ -58,7 +58,7 @@ def write(path, text):
     path.write_text(text, encoding="utf-8")
 
 
-def stage(own, drawn, folder):
+def write_staged_pages(own, drawn, folder):
     """Writes the pages as mkdocs takes them. Returns the navigation."""
     if wrong := navigation.differences(own):
         raise command.Stop("; ".join(wrong))
@@ -81,7 +81,7 @@ def stage(own, drawn, folder):
 def build(own, drawn, room):
     """Makes the site of some pages and pictures in a folder of a room, which it returns."""
     source, made = room / "pages", room / "site"
-    told = {"INHERIT": str(HERE / "mkdocs.yml"), "nav": stage(own, drawn, source), "docs_dir": str(source), "site_dir": str(made)}
+    told = {"INHERIT": str(HERE / "mkdocs.yml"), "nav": write_staged_pages(own, drawn, source), "docs_dir": str(source), "site_dir": str(made)}
     told["theme"] = {"custom_dir": str(HERE / "theme")}
     (room / "mkdocs.yml").write_text(json.dumps(told), encoding="utf-8")
     kept = {name: os.environ[name] for name in ("PATH", "HOME", "TMPDIR") if name in os.environ}

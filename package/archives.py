@@ -42,7 +42,7 @@ class Entry(NamedTuple):
         return f"a {self.kind} of mode {self.mode:o} and owner {self.owner[0]}:{self.owner[1]}"
 
 
-def called(line, folder=None, seconds=0):
+def run_for_output(line, folder=None, seconds=0):
     """The output of a command."""
     ran = subprocess.run(line, cwd=folder, env=made_of.environment(seconds), capture_output=True)
     if ran.returncode:
@@ -80,22 +80,22 @@ def plain_name(version):
     return f"dam-{version}-x86_64-linux.tar.xz"
 
 
-def depends(root, room):
+def run_for_dependencies(root, room):
     """The packages that the programs and the library need, by Debian's own tool: the C library, and since which version."""
     (room / "debian").mkdir()
     (room / "debian" / "control").write_text("Source: dam\n\nPackage: dam\nArchitecture: amd64\n", encoding="utf-8")
     line = ["dpkg-shlibdeps", "-O", *(f"-e{root / 'usr' / name}" for name in ("bin/dam", "bin/dam-desk", SHARED))]
-    shown = called(line, room).decode()
+    shown = run_for_output(line, room).decode()
     return re.search(r"^shlibs:Depends=(.*)$", shown, re.MULTILINE)[1]
 
 
-def control(root, clone, room):
+def write_control_files(root, clone, room):
     """Writes the control files of the Debian package."""
     folder, files = root / "DEBIAN", sorted(path for path in root.rglob("*") if path.is_file() and not path.is_symlink())
     sums = "".join(f"{hashlib.md5(path.read_bytes()).hexdigest()}  {path.relative_to(root)}\n" for path in files)
     size = sum(-(-path.stat().st_size // 1024) for path in files)
     folder.mkdir(mode=0o755)
-    words = {"VERSION": clone.version, "SIZE": str(size), "DEPENDS": depends(root, room)}
+    words = {"VERSION": clone.version, "SIZE": str(size), "DEPENDS": run_for_dependencies(root, room)}
     texts = {"md5sums": sums}
     for name, text in {"control": (HERE / "control").read_text(encoding="utf-8"), **SHORT}.items():
         texts[name] = re.sub("|".join(words), lambda found: words[found[0]], text) if name in ("control", "shlibs") else text
@@ -108,24 +108,24 @@ def control(root, clone, room):
         os.utime(path, (clone.seconds, clone.seconds))
 
 
-def debian(tree, clone, target):
+def make_debian_package(tree, clone, target):
     """Makes the Debian package of a tree, which goes to /usr."""
     room = tree.parent / "debian"
     root = room / "root"
     root.mkdir(parents=True)
     shutil.copytree(tree, root / "usr", symlinks=True)
-    control(root, clone, room)
+    write_control_files(root, clone, room)
     line = ["dpkg-deb", "--root-owner-group", "-Zxz", "-z9", "--threads-max=1", "--build", root, target]
-    called(line, seconds=clone.seconds)
+    run_for_output(line, seconds=clone.seconds)
 
 
-def plain(tree, clone, target):
+def make_plain_archive(tree, clone, target):
     """Makes the archive that runs in place."""
     name = plain_name(clone.version).removesuffix(".tar.xz")
     how = ["--sort=name", "--format=gnu", "--owner=0", "--group=0", "--numeric-owner", f"--mtime=@{clone.seconds}"]
     # a link's target stays as it is
     how.append(f"--transform=flags=rSH;s,^\\.,{name},")
-    called(["tar", "--create", f"--file={target}", "--use-compress-program=xz -9 -T1", *how, "--directory", tree, "."])
+    run_for_output(["tar", "--create", f"--file={target}", "--use-compress-program=xz -9 -T1", *how, "--directory", tree, "."])
 
 
 def refuse_large(path, size):
@@ -150,7 +150,7 @@ def unpacked(path, data):
         return within(path, file)
 
 
-def of_debian(path, way):
+def run_for_debian_archive(path, way):
     """One of the two tar archives in a Debian package."""
     line = ["dpkg-deb", way, path.absolute()]
     with subprocess.Popen(line, env=made_of.environment(), stdout=subprocess.PIPE, stderr=subprocess.DEVNULL) as process:
@@ -201,7 +201,7 @@ def read(path):
     data = file_io.read_bytes(path)
     try:
         if path.name.endswith(".deb"):
-            files, told = (of_debian(path, way) for way in ("--fsys-tarfile", "--ctrl-tarfile"))
+            files, told = (run_for_debian_archive(path, way) for way in ("--fsys-tarfile", "--ctrl-tarfile"))
             return {**entries(path, told, "", CONTROL), **entries(path, files, "usr")}
         return entries(path, unpacked(path, data))
     except (OSError, tarfile.TarError, EOFError, ValueError, lzma.LZMAError, zlib.error):

@@ -40,7 +40,7 @@ def environment(seconds=0):
     return {**kept, "LC_ALL": "C.UTF-8", "TZ": "UTC", "COLUMNS": "100", "SOURCE_DATE_EPOCH": str(seconds)}
 
 
-def git(*words):
+def run_git(*words):
     """The output of git."""
     ran = subprocess.run(["git", *words], cwd=TOP, capture_output=True)
     if ran.returncode:
@@ -53,10 +53,10 @@ class Clone:
 
     def __init__(self):
         refuse_lack()
-        self.version, self.commit = VERSION, git("rev-parse", "HEAD").strip()
-        self.seconds = int(git("log", "-1", "--format=%ct"))
+        self.version, self.commit = VERSION, run_git("rev-parse", "HEAD").strip()
+        self.seconds = int(run_git("log", "-1", "--format=%ct"))
         self.date = datetime.datetime.fromtimestamp(self.seconds, datetime.timezone.utc).strftime("%Y-%m-%dT%H:%M:%SZ")
-        self.tracked = [name for name in git("ls-files", "-z").split("\0") if name]
+        self.tracked = [name for name in run_git("ls-files", "-z").split("\0") if name]
         refuse_changes()
         refuse_old()
         self.records = {name: sources.read_record(TOP / name) for name in BUILT}
@@ -68,7 +68,7 @@ class Clone:
 
 def refuse_changes():
     """Ends the tool if a tracked file differs from the commit. Other files don't matter, unless they are among the sources of crates."""
-    lines = git("status", "--porcelain", "--untracked-files=all").splitlines()
+    lines = run_git("status", "--porcelain", "--untracked-files=all").splitlines()
     changed = [line[3:] for line in lines if not line.startswith("??") or re.match(r"crates/.*/(src|specs|proofs)/", line[3:].strip('"'))]
     if changed:
         more = f" and {len(changed) - SHOWN} more" if len(changed) > SHOWN else ""

@@ -47,7 +47,7 @@ def words(page, installed):
     return re.sub(r"^##(#*) (.*)$", lambda head: f"#{head[1]} {head[2] if head[1] else head[2].upper()}", text, flags=re.MULTILINE)
 
 
-def page(name, version, installed):
+def run_for_page(name, version, installed):
     """A man page."""
     source, about, others = PAGES[name]
     see = ", ".join(f"**{other}**(1)" for other in others)
@@ -59,6 +59,6 @@ def page(name, version, installed):
     return re.sub(r"^\.TH .*$", lambda _: head, ran.stdout.decode(), count=1, flags=re.MULTILINE).encode()
 
 
-def made(version, installed):
+def run_for_pages(version, installed):
     """Each man page with its name."""
-    return {name: page(name, version, installed) for name in PAGES}
+    return {name: run_for_page(name, version, installed) for name in PAGES}

@@ -44,7 +44,7 @@ WITH_EXAMPLES = (
 VERSION = ".PP\nThis is version {}.\n.B dam\\-audit \\-\\-version\nprints it; {} itself has no such option."
 
 
-def help_of(bin_folder, words):
+def run_help(bin_folder, words):
     """The help of a command, which is given with its words."""
     ran = subprocess.run([bin_folder / words[0], *words[1:], "--help"], capture_output=True, env=environment())
     if ran.returncode:
@@ -134,7 +134,7 @@ def summary(paragraph):
     return words[:1].lower() + words[1:]
 
 
-def page(words, helps, clone, room):
+def run_for_page(words, helps, clone, room):
     """The page of a command, which is given with its words."""
     name, text = "-".join(words), helps[words]
     told, about, lists, sections = split(text)
@@ -168,14 +168,14 @@ def see_also(words, helps):
 
 def helps(bin_folder):
     """The help of each command by its words."""
-    of_dam = tuple(shells.commands(help_of(bin_folder, ("dam",))))
+    of_dam = tuple(shells.commands(run_help(bin_folder, ("dam",))))
     every = [(name, *rest) for name, words in {**COMMANDS, "dam": of_dam}.items() for rest in [(), *((word,) for word in words)]]
     with concurrent.futures.ThreadPoolExecutor() as pool:
-        return dict(zip(every, pool.map(lambda words: help_of(bin_folder, words), every)))
+        return dict(zip(every, pool.map(lambda words: run_help(bin_folder, words), every)))
 
 
-def pages(found, clone, room):
+def run_for_pages(found, clone, room):
     """Each page with its name, from the helps."""
     with concurrent.futures.ThreadPoolExecutor() as pool:
-        made = pool.map(lambda words: page(words, found, clone, room), found)
+        made = pool.map(lambda words: run_for_page(words, found, clone, room), found)
         return {"-".join(words): data for words, data in zip(found, made)}

@@ -102,13 +102,13 @@ def script(tool):
     return b"#!/usr/bin/python3 -IS\n" + rest  # Linux passes all options of this line as one argument
 
 
-def definitions():
+def run_for_definitions():
     """The page of definitions with its list, which no file of a clone has."""
     wanted = [made_of.TOP / "tools" / "reading-list", "--definitions"]
     return subprocess.run(wanted, stdout=subprocess.PIPE, env=made_of.environment(), check=True).stdout
 
 
-def manual(folder, files):
+def write_manual(folder, files):
     """Puts the site of the packaged pages into the package."""
     own = {name: (folder / target).read_text(encoding="utf-8") for target, name in files.items() if site.is_page(name)}
     drawn = {name: made_of.TOP / name for name in files.values() if name.endswith(site.PICTURES)}
@@ -119,7 +119,7 @@ def manual(folder, files):
         write(folder / MANUAL / path.relative_to(made), path.read_bytes())
 
 
-def compressed(data):
+def run_gzip(data):
     return subprocess.run(["gzip", "-9n"], input=data, stdout=subprocess.PIPE, env=made_of.environment(), check=True).stdout
 
 
@@ -128,7 +128,7 @@ def make(clone, folder, totals):
     files = taken(clone)
     held = {*files, *LINKS}
     for target, name in files.items():
-        data = definitions() if name == DEFINITIONS else (made_of.TOP / name).read_bytes()
+        data = run_for_definitions() if name == DEFINITIONS else (made_of.TOP / name).read_bytes()
         mode = 0o755 if target in PROGRAMS or name.endswith(".sh") else 0o644
         write(folder / target, page(data, target, held) if name.endswith(".md") else data, mode)
     for tool in TOOLS:
@@ -138,7 +138,7 @@ def make(clone, folder, totals):
     for name, data in metadata(clone.version).items():
         write(folder / name, data)
     subprocess.run(["strip", "--strip-unneeded", *(folder / name for name in STRIPPED)], env=made_of.environment(), check=True)
-    write(folder / DOC / "changelog.gz", compressed(changelog.text(clone.seconds).encode()))
+    write(folder / DOC / "changelog.gz", run_gzip(changelog.text(clone.seconds).encode()))
     for name, target in LINKS.items():
         (folder / name).parent.mkdir(parents=True, exist_ok=True)
         (folder / name).symlink_to(target)
@@ -147,11 +147,11 @@ def make(clone, folder, totals):
     helps = pages.helps(folder / "bin")
     for target, data in shells.made(helps).items():
         write(folder / target, data)
-    for name, data in pages.pages(helps, clone, room).items():
-        write(folder / "share/man/man1" / f"{name}.1.gz", compressed(data))
-    for name, data in formats.made(clone.version, installed).items():
-        write(folder / "share/man/man5" / f"{name}.5.gz", compressed(data))
-    manual(folder, files)
+    for name, data in pages.run_for_pages(helps, clone, room).items():
+        write(folder / "share/man/man1" / f"{name}.1.gz", run_gzip(data))
+    for name, data in formats.run_for_pages(clone.version, installed).items():
+        write(folder / "share/man/man5" / f"{name}.5.gz", run_gzip(data))
+    write_manual(folder, files)
     told = provenance(clone, folder, totals)
     write(folder / PROVENANCE, (json.dumps(told, indent=2) + "\n").encode())
     settle(folder, clone.seconds)

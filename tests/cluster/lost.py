@@ -33,7 +33,7 @@ def send_signal(process, number):
 
 
 @contextlib.contextmanager
-def started_process(words, **how):
+def running_process(words, **how):
     """A process in a group of its own, which ends with the block."""
     running = subprocess.Popen([str(word) for word in words], start_new_session=True, **how)
     try:
@@ -59,7 +59,7 @@ def started_scheduler(folder):
     """A scheduler, and its address."""
     log = folder / "scheduler"
     words = [sys.executable, "-m", "distributed.cli.dask_scheduler", "--host", "127.0.0.1", "--port", "0", "--no-dashboard"]
-    with log.open("wb") as file, started_process(words, stdout=file, stderr=file) as running:
+    with log.open("wb") as file, running_process(words, stdout=file, stderr=file) as running:
         at = wait_for(lambda: re.search(r"Scheduler at: *(tcp://\S+)", log.read_text()), "the scheduler")
         yield running, at[1]
 
@@ -72,13 +72,13 @@ def write_slow_program(folder, program):
     return path
 
 
-def started_whatif(folder, address, program):
+def running_whatif(folder, address, program):
     """A run of many scenarios, which differ: a cluster clears equal ones once."""
     table = folder / "scenarios.csv"
     heads = "scenario,participant,order,kind,side,price_eur_mwh,periods,volume_mw\n"
     table.write_text(heads + "".join(f"{number},GAS,MORE,hour,sell,{number}.00,1,0.1\n" for number in range(SCENARIOS)))
     words = [sys.executable, TOP / "tools" / "whatif", "scenarios", TOP / "examples" / "auction-day.csv", table, "--cluster", address]
-    return started_process([*words, "--program", program], stdin=subprocess.DEVNULL, stdout=subprocess.PIPE, stderr=subprocess.PIPE)
+    return running_process([*words, "--program", program], stdin=subprocess.DEVNULL, stdout=subprocess.PIPE, stderr=subprocess.PIPE)
 
 
 def check_ended(counts, what, running, status, said, within):
@@ -102,7 +102,7 @@ def stop_one(processes):
 
 
 def check_without_workers(counts, folder, program):
-    with started_scheduler(folder) as (_, address), started_whatif(folder, address, program) as running:
+    with started_scheduler(folder) as (_, address), running_whatif(folder, address, program) as running:
         check_ended(counts, "no workers", running, 3, f"whatif: the cluster {address} has no workers\n", SECONDS)
 
 
@@ -112,9 +112,9 @@ def check_in_the_middle(counts, folder, program, what, deed, status, said, withi
     own = {**os.environ, "PYTHONPATH": str(TOP / "tools"), "DAM": str(write_slow_program(folder, program))}
     own.pop("DAM_LIBRARY", None)
     with started_scheduler(folder) as (ruling, address), open(os.devnull, "wb") as null:
-        with started_process([*words, "--local-directory", folder, address], stdout=null, stderr=null, env=own) as working:
+        with running_process([*words, "--local-directory", folder, address], stdout=null, stderr=null, env=own) as working:
             (folder / "mark").unlink(missing_ok=True)
-            with started_whatif(folder, address, program) as running:
+            with running_whatif(folder, address, program) as running:
                 wait_for((folder / "mark").exists, "a scenario")
                 deed(Processes(ruling, working, running))
                 check_ended(counts, what, running, status, said.format(address), within)

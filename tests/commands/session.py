@@ -194,7 +194,7 @@ def run_commands(counts, name, reader, room):
     words = [*reader.shell, "sh", "-c", script_text(made, path_inside(room, reader.root))]
     page = str(path_inside(reader.pages / name, reader.root))
     how = {"env": {**reader.environment, "PAGE": page}, "umask": 0o022}
-    with signals_end(), subprocess.Popen(words, stdin=subprocess.DEVNULL, start_new_session=True, **how) as process:
+    with exiting_at_signals(), subprocess.Popen(words, stdin=subprocess.DEVNULL, start_new_session=True, **how) as process:
         try:
             process.wait(SECONDS)
         except subprocess.TimeoutExpired:
@@ -206,7 +206,7 @@ def run_commands(counts, name, reader, room):
 
 
 @contextlib.contextmanager
-def signals_end():
+def exiting_at_signals():
     """Signals that end the test end what it has started, too."""
     before = {number: signal.signal(number, lambda number, _: sys.exit(128 + number)) for number in (signal.SIGHUP, signal.SIGTERM)}
     try:

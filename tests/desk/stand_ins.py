@@ -97,7 +97,7 @@ def run(counts, desk, dam, _):
     begun = time.monotonic()
     short, long = draw_inputs(dam)
 
-    def found(fault, test):
+    def run_test(fault, test):
         given = long if test is find_by_kills else short
         replies = desk.room / f"replies-{len(given.journal)}"
         replies.write_bytes(given.journal.printed(len(given.journal)))
@@ -105,8 +105,8 @@ def run(counts, desk, dam, _):
         return test(wrong_desk, given)
 
     for test in (find_by_crashes, find_by_refused_syncs, find_by_repair, find_by_kills, find_by_second_desk):
-        wrong = found("", test)
+        wrong = run_test("", test)
         counts.check(f"a desk without a fault, {test.__name__}: {wrong[:2]}", not wrong)
     for fault, test, about in FAULTS:
-        counts.check(f"a desk that {about}, {test.__name__}: nothing was found", bool(found(fault, test)))
+        counts.check(f"a desk that {about}, {test.__name__}: nothing was found", bool(run_test(fault, test)))
     print(f"stand-ins: {len(FAULTS)} faults to find; {time.monotonic() - begun:.1f} s", flush=True)

@@ -139,7 +139,7 @@ class Edits(unittest.TestCase):
 class EditsThatTestsFind(unittest.TestCase):
     GOOD = "name: one\ntest: b_tests low::is_1\n" + edit("MOST - 4", "MOST - 3", "crates/a/src/lib.rt")
 
-    def found(self, text):
+    def write_and_read(self, text):
         with tempfile.TemporaryDirectory(prefix="edits-") as top:
             os.makedirs(f"{top}/crates/a/src")
             write_text(f"{top}/crates/a/src/lib.rt", LIB)
@@ -147,7 +147,7 @@ class EditsThatTestsFind(unittest.TestCase):
             return read_edits_that_tests_find(f"{top}/wrong-bodies.edit", top)
 
     def test_one_and_its_test(self):
-        ((found, crate, test),) = self.found(self.GOOD)
+        ((found, crate, test),) = self.write_and_read(self.GOOD)
         self.assertIsNone(found.fault)
         self.assertEqual(found.texts, {"src/lib.rt": LIB.replace("MOST - 4", "MOST - 3")})
         self.assertEqual((found.name, found.place, crate, test), ("one", "wrong-bodies.edit:1", "b_tests", "low::is_1"))
@@ -162,7 +162,7 @@ class EditsThatTestsFind(unittest.TestCase):
             (self.GOOD + other.replace("MOST - 4", "MOST - 5"), "an 'old:' text stands 0 times in src/lib.rt, and not once: MOST - 5"),
         ]:
             with self.subTest(text=text):
-                self.assertEqual({it.fault for it, *_ in self.found(text)} - {None}, {why})
+                self.assertEqual({it.fault for it, *_ in self.write_and_read(text)} - {None}, {why})
 
 
 if __name__ == "__main__":

@@ -191,7 +191,7 @@ def runs_of_participants():
         yield f"{run.words[0]} of {rules.MOST_HOURLY:,} participants", run
 
 
-def runs_by_workers():
+def make_runs_by_workers():
     """Yields the clearings of a book by each number of workers."""
     data = run_script("make_blocks.py", "random", 20, 1, 1, 20, THIN, "free")
     for workers in range(2, MOST_WORKERS + 1):
@@ -242,7 +242,7 @@ def run_script(script, *words):
     return subprocess.run(words, stdout=subprocess.PIPE, check=True).stdout
 
 
-def runs_of_blocks():
+def make_runs_of_blocks():
     """Yields the runs on blocks as users have them, in markets with few orders for a period, and on families of books that are hard."""
     for number, (kind, parts) in enumerate(itertools.product(KINDS, (1, 4))):
         bonds = full.BONDS[(number + number // 2) % 4]
@@ -257,7 +257,7 @@ def runs_of_blocks():
     yield "clear of a crowded period up to a node", Run([*CLEAR, "--nodes", "1"], journal_text(crowded_book()), (UNFINISHED,))
 
 
-def runs_of_one_sided_books():
+def make_runs_of_one_sided_books():
     """Yields the clearings of books without the hourly orders of a side, and blocks with a volume of their own in each period."""
     for (kind, count), side in itertools.product((("shaped", 16), ("shaped", 20), ("random", 20)), SIDES):
         data = run_script("make_blocks.py", kind, 20, 1, 1, count, THIN, "free").splitlines(keepends=True)
@@ -332,7 +332,7 @@ def runs_of_texts():
 
 def runs_of_every_kind():
     books = [runs_of_commands(), runs_of_full_books(), runs_of_participants(), runs_of_small_books(), runs_of_closes(), runs_of_gaps()]
-    searches = [runs_by_workers(), runs_of_searches(), runs_of_blocks(), runs_of_one_sided_books(), runs_of_walks()]
+    searches = [make_runs_by_workers(), runs_of_searches(), make_runs_of_blocks(), make_runs_of_one_sided_books(), runs_of_walks()]
     return dict(itertools.chain(*books, *searches, runs_of_texts(), runs_of_long_texts()))
 
 

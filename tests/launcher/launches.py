@@ -140,7 +140,7 @@ class LaunchTests(DamCase):
         self.assertEqual(self.read_verbs().count("try"), 1)
 
     def test_without_python(self):
-        lacks = self.at.environment_without("python3")
+        lacks = self.at.make_environment_without("python3")
         for words in (["x"], ["--unproved", "x"], ["--proved", "x"], ["prove"]):
             status, out, error = self.at.run_dam(*words, env=lacks)
             self.assertEqual((status, out), (70, ""))
@@ -158,7 +158,7 @@ class LaunchTests(DamCase):
         self.assertEqual(len(self.list_kept()), 1)
 
     def test_version(self):
-        self.assertEqual(self.at.run_dam("--version", env=self.at.environment_without("rt")), (0, "dam 1.2.3\n", ""))
+        self.assertEqual(self.at.run_dam("--version", env=self.at.make_environment_without("rt")), (0, "dam 1.2.3\n", ""))
         self.assertEqual(self.at.read_calls(), [])
         # it is no word of the program
         self.assertEqual(self.at.run_dam("clear", "--version")[:2], (0, "words: clear --version\n"))

@@ -79,13 +79,13 @@ class ServedOffice:
     def start_for_readiness(self):
         """Serves the office, and returns whether the day takes commands, or its log says that it is stopped."""
         self.start_process()
-        while not (self.is_ready() or b'"stopped"' in self.log.read_bytes() and self.listens()):
+        while not (self.is_ready() or b'"stopped"' in self.log.read_bytes() and self.is_listening()):
             if self.process.poll() is not None:
                 raise RuntimeError(f"the office doesn't start: {self.log.read_text()[-2_000:]}")
             time.sleep(STEP)
         return self.is_ready()
 
-    def listens(self):
+    def is_listening(self):
         with contextlib.suppress(OSError), socket.create_connection(("127.0.0.1", self.port)):
             return True
         return False

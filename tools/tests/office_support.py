@@ -88,7 +88,7 @@ def opener(disk):
     return mock.patch.object(Desk, "open", opened)
 
 
-async def published(given):
+async def write_published(given):
     """In place of the programs after a close."""
     given.files.path_of(folder.RESULTS).write_bytes(b"")
 
@@ -108,7 +108,7 @@ class Office(unittest.IsolatedAsyncioTestCase):
             patch.start()
             self.addCleanup(patch.stop)
         self.publish = publishing.write_missing_files
-        patch = mock.patch.object(publishing, "write_missing_files", published)
+        patch = mock.patch.object(publishing, "write_missing_files", write_published)
         patch.start()
         self.addCleanup(patch.stop)
 

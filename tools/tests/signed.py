@@ -67,7 +67,7 @@ class InFolder(unittest.TestCase):
     def verify(self, status, *words, head="sealed/head.json"):
         return self.run_tool(status, "verify", *words, "--key", "key.pem.pub", "--head", head)
 
-    def receipt_of(self, seal, number=1):
+    def write_receipt(self, seal, number=1):
         path = Path("receipt.jsonl")
         path.write_bytes(lines_of(seal)[number - 1])
         return path

@@ -558,27 +558,27 @@ class CommandLine(unittest.TestCase):
         """Which line stands where, and where it belongs: once for a line that moved, twice for two that were swapped."""
         data, lines = AUCTION.read_bytes(), read_results(AUCTION).splitlines(keepends=True)
 
-        def told(*places):
+        def run_for_faults(*places):
             *faults, last = run_audit(data, b"".join(lines[place] for place in places))[1].decode().splitlines()
             self.assertEqual(f"{last}\n", NOT_COMPARED)
             return faults
 
         every = list(range(len(lines)))
         self.assertEqual(
-            told(*every[:5], 6, 5, *every[7:]), ["results line 6: the line for period 5 stands here and belongs after that for period 4"]
+            run_for_faults(*every[:5], 6, 5, *every[7:]), ["results line 6: the line for period 5 stands here and belongs after that for period 4"]
         )
-        first = told(1, 0, *every[2:])
+        first = run_for_faults(1, 0, *every[2:])
         self.assertEqual(first, ["results line 1: the line for the welfare stands here and belongs after that for the day"])
         self.assertEqual(
-            told(*every[:3], 20, *every[4:20], 3, *every[21:]),
+            run_for_faults(*every[:3], 20, *every[4:20], 3, *every[21:]),
             [
                 "results line 4: the line for period 19 stands here and belongs after that for period 18",
                 "results line 21: the line for period 2 stands here and belongs after that for period 1",
             ],
         )
         last = "results line 1: the line for block OLD,UNIT-7 stands here and belongs after that for block PUMP,"
-        self.assertTrue(told(every[-1], *every[:-1])[0].startswith(last[:80]), told(every[-1], *every[:-1]))
-        first = told(*every[1:], 0)
+        self.assertTrue(run_for_faults(every[-1], *every[:-1])[0].startswith(last[:80]), run_for_faults(every[-1], *every[:-1]))
+        first = run_for_faults(*every[1:], 0)
         self.assertEqual(first, [f"results line {len(lines)}: the line for the day stands here and belongs before all others"])
 
     def test_results_of_another_journal_are_said_to_be(self):

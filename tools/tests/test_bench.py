@@ -73,7 +73,7 @@ class Together(unittest.TestCase):
 
 @unittest.skipUnless(modules.has_module("scipy") or modules.run_for_modules("scipy"), "scipy is missing (Debian's python3-scipy)")
 class Peers(unittest.TestCase):
-    def welfares(self, peer):
+    def check_welfares(self, peer):
         for case in THIN.values():
             with self.subTest(case.name), tempfile.NamedTemporaryFile() as journal:
                 Path(journal.name).write_bytes(case.stdin)
@@ -82,11 +82,11 @@ class Peers(unittest.TestCase):
                 self.assertRegex(ran.stderr, rf"\A{peer} \d+\n\Z")
 
     def test_highs_finds_the_same_welfare(self):
-        self.welfares("highs")
+        self.check_welfares("highs")
 
     @unittest.skipUnless(shutil.which("cbc"), "cbc is missing (Debian's coinor-cbc)")
     def test_cbc_finds_the_same_welfare(self):
-        self.welfares("cbc")
+        self.check_welfares("cbc")
 
     def test_a_missing_solver_is_named(self):
         environment = {**os.environ, "PATH": "/nowhere"}

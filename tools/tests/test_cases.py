@@ -196,7 +196,7 @@ class Four(unittest.TestCase):
 class Units(unittest.TestCase):
     """By the runner of the tests here, and by unittest."""
 
-    def counted(self, test):
+    def run_counted(self, test):
         for without in (False, True):
             with tempfile.TemporaryDirectory() as folder:
                 Path(folder, "a").mkdir()
@@ -211,12 +211,12 @@ class Units(unittest.TestCase):
 
     def test_the_counts(self):
         left_out = "left out: 1 test: a package is missing"
-        self.assertEqual(list(self.counted(TESTS)), [(1, left_out, "1 passed, 2 failed, 1 skipped")] * 2)
+        self.assertEqual(list(self.run_counted(TESTS)), [(1, left_out, "1 passed, 2 failed, 1 skipped")] * 2)
         right = TESTS.replace("1, 2", "1, 1").replace("number, 2", "number, number")
-        self.assertEqual(list(self.counted(right)), [(0, left_out, "3 passed, 0 failed, 1 skipped")] * 2)
+        self.assertEqual(list(self.run_counted(right)), [(0, left_out, "3 passed, 0 failed, 1 skipped")] * 2)
 
     def test_a_file_that_cannot_be_read(self):
-        self.assertEqual([(status, last) for status, _, last in self.counted("no code")], [(1, "0 passed, 1 failed")] * 2)
+        self.assertEqual([(status, last) for status, _, last in self.run_counted("no code")], [(1, "0 passed, 1 failed")] * 2)
 
 
 if __name__ == "__main__":

@@ -59,12 +59,12 @@ class Contradictions(InFolder):
                 if head.size > 6:
                     Path(f"{name}.extension").write_bytes(heads.line_of(seal.extension(signed[6], head)))
 
-    def told(self, status, *words):
+    def run_for_lines(self, status, *words):
         """The lines of a run before the last one, and the last one."""
         *lines, last = self.run_tool(status, *words).splitlines()
         return lines, last
 
-    def lines(self, name, source, *numbers):
+    def append_receipts(self, name, source, *numbers):
         """A file with some receipts of another one."""
         data = Path(f"{source}.receipts").read_bytes().splitlines(keepends=True)
         with open(name, "ab") as file:
@@ -88,7 +88,7 @@ class Contradictions(InFolder):
             (["verify", "B2.receipts", "--head", "C.head", "--extension", "B.extension"], "B2.receipts line 1", "B.extension", 9),
         ):
             with self.subTest(words):
-                lines, last = self.told(1, *words, *KEYS)
+                lines, last = self.run_for_lines(1, *words, *KEYS)
                 said = f"{place}: {TREES} {count} entries: two journals, or one journal twice; the other one is in {other}"
                 self.assertIn(said, lines)
                 self.assertTrue(last.startswith("wrong: "), last)
@@ -98,9 +98,9 @@ class Contradictions(InFolder):
     def test_what_grew_is_right(self):
         ends = ["--extension", "B.extension", "--extension", "C.extension"]
         for name, head, count in (("A", "C", 6), ("C", "C", 18), ("B", "B", 9), ("A", "B", 6)):
-            lines, last = self.told(0, "verify", f"{name}.receipts", "--head", f"{head}.head", *ends, *KEYS)
+            lines, last = self.run_for_lines(0, "verify", f"{name}.receipts", "--head", f"{head}.head", *ends, *KEYS)
             self.assertEqual(last, f"right: {count} receipts of the head of 2026-11-28 with {18 if head == 'C' else 9} entries")
-        lines, last = self.told(0, "verify", "A.receipts", "B.receipts", "--head", "B.head", *ends, *KEYS)
+        lines, last = self.run_for_lines(0, "verify", "A.receipts", "B.receipts", "--head", "B.head", *ends, *KEYS)
         self.assertEqual(lines, ["the operator has signed a later head too: the head of 2026-11-28 with 18 entries"])
         self.assertEqual(last, "right: 9 receipts of the head of 2026-11-28 with 9 entries; 6 more of the same entries")
 
@@ -109,9 +109,9 @@ class Contradictions(InFolder):
         for size in (6, 9):
             _, signed = grown(self.key, [100] * size, (size,), periods=96)
             Path("other.head").write_bytes(heads.line_of(signed[size]))
-            lines, _ = self.told(1, "heads", "A.head", "other.head", *KEYS)
+            lines, _ = self.run_for_lines(1, "heads", "A.head", "other.head", *KEYS)
             self.assertIn("other.head: the operator signed 2026-11-28 with 96 periods, and with 24, in A.head", lines)
-            lines, _ = self.told(1, "verify", "A.receipts", "--head", "other.head", *KEYS)
+            lines, _ = self.run_for_lines(1, "verify", "A.receipts", "--head", "other.head", *KEYS)
             self.assertIn("A.receipts line 1: the operator signed 2026-11-28 with 24 periods, and with 96, in other.head", lines)
 
     def test_two_signatures_of_one_head(self):
@@ -126,61 +126,61 @@ class Contradictions(InFolder):
     def test_one_number_with_two_entries(self):
         """No journal has both, whether their heads are connected or not."""
         first, other = (f"{ENTRY.format(1, price)}, done" for price in (100, 101))
-        path = self.lines("ab.jsonl", "A", 1)
-        self.lines("ab.jsonl", "B2", 1)
-        lines, last = self.told(1, "verify", path, "--head", "C.head", *KEYS)
+        path = self.append_receipts("ab.jsonl", "A", 1)
+        self.append_receipts("ab.jsonl", "B2", 1)
+        lines, last = self.run_for_lines(1, "verify", path, "--head", "C.head", *KEYS)
         said = f"the operator signed entry 1 of 2026-11-28 as {other}; and as {first}, in ab.jsonl line 1"
         self.assertEqual(lines[2:], [f"ab.jsonl line 2: {said}: two journals, or one journal twice"])
         self.assertEqual(last, "wrong: 2 receipts undecided; 1 contradiction; the head of 2026-11-28 with 18 entries")
         # Equal entries after the fork are no contradiction, unless the receipts show the fork. Two entries of a journal sealed twice are
         # one.
-        path = self.lines("same.jsonl", "A", 2)
-        self.lines("same.jsonl", "C", 2)
-        self.told(4, "verify", path, "--head", "C.head", *KEYS)
-        self.lines("fork.jsonl", "A", 2)
-        lines, _ = self.told(1, "verify", self.lines("fork.jsonl", "B2", 2), "--head", "C.head", *KEYS)
+        path = self.append_receipts("same.jsonl", "A", 2)
+        self.append_receipts("same.jsonl", "C", 2)
+        self.run_for_lines(4, "verify", path, "--head", "C.head", *KEYS)
+        self.append_receipts("fork.jsonl", "A", 2)
+        lines, _ = self.run_for_lines(1, "verify", self.append_receipts("fork.jsonl", "B2", 2), "--head", "C.head", *KEYS)
         self.assertEqual(lines[-1], f"fork.jsonl line 2: {HASHES} entry 1 of 2026-11-28: {TWICE}; the other one is in fork.jsonl line 1")
         seal, signed = grown(self.key, [100] * 7, (7,))
         Path("again.jsonl").write_bytes(lines_of(seal, signed[7])[1])
-        lines, _ = self.told(1, "verify", path, "again.jsonl", "--head", "C.head", *KEYS)
+        lines, _ = self.run_for_lines(1, "verify", path, "again.jsonl", "--head", "C.head", *KEYS)
         self.assertIn("again.jsonl line 1: the operator signed entry 2 of 2026-11-28 as", lines[-1])
         self.assertIn("; and with another salt, in same.jsonl line 1: ", lines[-1])
         # Of another day, and of another key: nothing is contradicted.
         seal, signed = grown(self.key, [101] * 7, (7,), day="2026-11-29")
         foreign, theirs = grown(signing.new_key(), [101] * 7, (7,))
         Path("others.jsonl").write_bytes(lines_of(seal, signed[7])[0] + lines_of(foreign, theirs[7])[0])
-        lines, _ = self.told(1, "verify", self.lines("one.jsonl", "A", 1), "others.jsonl", "--head", "A.head", *KEYS)
+        lines, _ = self.run_for_lines(1, "verify", self.append_receipts("one.jsonl", "A", 1), "others.jsonl", "--head", "A.head", *KEYS)
         self.assertFalse([line for line in lines if "the operator signed" in line])
 
     def test_a_changed_receipt_contradicts_nothing(self):
         """Its head is the operator's, and its entry isn't."""
         line = Path("A.receipts").read_bytes().splitlines(keepends=True)[0]
         Path("changed.jsonl").write_bytes(line + line.replace(b",100,", b",101,"))
-        lines, last = self.told(1, "verify", "changed.jsonl", "--head", "A.head", *KEYS)
+        lines, last = self.run_for_lines(1, "verify", "changed.jsonl", "--head", "A.head", *KEYS)
         self.assertEqual(len(lines), 1)
         self.assertTrue(lines[0].startswith("changed.jsonl line 2: it isn't entry 1 of the head"))
         self.assertEqual(last, "wrong: 1 receipt right; 1 receipt wrong; the head of 2026-11-28 with 6 entries")
         Path("changed.jsonl").write_bytes(Path("F.receipts").read_bytes().splitlines(keepends=True)[0].replace(b",100,", b",101,"))
-        lines, _ = self.told(1, "verify", "changed.jsonl", "--head", "C.head", *KEYS)
+        lines, _ = self.run_for_lines(1, "verify", "changed.jsonl", "--head", "C.head", *KEYS)
         self.assertIn(f"changed.jsonl line 1: {TREES} 18 entries: two journals, or one journal twice; the other one is in C.head", lines)
 
     def test_the_later_head(self):
         """It is one that the operator signed, of this day."""
         said = "the operator has signed a later head too: the head of 2026-11-28 with {} entries"
         for others, size in ((["B"], 9), (["B", "C"], 18), ([], None)):
-            files = [self.lines(f"{name}{size}.jsonl", name, *range(1, 7)) for name in others]
+            files = [self.append_receipts(f"{name}{size}.jsonl", name, *range(1, 7)) for name in others]
             words = ["verify", "A.receipts", *files, "--head", "A.head"]
             words += [word for name in others for word in ("--extension", f"{name}.extension")]
-            lines, _ = self.told(0, *words, *KEYS)
+            lines, _ = self.run_for_lines(0, *words, *KEYS)
             self.assertEqual(lines, [said.format(size)] if size else [])
             later = json.loads(self.run_tool(0, *words, *KEYS, "--json"))["later"]
             self.assertEqual(later and later["size"], size)
         line = Path("C.receipts").read_bytes().splitlines(keepends=True)[0]
         other, signed = grown(self.key, [100] * 18, (18,), day="2026-11-29")
         Path("others.jsonl").write_bytes(line.replace(b'"size":18', b'"size":19') + lines_of(other, signed[18])[0])
-        lines, _ = self.told(1, "verify", "others.jsonl", "--head", "A.head", *KEYS)
+        lines, _ = self.run_for_lines(1, "verify", "others.jsonl", "--head", "A.head", *KEYS)
         self.assertFalse([line for line in lines if "later head" in line])
-        lines, _ = self.told(0, "verify", "A.receipts", "--head", "A.head", "--extension", "C.extension", *KEYS)
+        lines, _ = self.run_for_lines(0, "verify", "A.receipts", "--head", "A.head", "--extension", "C.extension", *KEYS)
         self.assertEqual(lines, [said.format(18)])
 
     def test_extensions_from_two_heads_to_one(self):
@@ -190,11 +190,11 @@ class Contradictions(InFolder):
             Path(f"{size}.head").write_bytes(heads.line_of(head))
             Path(f"{size}.extension").write_bytes(heads.line_of(seal.extension(head, signed[18])))
         files, ends = ["6.head", "9.head", "18.head"], ["--extension", "6.extension", "--extension", "9.extension"]
-        self.assertEqual(self.told(0, "heads", *files, *ends, *KEYS)[1], "right: 3 heads of 1 day")
-        self.assertEqual(self.told(4, "heads", *files, *ends[:2], *KEYS)[1], "undecided: 3 heads of 1 day")
+        self.assertEqual(self.run_for_lines(0, "heads", *files, *ends, *KEYS)[1], "right: 3 heads of 1 day")
+        self.assertEqual(self.run_for_lines(4, "heads", *files, *ends[:2], *KEYS)[1], "undecided: 3 heads of 1 day")
         Path("six.jsonl").write_bytes(b"".join(lines_of(seal, signed[6])))
-        self.told(0, "verify", "six.jsonl", "--head", "9.head", *ends, *KEYS)
-        self.told(4, "verify", "six.jsonl", "--head", "9.head", *ends[:2], *KEYS)
+        self.run_for_lines(0, "verify", "six.jsonl", "--head", "9.head", *ends, *KEYS)
+        self.run_for_lines(4, "verify", "six.jsonl", "--head", "9.head", *ends[:2], *KEYS)
 
     def test_any_extensions(self):
         """Heads are connected exactly if the extensions prove it: of two beginnings of one journal, one begins with the other."""
@@ -215,16 +215,16 @@ class Contradictions(InFolder):
         extension, _ = heads.parse(Path("C.extension").read_bytes(), heads.parse_extension)
         Path("no.extension").write_bytes(heads.line_of(extension._replace(path=extension.path[::-1])))
         said = "no.extension: it doesn't connect its heads: its path doesn't lead from the earlier one to the later one"
-        lines, last = self.told(4, "verify", "A.receipts", "--head", "C.head", "--extension", "no.extension", *KEYS)
+        lines, last = self.run_for_lines(4, "verify", "A.receipts", "--head", "C.head", "--extension", "no.extension", *KEYS)
         self.assertEqual((lines[0], len(lines)), (said, 7))
         self.assertEqual(last, "undecided: 6 receipts undecided; 1 extension undecided; the head of 2026-11-28 with 18 entries")
-        lines, last = self.told(4, "heads", "A.head", "--extension", "no.extension", *KEYS)
+        lines, last = self.run_for_lines(4, "heads", "A.head", "--extension", "no.extension", *KEYS)
         self.assertEqual((lines[0], last), (said, "undecided: 2 heads of 1 day"))
         # Its heads are the operator's all the same.
-        lines, _ = self.told(1, "heads", "C2.head", "--extension", "no.extension", *KEYS)
+        lines, _ = self.run_for_lines(1, "heads", "C2.head", "--extension", "no.extension", *KEYS)
         self.assertIn(f"C2.head: {TREES} 18 entries: two journals, or one journal twice; the other one is in no.extension", lines)
         self.run_tool(0, "keys", "other.pem")
-        lines, last = self.told(1, "heads", "A.head", "--extension", "no.extension", "--key", "other.pem.pub")
+        lines, last = self.run_for_lines(1, "heads", "A.head", "--extension", "no.extension", "--key", "other.pem.pub")
         self.assertEqual(last, "wrong: 0 heads of 0 days")
         self.assertIn("no.extension: the head of 2026-11-28 with 6 entries isn't signed by this key", lines[0])
 
@@ -235,17 +235,17 @@ class Contradictions(InFolder):
         for day, status in ((DAY, 1), ("2026-11-29", 0)):
             _, signed = grown(new, [101] * 6, (6,), day=day)
             Path("new.head").write_bytes(heads.line_of(signed[6]))
-            lines, _ = self.told(status, "heads", "A.head", "new.head", *KEYS, "--key", "new.pem.pub")
+            lines, _ = self.run_for_lines(status, "heads", "A.head", "new.head", *KEYS, "--key", "new.pem.pub")
             # Each key signs a journal of its own, and one may be a stranger's: nothing else is told.
             said = [line for line in lines if "signed by" not in line and "the last with" not in line]
             self.assertEqual(said, ["new.head: two keys signed 2026-11-28: new.pem.pub, and key.pem.pub in A.head"] if status else [])
             self.assertIn("A.head: the head of 2026-11-28 with 6 entries, signed by key.pem.pub", lines)
             self.assertIn(f"new.head: the head of {day} with 6 entries, signed by new.pem.pub", lines)
         Path("key again.pub").write_bytes(Path("key.pem.pub").read_bytes())
-        self.told(0, "heads", "A.head", *KEYS, "--key", "key again.pub")
+        self.run_for_lines(0, "heads", "A.head", *KEYS, "--key", "key again.pub")
         made = json.loads(self.run_tool(1, "heads", "A.head", "new.head", *KEYS, "--json"))
         self.assertEqual(made["keys"], ["key.pem.pub", None])
-        lines, _ = self.told(1, "heads", "A.head", "new.head", *KEYS)
+        lines, _ = self.run_for_lines(1, "heads", "A.head", "new.head", *KEYS)
         self.assertIn("new.head: it isn't signed by this key: it isn't the operator's, or it was changed", lines)
 
     def test_two_keys_of_one_day(self):
@@ -259,20 +259,20 @@ class Contradictions(InFolder):
         said = "two keys signed 2026-11-28: {}, and {} in {}"
         other, own = said.format("new.pem.pub", "key.pem.pub", "{}"), said.format("key.pem.pub", "new.pem.pub", "{}")
         refused = "mixed.extension: it doesn't connect its heads: they are signed with two keys, key.pem.pub and new.pem.pub"
-        self.assertIn(f"again.head: {other.format('B.head')}", self.told(1, "heads", "B.head", "again.head", *keys)[0])
-        self.assertIn(f"B.head: {own.format('again.head')}", self.told(1, "heads", "again.head", "B.head", *keys)[0])
-        lines, _ = self.told(1, "heads", "A.head", "again.head", "--extension", "mixed.extension", *keys)
+        self.assertIn(f"again.head: {other.format('B.head')}", self.run_for_lines(1, "heads", "B.head", "again.head", *keys)[0])
+        self.assertIn(f"B.head: {own.format('again.head')}", self.run_for_lines(1, "heads", "again.head", "B.head", *keys)[0])
+        lines, _ = self.run_for_lines(1, "heads", "A.head", "again.head", "--extension", "mixed.extension", *keys)
         self.assertIn(refused, lines)
         self.assertIn(f"mixed.extension: {other.format('mixed.extension')}", lines)
         links = receipts.Links(["mixed.extension"], signing.Keys({path: receipts.read_key(path) for path in keys[1::2]}), [])
         self.assertFalse(links.leads(mixed.old, mixed.new))
-        self.told(0, "heads", "A.head", "B.head", "--extension", "B.extension", *keys)
+        self.run_for_lines(0, "heads", "A.head", "B.head", "--extension", "B.extension", *keys)
         mixed = extension._replace(new=signing.sign(new, extension.new._replace(day="2026-11-29")))
         Path("mixed.extension").write_bytes(heads.line_of(mixed))
-        lines, _ = self.told(4, "heads", "A.head", "--extension", "mixed.extension", *keys)
+        lines, _ = self.run_for_lines(4, "heads", "A.head", "--extension", "mixed.extension", *keys)
         self.assertEqual(lines[0], refused)
 
-    def forked(self):
+    def write_forked(self):
         """Files of two journals, left and right, that differ in entry 7: heads, receipts, and extensions between any two sizes."""
         salts = sealing.new_salts(DAY)
         for name, prices in (("left", [100] * 18), ("right", fork([100] * 18, 7))):
@@ -285,12 +285,12 @@ class Contradictions(InFolder):
 
     def test_two_hashes_of_the_same_entries(self):
         """Heads of other sizes, extensions and receipts of equal entries show a fork by the hashes that they have in common."""
-        self.forked()
+        self.write_forked()
 
         def receipts_of(*every):
             name = f"{'-'.join(f'{source}.{number}' for source, number in every)}.jsonl"
             for source, number in every:
-                self.lines(name, source, number)
+                self.append_receipts(name, source, number)
             return name
 
         head = "--head", "right18.head"
@@ -312,7 +312,7 @@ class Contradictions(InFolder):
         ):
             with self.subTest(words):
                 words = [word for one in words for word in (["--extension", one] if one.endswith(".extension") else [one])]
-                lines, last = self.told(1, *words, *KEYS)
+                lines, last = self.run_for_lines(1, *words, *KEYS)
                 self.assertTrue(last.startswith("wrong: "))
                 told = [line for line in lines if HASHES in line or TREES in line]
                 self.assertEqual(len(told), 1, lines)
@@ -324,19 +324,19 @@ class Contradictions(InFolder):
             ["verify", far, *head],
         ):
             with self.subTest(words):
-                lines, last = self.told(4, *words, *KEYS)
+                lines, last = self.run_for_lines(4, *words, *KEYS)
                 self.assertTrue(last.startswith("undecided: "))
 
     def test_an_extension_from_the_entries_of_another_head(self):
         """Its path leads to the later head alone. No one can make such a path to heads of one journal, so it proves the fork."""
-        self.forked()
+        self.write_forked()
         left, right = (heads.parse(Path(f"{name}7-18.extension").read_bytes(), heads.parse_extension)[0] for name in ("left", "right"))
         Path("mixed.extension").write_bytes(heads.line_of(right._replace(old=left.old)))
-        lines, _ = self.told(1, "heads", "left7.head", "--extension", "mixed.extension", *KEYS)
+        lines, _ = self.run_for_lines(1, "heads", "left7.head", "--extension", "mixed.extension", *KEYS)
         said = f"mixed.extension: {HASHES} entries 1 to 7 of 2026-11-28: {TWICE}; the other one is in mixed.extension"
         self.assertEqual([line for line in lines if HASHES in line], [said])
         Path("mixed.extension").write_bytes(heads.line_of(left._replace(new=right.new)))  # the earlier head's: anyone can make one
-        self.told(4, "heads", "left7.head", "--extension", "mixed.extension", *KEYS)
+        self.run_for_lines(4, "heads", "left7.head", "--extension", "mixed.extension", *KEYS)
 
     def test_any_files_of_two_journals(self):
         """A contradiction is found exactly if two hashes of the same entries are shown, or follow from all that is shown."""
@@ -375,19 +375,19 @@ class Contradictions(InFolder):
             for place in range(3):
                 files = ["A.head", "A2.head"]
                 files.insert(place, name)
-                lines, last = self.told(1, "heads", *files, *KEYS)
+                lines, last = self.run_for_lines(1, "heads", *files, *KEYS)
                 self.assertIn(f"A2.head: {TREES} 6 entries: {TWICE}; the other one is in A.head", lines)
                 self.assertIn(bad[name == "none.json"].format("a head"), lines)
                 self.assertEqual(last, "wrong: 2 heads of 1 day")
-            lines, last = self.told(1, "heads", "A.head", "A2.head", "--extension", name, *KEYS)
+            lines, last = self.run_for_lines(1, "heads", "A.head", "A2.head", "--extension", name, *KEYS)
             self.assertIn(bad[name == "none.json"].format("an extension"), lines)
-            self.assertEqual(self.told(3, "heads", "A.head", name, *KEYS)[1], "unread: 1 head of 1 day")
+            self.assertEqual(self.run_for_lines(3, "heads", "A.head", name, *KEYS)[1], "unread: 1 head of 1 day")
             made = json.loads(self.run_tool(3, "heads", "A.head", name, *KEYS, "--json"))
             self.assertEqual(([head and head["size"] for head in made["heads"]], made["keys"]), ([6, None], ["key.pem.pub", None]))
             words = ["verify", "A.receipts", "A2.receipts", "--head", "A.head", *KEYS]
-            lines, last = self.told(1, *words, "--extension", name)
+            lines, last = self.run_for_lines(1, *words, "--extension", name)
             self.assertEqual(lines[0], bad[name == "none.json"].format("an extension"))
-            lines, last = self.told(1, words[0], "none.jsonl", *words[1:])
+            lines, last = self.run_for_lines(1, words[0], "none.jsonl", *words[1:])
             self.assertEqual(lines[0], "none.jsonl: it can't be read: No such file or directory")
             self.assertIn("1 file unread", last)
 
@@ -400,7 +400,7 @@ class Contradictions(InFolder):
             (extension._replace(new=periods), 1, "they have 24 and 25 periods"),
         ):
             Path("no.extension").write_bytes(heads.line_of(changed))
-            lines, _ = self.told(status, "heads", "A.head", "--extension", "no.extension", *KEYS)
+            lines, _ = self.run_for_lines(status, "heads", "A.head", "--extension", "no.extension", *KEYS)
             self.assertEqual(lines[0], f"no.extension: it doesn't connect its heads: {said}")
 
     def test_receipts_that_the_published_head_contradicts(self):
@@ -410,7 +410,7 @@ class Contradictions(InFolder):
             Path(f"{name}.csv").write_text("".join(f"{ENTRY.format(number, price)}\n" for number, price in enumerate(prices, 1)))
         own = ["--sent", "mine.csv", "--participant", "TOWN"]
         trees = f"{TREES} 6 entries: two journals, or one journal twice"
-        lines, last = self.told(1, "verify", "A.receipts", "--head", "A2.head", *own, *KEYS)
+        lines, last = self.run_for_lines(1, "verify", "A.receipts", "--head", "A2.head", *own, *KEYS)
         entries = [f"entry {number} of the head of 2026-11-28 with 6 entries: {ENTRY.format(number, 100)}, done" for number in range(1, 7)]
         said = [f"A.receipts line {number}: {entry}; the published head contradicts it: {trees}" for number, entry in enumerate(entries, 1)]
         self.assertEqual(lines, [*said, f"A.receipts line 1: {trees}; the other one is in A2.head"])
@@ -418,21 +418,21 @@ class Contradictions(InFolder):
         made = json.loads(self.run_tool(1, "verify", "A.receipts", "--head", "A2.head", *own, *KEYS, "--json"))
         self.assertEqual((made["verdict"], {one["verdict"] for one in made["receipts"]}), ("wrong", {"contrary", "wrong"}))
         # Together with receipts under the published head, which may be of the same commands, or of the others.
-        self.lines("some.jsonl", "A2", 2, 3, 4, 5, 6)
-        self.lines("one.jsonl", "A", 1)
+        self.append_receipts("some.jsonl", "A2", 2, 3, 4, 5, 6)
+        self.append_receipts("one.jsonl", "A", 1)
         for files, name in ((["A.receipts", "A2.receipts"], "mine"), (["A.receipts", "A2.receipts"], "other"), (["some.jsonl", "one.jsonl"], "mine")):
-            _, last = self.told(1, "verify", *files, "--head", "A2.head", "--sent", f"{name}.csv", "--participant", "TOWN", *KEYS)
+            _, last = self.run_for_lines(1, "verify", *files, "--head", "A2.head", "--sent", f"{name}.csv", "--participant", "TOWN", *KEYS)
             self.assertIn("; with a receipt: 6 commands; ", last)
-        lines, last = self.told(1, "verify", "one.jsonl", "--head", "A2.head", *own, *KEYS)
+        lines, last = self.run_for_lines(1, "verify", "one.jsonl", "--head", "A2.head", *own, *KEYS)
         self.assertEqual([line.split(": ")[1] for line in lines[2:]], [f"sent record {number} is missing in the receipts" for number in range(2, 7)])
         # Those of another participant don't count.
         Path("city.csv").write_text(f"{ENTRY.format(1, 100)}\n".replace("TOWN", "CITY"))
-        lines, _ = self.told(1, "verify", "A.receipts", "--head", "A2.head", "--sent", "city.csv", "--participant", "CITY", *KEYS)
+        lines, _ = self.run_for_lines(1, "verify", "A.receipts", "--head", "A2.head", "--sent", "city.csv", "--participant", "CITY", *KEYS)
         self.assertTrue(lines[-1].startswith("city.csv: sent record 1 is missing in the receipts: "), lines)
         # The published head ends before an entry; or no book gives the reply.
-        self.lines("late.jsonl", "B", *range(1, 8))
+        self.append_receipts("late.jsonl", "B", *range(1, 8))
         Path("late.csv").write_text("".join(f"{ENTRY.format(number, 100)}\n" for number in range(1, 8)))
-        _, last = self.told(1, "verify", "late.jsonl", "--head", "A.head", "--extension", "B.extension", "--sent", "late.csv", *own[2:], *KEYS)
+        _, last = self.run_for_lines(1, "verify", "late.jsonl", "--head", "A.head", "--extension", "B.extension", "--sent", "late.csv", *own[2:], *KEYS)
         words = "wrong: 6 receipts right; 1 receipt contrary to the published head; with a receipt: 7 commands; the head of 2026-11-28 with 6 entries"
         self.assertEqual(last, words)
 
@@ -444,10 +444,10 @@ class Contradictions(InFolder):
             Path(f"{name}.head").write_bytes(heads.line_of(signed[9]))
         seal, signed = grown(self.key, [100] * 7, (7,))
         Path("again.jsonl").write_bytes(b"".join(lines_of(seal, signed[7])))
-        lines, _ = self.told(1, "verify", "A.receipts", "A2.receipts", "again.jsonl", "--head", "A.head", *KEYS)
+        lines, _ = self.run_for_lines(1, "verify", "A.receipts", "A2.receipts", "again.jsonl", "--head", "A.head", *KEYS)
         for name in ("periods", "keys"):
-            lines += self.told(1, "heads", "A.head", f"{name}.head", *KEYS, "--key", "new.pem.pub")[0]
-        lines += self.told(1, "verify", self.lines("two.jsonl", "A", 2), self.lines("more.jsonl", "B2", 2), "--head", "C.head", *KEYS)[0]
+            lines += self.run_for_lines(1, "heads", "A.head", f"{name}.head", *KEYS, "--key", "new.pem.pub")[0]
+        lines += self.run_for_lines(1, "verify", self.append_receipts("two.jsonl", "A", 2), self.append_receipts("more.jsonl", "B2", 2), "--head", "C.head", *KEYS)[0]
         said = "\n".join(lines)
         page = " ".join((TOP / "docs" / "GUIDE.md").read_text().split())
         for words in ("the published head contradicts it", "the operator signed", "; and with another salt", "two keys signed"):
@@ -463,21 +463,21 @@ class Contradictions(InFolder):
         own = ["--sent", "mine.csv", "--participant", "TOWN"]
         data = Path("A.receipts").read_bytes().splitlines(keepends=True)
         Path("damaged.jsonl").write_bytes(b"".join([data[0], data[1][:100] + b"\n", *data[2:]]))
-        lines, last = self.told(3, "verify", "damaged.jsonl", "--head", "A.head", *KEYS)
+        lines, last = self.run_for_lines(3, "verify", "damaged.jsonl", "--head", "A.head", *KEYS)
         said = "damaged.jsonl line 2: it isn't a receipt: it isn't JSON in ASCII"
         self.assertEqual((lines, last), ([said], "unread: 5 receipts right; 1 line unread; the head of 2026-11-28 with 6 entries"))
-        lines, last = self.told(1, "verify", "damaged.jsonl", "--head", "A.head", *own, *KEYS)
+        lines, last = self.run_for_lines(1, "verify", "damaged.jsonl", "--head", "A.head", *own, *KEYS)
         self.assertEqual(lines, [said, f"mine.csv: sent record 2 is missing in the receipts: {ENTRY.format(2, 100)}"])
         words = "wrong: 5 receipts right; 1 line unread; 1 difference from the commands that were sent; the head of 2026-11-28 with 6 entries"
         self.assertEqual(last, words)
-        lines, last = self.told(3, "verify", "A.head", "--head", "A.head", *own, *KEYS)
+        lines, last = self.run_for_lines(3, "verify", "A.head", "--head", "A.head", *own, *KEYS)
         self.assertEqual(lines[1:], ["mine.csv isn't compared, since no receipt could be read"])
         self.assertEqual(last, "unread: 1 line unread; the head of 2026-11-28 with 6 entries")
         Path("many.jsonl").write_bytes(b"\n" * 10_001)
-        lines, _ = self.told(3, "verify", "many.jsonl", "--head", "A.head", *own, *KEYS)
+        lines, _ = self.run_for_lines(3, "verify", "many.jsonl", "--head", "A.head", *own, *KEYS)
         self.assertEqual(lines[1:], ["mine.csv isn't compared, since no receipt could be read"])
         Path("empty.jsonl").write_bytes(b"")  # it has no receipt, and that can be read
-        lines, _ = self.told(1, "verify", "empty.jsonl", "--head", "A.head", *own, *KEYS)
+        lines, _ = self.run_for_lines(1, "verify", "empty.jsonl", "--head", "A.head", *own, *KEYS)
         self.assertEqual(sum(" is missing in the receipts: " in line for line in lines), 6)
 
     def test_a_table_of_orders(self):
@@ -490,7 +490,7 @@ class Contradictions(InFolder):
             Path("own.head").write_bytes(heads.line_of(head))
             Path("own.jsonl").write_bytes(b"".join(lines_of(seal, head)))
             Path("mine.csv").write_text(f"participant,order,kind,side,price_eur_mwh,periods,volume_mw\nTOWN,K,hour,buy,{price},8,10\n")
-            lines, last = self.told(status, "verify", "own.jsonl", "--head", "own.head", "--sent", "mine.csv", "--participant", "TOWN", *KEYS)
+            lines, last = self.run_for_lines(status, "verify", "own.jsonl", "--head", "own.head", "--sent", "mine.csv", "--participant", "TOWN", *KEYS)
             said = "mine.csv is a table of orders, and each row counts as a submit that was sent: after amends or cancels, give records of a journal"
             self.assertEqual(said in lines, status == 1)
             self.assertEqual("; as sent: 1 command" in last, status == 0)
@@ -501,18 +501,18 @@ class Contradictions(InFolder):
         Path("other.head").write_bytes(heads.line_of(signed[6]))
         days = ["2026-11-28: 2 heads, the last with 9 entries", "2026.11.28: 1 head, the last with 6 entries"]
         words = ["heads", "A.head", "other.head", "B.head", "--extension", "B.extension", *KEYS]
-        self.assertEqual(self.told(0, *words), (days, "right: 3 heads of 2 days"))
+        self.assertEqual(self.run_for_lines(0, *words), (days, "right: 3 heads of 2 days"))
 
     def test_counts(self):
         """Of several receipts of an entry one counts, and files that aren't right are no receipts."""
-        path = self.lines("thrice.jsonl", "A", 1, 1, 1)
+        path = self.append_receipts("thrice.jsonl", "A", 1, 1, 1)
         Path("mine.csv").write_text(f"{ENTRY.format(1, 100)}\n")
         for more, said in (([], ""), (["--sent", "mine.csv", "--participant", "TOWN"], "; as sent: 1 command")):
-            _, last = self.told(0, "verify", path, "--head", "A.head", *more, *KEYS)
+            _, last = self.run_for_lines(0, "verify", path, "--head", "A.head", *more, *KEYS)
             self.assertEqual(last, f"right: 1 receipt of the head of 2026-11-28 with 6 entries; 2 more of the same entries{said}")
         Path("odd.head").write_bytes(Path("A.head").read_bytes().replace(b":", b": "))
         Path("odd.jsonl").write_bytes(b"{}\n")
-        _, last = self.told(3, "verify", path, "odd.jsonl", "--head", "odd.head", *KEYS)
+        _, last = self.run_for_lines(3, "verify", path, "odd.jsonl", "--head", "odd.head", *KEYS)
         words = "unread: 1 receipt right; 1 file encoding; 1 line unread; 2 more of the same entries; the head of 2026-11-28 with 6 entries"
         self.assertEqual(last, words)
 
@@ -523,7 +523,7 @@ class Contradictions(InFolder):
         head = seal.head()
         Path("own.head").write_bytes(heads.line_of(head))
         Path("own.jsonl").write_bytes(b"".join([*reversed(lines_of(seal, head)), lines_of(seal, head)[1]]))
-        lines, last = self.told(0, "verify", "own.jsonl", "--head", "own.head", *KEYS)
+        lines, last = self.run_for_lines(0, "verify", "own.jsonl", "--head", "own.head", *KEYS)
         said = [f"entry 2: {ENTRY.format(2, 100)}, refused,Closed", f"entry 3: {ENTRY.format(3, 100)}, refused,NameTaken"]
         self.assertEqual(lines, said)
         self.assertEqual(last, "right: 3 receipts of the head of 2026-11-28 with 3 entries, 2 of them refused; 1 more of the same entries")
@@ -542,11 +542,11 @@ class Contradictions(InFolder):
             Path("own.head").write_bytes(heads.line_of(head))
             Path("own.jsonl").write_bytes(lines_of(seal, head)[0])
             with self.subTest(record):
-                lines, last = self.told(status, "verify", "own.jsonl", "--head", "own.head", *KEYS)
+                lines, last = self.run_for_lines(status, "verify", "own.jsonl", "--head", "own.head", *KEYS)
                 self.assertEqual("which no book gives" in "".join(lines), status == 1)
                 self.assertEqual(last.startswith("wrong: 1 receipt with an impossible reply; "), status == 1)
                 Path("mine.csv").write_text(f"{record}\n")
-                _, last = self.told(status, "verify", "own.jsonl", "--head", "own.head", "--sent", "mine.csv", "--participant", "TOWN", *KEYS)
+                _, last = self.run_for_lines(status, "verify", "own.jsonl", "--head", "own.head", "--sent", "mine.csv", "--participant", "TOWN", *KEYS)
                 self.assertIn(f"; {'with a receipt' if status else 'as sent'}: 1 command", last)
 
 

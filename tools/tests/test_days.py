@@ -320,11 +320,11 @@ class Days(unittest.TestCase):
         wanted = [("a", "right", None), ("b", "unread", "b.csv has more than 67,108,864 bytes")]
         wanted += [("c", "unread", "c.csv is a link to a file that is missing"), ("d", "unread", "d.csv is missing")]
         wanted += [("e", "unread", "e.csv is a device or a pipe, and should be a file"), ("f", "unread", "f.csv can't be read: Is a directory")]
-        self.assertEqual(self.limited(self.folder), wanted)
+        self.assertEqual(self.run_in_little_memory(self.folder), wanted)
         device = "zero is a device or a pipe, and should be a file"
-        self.assertEqual(self.limited(self.folder / "list"), [("g", "unread", device), ("h", "unread", device), ("right", "right", None)])
+        self.assertEqual(self.run_in_little_memory(self.folder / "list"), [("g", "unread", device), ("h", "unread", device), ("right", "right", None)])
 
-    def limited(self, place):
+    def run_in_little_memory(self, place):
         """The days of the record of a run in little memory, each with its verdict and the end of the message."""
         words = [sys.executable, TOOLS / "audit", "--json", "--jobs", "2", "--days", place]
         limit = functools.partial(resource.setrlimit, resource.RLIMIT_AS, (1 << 30, 1 << 30))
@@ -339,13 +339,13 @@ class Days(unittest.TestCase):
         for name in ("-", "--", "---", "-o", "--json"):
             for row, others in ((f"a.csv,{name}", b""), (f"{name},a.txt", QUARTERS.read_bytes())):
                 (self.folder / "list").write_text(f"day,journal,results\nno file,{row}\n")
-                self.assertEqual(self.of_manifest(), (command.NO_INPUT, f"{name} is missing"), row)
+                self.assertEqual(self.run_manifest(), (command.NO_INPUT, f"{name} is missing"), row)
                 (self.folder / name).write_bytes(others)
-                status, said = self.of_manifest()
+                status, said = self.run_manifest()
                 self.assertEqual((status, said == "the results are empty"), (command.DIFFERS, not others), row)
                 (self.folder / name).unlink()
 
-    def of_manifest(self):
+    def run_manifest(self):
         """The status of the audit of a manifest, and the first fault of its only day."""
         ran = subprocess.run([sys.executable, TOOLS / "audit", "--days", "list"], cwd=self.folder, capture_output=True, text=True)
         return ran.returncode, ran.stdout.splitlines()[1].rpartition("  ")[2]

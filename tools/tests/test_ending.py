@@ -83,7 +83,7 @@ WORKER = "import os, sys, time; open(os.path.dirname(sys.argv[0]) + '/pids', 'a'
 PACKAGES = {"audit": [], "lint": [], "plot": ["matplotlib"], "report": ["matplotlib", "jinja2"], "table": []}
 
 
-def limited(words, megabytes, data=b""):
+def run_in_little_memory(words, megabytes, data=b""):
     """A run of a tool that may have no more memory than this."""
     most = int(megabytes * 2**20)
 
@@ -119,18 +119,18 @@ def wait_until_asleep(process):
 class Failing(unittest.TestCase):
     """A failure gets one line, and a traceback only if it is asked for."""
 
-    def failed(self, call, **environment):
+    def run_failing(self, call, **environment):
         words = [sys.executable, "-B", "-c", RUN.replace("CALL", call)]
         ran = subprocess.run(words, cwd=TOOLS, capture_output=True, text=True, env=environment)
         return ran.returncode, ran.stdout, ran.stderr
 
     def test_a_defect(self):
         said = "audit: a defect of this tool, please report it: KeyError: 'no' (DAM_DEBUG=1 shows where)\n"
-        self.assertEqual(self.failed("{}['no']"), (command.FAILED, "", said))
-        status, out, err = self.failed("{}['no']", DAM_DEBUG="1")
+        self.assertEqual(self.run_failing("{}['no']"), (command.FAILED, "", said))
+        status, out, err = self.run_failing("{}['no']", DAM_DEBUG="1")
         self.assertEqual((status, out), (command.FAILED, ""))
         self.assertTrue(err.startswith("Traceback (most recent call last):\n") and err.endswith(said), err)
-        self.assertIn("\\x1b[31m", self.failed("{}['\\x1b[31m']")[2])
+        self.assertIn("\\x1b[31m", self.run_failing("{}['\\x1b[31m']")[2])
 
     def test_a_defect_of_the_launcher(self):
         """It has statuses of its own: `tools/unproved` prints the status of the program."""
@@ -153,16 +153,16 @@ class Failing(unittest.TestCase):
             "(_ for _ in ()).throw(SystemError('error return without exception set'))",
             "(_ for _ in ()).throw(SystemError('<built-in function a> returned NULL without setting an exception'))",
         ):
-            self.assertEqual(self.failed(call), said)
+            self.assertEqual(self.run_failing(call), said)
 
     def test_memory_before_a_tool_is_watched(self):
         """If it is enough for Python to read the script, the last line names it; each limit is near the least one that is enough."""
         for name, *words in (["lint", "-"], ["table", "-", "--rows", "commands"]):
             read = ["-I", "-S", "-c", f"compile(open({str(TOOLS / name)!r}).read(), 'a', 'exec')"]
             sizes = (size / 2 for size in range(12, 120))
-            enough = next(size for size in sizes if not any(limited(read, size + more)[0] for more in (0, 0.5, 1)))
+            enough = next(size for size in sizes if not any(run_in_little_memory(read, size + more)[0] for more in (0, 0.5, 1)))
             for more in range(4, 12):
-                status, out, err = limited(["-I", "-S", TOOLS / name, *words], enough + more / 4)
+                status, out, err = run_in_little_memory(["-I", "-S", TOOLS / name, *words], enough + more / 4)
                 self.assertEqual((status, out, err.splitlines()[-1:]), (command.FAILED, b"", [f"{name}: out of memory"]))
                 self.assertNotIn("Traceback", err)
 
@@ -194,7 +194,7 @@ class Failing(unittest.TestCase):
         text = data + b"results\n" + results_of(data, frozenset())
         found = set()
         for megabytes in (40, 60, 80, 120, 180, 270, 400):
-            status, out, err = limited([TOOLS / "audit", "--best", "-"], megabytes, text)
+            status, out, err = run_in_little_memory([TOOLS / "audit", "--best", "-"], megabytes, text)
             found.add(status)
             if status != command.DONE:
                 self.assertEqual((status, out, err), (command.FAILED, b"", "audit: out of memory\n"), megabytes)
@@ -203,7 +203,7 @@ class Failing(unittest.TestCase):
     def test_a_journal_with_more_faults_than_memory(self):
         data = b"day,24,,,,,,,\n" + b"cancel,A,B,,,,,,\n" * 9_000
         for megabytes in (40, 1_000):
-            status, out, err = limited([TOOLS / "lint", "-"], megabytes, data * 400 if megabytes == 40 else data)
+            status, out, err = run_in_little_memory([TOOLS / "lint", "-"], megabytes, data * 400 if megabytes == 40 else data)
             if megabytes == 40:
                 self.assertEqual((status, out, err), (command.FAILED, b"", "lint: out of memory\n"))
             else:
@@ -213,7 +213,7 @@ class Failing(unittest.TestCase):
         """The faults have room, and their record doesn't."""
         data = b"day,24,,,,,,,\n" + b"submit,a,b,c,d,e,f,g,h\n" * 9_000
         for megabytes in (40, 60, 80):
-            status, out, err = limited([TOOLS / "lint", "--json", "-"], megabytes, data)
+            status, out, err = run_in_little_memory([TOOLS / "lint", "--json", "-"], megabytes, data)
             made = json.loads(out)
             found = made["verdict"], made["status"], made["message"], made["faults"]
             self.assertEqual((status, err, found), (command.FAILED, "lint: out of memory\n", ("failed", command.FAILED, "out of memory", [])))
@@ -233,7 +233,7 @@ class Interrupted(unittest.TestCase):
     def setUp(self):
         heed_interrupts(self)
 
-    def interrupted(self, name, *words, number=signal.SIGINT):
+    def run_interrupted(self, name, *words, number=signal.SIGINT):
         """The end of a tool that gets a signal while it waits for its journal."""
         with tempfile.TemporaryDirectory() as folder:
             pipe = Path(folder, "journal")
@@ -254,7 +254,7 @@ class Interrupted(unittest.TestCase):
         for name, packages in PACKAGES.items():
             if all(map(modules.has_module, packages)):
                 with self.subTest(name):
-                    self.assertEqual(self.interrupted(name), (130, b"", f"{name}: interrupted\n"))
+                    self.assertEqual(self.run_interrupted(name), (130, b"", f"{name}: interrupted\n"))
 
     def test_an_audit_without_a_record(self):
         """docs/FORMATS.md has the statuses with which it prints none."""
@@ -265,10 +265,10 @@ class Interrupted(unittest.TestCase):
         found = [(ran.returncode, ran.stdout)]
         for number in (signal.SIGHUP, signal.SIGINT, signal.SIGTERM):
             self.addCleanup(signal.signal, number, signal.signal(number, signal.SIG_DFL))  # whatever this process ignores
-            found.append(self.interrupted("audit", "--json", number=number)[:2])
+            found.append(self.run_interrupted("audit", "--json", number=number)[:2])
         self.assertEqual(found, [(int(status), b"") for status in re.findall("[0-9]+", said)])
         self.assertIn("`tools/lint --json` prints one with the same exceptions:", page)
-        found = [self.interrupted("lint", "--json", number=number)[:2] for number in (signal.SIGHUP, signal.SIGINT, signal.SIGTERM)]
+        found = [self.run_interrupted("lint", "--json", number=number)[:2] for number in (signal.SIGHUP, signal.SIGINT, signal.SIGTERM)]
         few = functools.partial(resource.setrlimit, resource.RLIMIT_NOFILE, (4, 4))
         for words, limit in ((["--json", ""], None), (["--json", AUCTION], few)):
             ran = subprocess.run([sys.executable, "-I", "-S", TOOLS / "lint", *words], capture_output=True, preexec_fn=limit)
@@ -325,7 +325,7 @@ class Interrupted(unittest.TestCase):
                 _, err = running.communicate(timeout=SECONDS)
                 self.assertEqual((running.returncode, err), (128 + number, f"audit: {said}\n"))
                 self.assertEqual(list(room.iterdir()), [])
-                self.assertEqual([pid for pid in pids.read_text().split() if not self.is_gone(pid)], [])
+                self.assertEqual([pid for pid in pids.read_text().split() if not self.wait_or_kill(pid)], [])
 
     def children_of(self, running, pids, count):
         """How many processes a run has started, of as many as it should."""
@@ -335,7 +335,7 @@ class Interrupted(unittest.TestCase):
             time.sleep(0.02)
         return pids.read_text().count("\n") if pids.exists() else 0
 
-    def is_gone(self, pid):
+    def wait_or_kill(self, pid):
         """Whether a process ends at once."""
         end = time.monotonic() + SECONDS
         while Path(f"/proc/{pid}/stat").exists() and Path(f"/proc/{pid}/stat").read_text().rpartition(")")[2].split()[0] != "Z":
@@ -481,7 +481,7 @@ class Interrupted(unittest.TestCase):
 class Written(unittest.TestCase):
     """A failed write is a fault of its own in every tool, and no verdict."""
 
-    def ends(self, words, redirection):
+    def run_shell(self, words, redirection):
         line = f"exec {shlex.join(map(str, words))} {redirection}"
         ran = subprocess.run(["sh", "-c", line], capture_output=True, text=True, stdin=subprocess.DEVNULL)
         return ran.returncode, ran.stdout, ran.stderr.splitlines()[-1:]
@@ -496,20 +496,20 @@ class Written(unittest.TestCase):
                     for redirection, fault in (">/dev/full", "No space left on device"), (">&-", "Bad file descriptor"):
                         with self.subTest(name, words=given[2:], to=redirection):
                             said = f"{name}: standard output can't be written: {fault}"
-                            self.assertEqual(self.ends(given, redirection), (command.NO_INPUT, "", [said]))
+                            self.assertEqual(self.run_shell(given, redirection), (command.NO_INPUT, "", [said]))
 
     def test_other_closed_streams(self):
         words = [sys.executable, TOOLS / "lint", "-"]
         said = "lint: standard input can't be read: Bad file descriptor"
-        self.assertEqual(self.ends(words, "<&-"), (command.NO_INPUT, "", [said]))
+        self.assertEqual(self.run_shell(words, "<&-"), (command.NO_INPUT, "", [said]))
         for redirection in ("2>&-", "2>/dev/full"):
             for given in (["/nowhere/a.csv"], ["--none"]):
-                status, out, _ = self.ends([sys.executable, TOOLS / "lint", *given], redirection)
+                status, out, _ = self.run_shell([sys.executable, TOOLS / "lint", *given], redirection)
                 self.assertEqual((status in (command.COMMAND_LINE, command.NO_INPUT), out), (True, ""))
             words = [sys.executable, TOOLS / "table", AUCTION, AUCTION_RESULTS]
-            status, out, _ = self.ends(words, redirection)
+            status, out, _ = self.run_shell(words, redirection)
             self.assertEqual((status, len(out.splitlines())), (0, 25))
-        self.assertEqual(self.ends([sys.executable, TOOLS / "lint", "--quiet", AUCTION], ">&-"), (command.DIFFERS, "", []))
+        self.assertEqual(self.run_shell([sys.executable, TOOLS / "lint", "--quiet", AUCTION], ">&-"), (command.DIFFERS, "", []))
 
 
 class Children(unittest.TestCase):

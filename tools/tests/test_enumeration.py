@@ -21,7 +21,7 @@ SMALL_DAYS = 400
 MAKE_FAMILY, MAKE_BLOCKS = TOP / "bench" / "make_family.py", TOP / "bench" / "make_blocks.py"
 
 
-def family(name, orders, *more):
+def make_family(name, orders, *more):
     """The journal of a book that is hard for a search."""
     return subprocess.run([sys.executable, MAKE_FAMILY, name, orders, *more], capture_output=True, check=True).stdout
 
@@ -38,14 +38,14 @@ class Family(unittest.TestCase):
             ran = subprocess.run([sys.executable, MAKE_FAMILY, *words], capture_output=True, text=True)
             self.assertEqual((ran.returncode, ran.stdout, ran.stderr), (1, "", f"make_family.py: {said}\n"))
         for words, periods in (["links", "0", "0"], 24), (["links", "4000", "24", "4"], 96):
-            read = journal.parse_journal(family(*words))
+            read = journal.parse_journal(make_family(*words))
             self.assertEqual((read.periods, set(book.run_commands(read)[1])), (periods, {None}))
 
 
 class Blocks(unittest.TestCase):
     """Books with blocks as users have them."""
 
-    def made(self, *words):
+    def make_blocks(self, *words):
         ran = subprocess.run([sys.executable, MAKE_BLOCKS, *words], capture_output=True, text=True)
         return ran.returncode, ran.stdout, ran.stderr
 
@@ -58,13 +58,13 @@ class Blocks(unittest.TestCase):
             (["base", "5", "1", "1", "24", "4001"], "HOURLY is '4001' and should be a number from 0 to 4000"),
             (["base", "5", "1", "1", "24", "200", "no"], "BONDS is 'no' and should be one of free links groups both"),
         ):
-            self.assertEqual(self.made(*words), (1, "", f"make_blocks.py: {said}\n"))
+            self.assertEqual(self.make_blocks(*words), (1, "", f"make_blocks.py: {said}\n"))
 
     def test_the_classes_of_periods(self):
         """Periods in each of which every block has the same volume."""
         for kind, hours, quarters in (("base", 1, 1), ("peaks", 2, 2), ("shaped", 24, 24), ("random", 24, 96), ("wide", 24, 96)):
             for parts, wanted in (1, hours), (4, quarters):
-                status, text, _ = self.made(kind, "50", "1", str(parts), "24", "100")
+                status, text, _ = self.make_blocks(kind, "50", "1", str(parts), "24", "100")
                 closed, reasons = book.run_commands(journal.parse_journal(text.encode()))
                 self.assertEqual((status, set(reasons), closed.periods), (0, {None}, 24 * parts))
                 blocks = [dict(block.order.volumes) for block in selection.Problem(closed).blocks]
@@ -72,7 +72,7 @@ class Blocks(unittest.TestCase):
                 self.assertEqual((len(blocks), len(columns)), (24, wanted), kind)
 
     def test_one_block_is_odd(self):
-        _, text, _ = self.made("odd", "50", "1")
+        _, text, _ = self.make_blocks("odd", "50", "1")
         blocks = [line.split(",")[6] for line in text.splitlines() if ",block," in line]
         flat = [len({pair.split(":")[1] for pair in volumes.split(";")}) == 1 for volumes in blocks]
         self.assertEqual((len(flat), flat.count(False)), (24, 1))
@@ -87,7 +87,7 @@ class Blocks(unittest.TestCase):
 
     def tied(self, bonds):
         """The blocks with a parent, those of a group, and the side, the limit and the volumes of each."""
-        status, text, _ = self.made("mixed", "20", "3", "1", "24", "200", bonds)
+        status, text, _ = self.make_blocks("mixed", "20", "3", "1", "24", "200", bonds)
         closed, reasons = book.run_commands(journal.parse_journal(text.encode()))
         self.assertEqual((status, set(reasons)), (0, {None}))
         day = selection.Problem(closed)
@@ -96,11 +96,11 @@ class Blocks(unittest.TestCase):
         return parents, groups, [(block.order.side, block.order.price, block.order.volumes) for block in day.blocks]
 
     def test_a_wide_book_has_one_price(self):
-        _, text, _ = self.made("wide", "0", "1", "1", "24", "96")
+        _, text, _ = self.make_blocks("wide", "0", "1", "1", "24", "96")
         self.assertEqual({line.split(",")[5] for line in text.splitlines() if line.startswith("submit,")}, {"6000"})
 
     def test_the_same_hours_without_blocks(self):
-        (_, blocks, _), (_, hours, _) = self.made("peaks", "5", "2"), self.made("peaks", "5", "2", "1", "0")
+        (_, blocks, _), (_, hours, _) = self.make_blocks("peaks", "5", "2"), self.make_blocks("peaks", "5", "2", "1", "0")
         self.assertEqual([line for line in blocks.splitlines() if ",block," not in line], hours.splitlines())
 
 
@@ -172,13 +172,13 @@ class Enumeration(unittest.TestCase):
         self.assertLess(2 * volumes * rules.GREATEST_VOLUME * price, -enumeration.NEVER)
         self.assertLess((rules.GREATEST_PERIOD + 1) * -enumeration.NEVER, 2**63)
         with mock.patch.object(enumeration, "NEVER", -(2**30)), self.assertRaises(AssertionError):
-            enumeration.Selections(problem(family("market", "500")))
+            enumeration.Selections(problem(make_family("market", "500")))
 
     def test_books_of_the_most_blocks(self):
         """The selection that is found is the best: nothing ranks above it, and it is found from wherever one begins."""
         for name, parts in ("links", "1"), ("groups", "4"), ("ties", "1"):
             with self.subTest(name):
-                day = problem(family(name, "200", "24", parts))
+                day = problem(make_family(name, "200", "24", parts))
                 found, how = self.better(day, (), selection.eligible_welfare(day, frozenset()), jobs=2)
                 self.assertIn("each of 16,777,216 selections was tried", how)
                 again, _ = self.better(day, found.accepted, found.welfare)
@@ -236,7 +236,7 @@ class Enumeration(unittest.TestCase):
         self.assertIn("; 1 would be better if none of its blocks lost", how)
 
     def test_time_is_over(self):
-        day = problem(family("spread", "200"))
+        day = problem(make_family("spread", "200"))
         with self.assertRaisesRegex(TimeoutError, "after 0 seconds, 0 of 0 selections have been tried"):
             from lib.audit import enumeration
 
@@ -246,7 +246,7 @@ class Enumeration(unittest.TestCase):
 @unittest.skipUnless(modules.has_module("numpy"), "numpy is missing (Debian's python3-numpy)")
 class CommandLine(unittest.TestCase):
     def test_a_better_selection_is_told(self):
-        data = family("market", "200", "12")
+        data = make_family("market", "200", "12")
         day = problem(data)
         from lib.audit import enumeration
 
@@ -272,7 +272,7 @@ class CommandLine(unittest.TestCase):
     @unittest.skipUnless(modules.is_debians(), "this isn't Debian's Python")
     def test_without_numpy_fewer_blocks_are_tried(self):
         """By the same results, and the same lines about the better one."""
-        data = family("market", "200", "11")
+        data = make_family("market", "200", "11")
         found, _ = best.enumerate_all(problem(data))
         for accepted in found.accepted, frozenset():
             text = data + b"results\n" + results_of(data, accepted)
@@ -284,7 +284,7 @@ class CommandLine(unittest.TestCase):
     def test_every_way_of_checking_takes_no_longer_than_it_may(self):
         ways = ["--by", "enumeration"], ["--by", "highs"]
         for count, way in itertools.product(("6", "12"), ways if modules.has_module("scipy") else ways[:1]):
-            data = family("market", "200", count)
+            data = make_family("market", "200", count)
             accepted = best.enumerate_all(problem(data))[0].accepted if count == "6" else frozenset()
             status, out, err = run_audit(data, results_of(data, accepted), "--best", *way, "--seconds", "0")
             self.assertEqual((status, out), (command.UNDECIDED, b""), (way, err))

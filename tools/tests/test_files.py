@@ -27,7 +27,7 @@ TOOLS_HERE = [name for name, packages in PACKAGES.items() if all(map(modules.has
 NOTE = "table: 1 of 94 commands was refused (of GAS): see --rows commands\n"
 
 
-def at_a_terminal(name, *words, cwd):
+def run_at_a_terminal(name, *words, cwd):
     """The lines of a tool on standard error, if that is a terminal."""
     ours, theirs = os.openpty()
     subprocess.run([sys.executable, TOOLS / name, *words], stderr=theirs, check=True, cwd=cwd)
@@ -157,7 +157,7 @@ class Files(unittest.TestCase):
             out = {"plot": "day.svg", "report": "day.html", "table": "a.csv"}[name]
             words = ["-o", out] if name == "table" else []
             note = NOTE if name == "table" else ""
-            self.assertEqual(at_a_terminal(name, *texts, *words, cwd=self.folder), f"{note}{name}: {out} was written\n")
+            self.assertEqual(run_at_a_terminal(name, *texts, *words, cwd=self.folder), f"{note}{name}: {out} was written\n")
 
     def test_a_name_that_a_tool_chooses_replaces_no_file(self):
         """A page has the name of the journal, which may be a stranger's choice."""

@@ -20,7 +20,7 @@ from lib.base import rules
 from lib.tool import command, modules
 
 
-def fake_program(folder, name):
+def write_fake_program(folder, name):
     """A program in a folder that answers by the tools' reading of the rules."""
     program = Path(folder, name)
     fake = support.TOOLS / "tests" / "fake_dam.py"
@@ -42,7 +42,7 @@ class Called:
         return True
 
 
-def called(script, folder, *words, defect=""):
+def run_fuzzer(script, folder, *words, defect=""):
     """A run of a fuzzer with such a program: its status and output."""
     program = Path(folder, f"dam.{defect}")
     program.touch()
@@ -51,7 +51,7 @@ def called(script, folder, *words, defect=""):
     return status, out.decode() + err
 
 
-def other_programs(folder, *defects):
+def write_other_programs(folder, *defects):
     """Programs to compare with."""
     for defect in defects:
         path = Path(folder, f"other.{defect}")
@@ -86,77 +86,77 @@ class OfBlocks(unittest.TestCase):
 
 
 class Fuzz(unittest.TestCase):
-    def fuzz(self, *words, defect="", apart=False):
+    def run_fuzzer(self, *words, defect="", apart=False):
         """A run of the fuzzer: its status and output, and the cases that it kept, as their inputs. The program answers in processes of
         its own, if it is apart."""
         with tempfile.TemporaryDirectory() as folder:
             found = Path(folder, "found")
             words = ["--keep", found, "--tries", "60", *words]
             if apart:
-                run = [sys.executable, support.TOP / "tests" / "fuzz" / "run", fake_program(folder, "dam"), *words]
+                run = [sys.executable, support.TOP / "tests" / "fuzz" / "run", write_fake_program(folder, "dam"), *words]
                 ran = subprocess.run(run, capture_output=True, text=True, env={**os.environ, "DAM_DEFECT": defect})
                 status, out = ran.returncode, ran.stdout + ran.stderr
             else:
-                status, out = called("run", folder, *words, defect=defect)
+                status, out = run_fuzzer("run", folder, *words, defect=defect)
             kept = [path.read_bytes() for path in sorted(found.glob("*.csv"))] if found.is_dir() else []
             cases = [support.worked.read_cases(path)[path.stem] for path in sorted(found.glob("*.txt"))] if found.is_dir() else []
             self.assertEqual([case.stdin for case in cases], kept)
             return status, out, kept
 
     def test_a_program_that_is_right(self):
-        self.assertEqual(self.fuzz("--count", "12", apart=True), (0, "12 passed, 0 failed\n", []))
-        self.assertEqual(self.fuzz("--count", "12"), (0, "12 passed, 0 failed\n", []))
-        self.assertEqual(self.fuzz("--count", "12", "--commands", "day"), (0, "12 passed, 0 failed\n", []))
+        self.assertEqual(self.run_fuzzer("--count", "12", apart=True), (0, "12 passed, 0 failed\n", []))
+        self.assertEqual(self.run_fuzzer("--count", "12"), (0, "12 passed, 0 failed\n", []))
+        self.assertEqual(self.run_fuzzer("--count", "12", "--commands", "day"), (0, "12 passed, 0 failed\n", []))
 
     def test_a_wrong_price_is_found_and_made_small(self):
-        status, out, kept = self.fuzz("--count", "6", "--seed", "a", "--commands", "clear", defect="price")
+        status, out, kept = self.run_fuzzer("--count", "6", "--seed", "a", "--commands", "clear", defect="price")
         self.assertEqual((status, "stdout differs" in out), (1, True))
         self.assertTrue(all(re.fullmatch(rb"day,(?:2[345]|9[26]|100),,,,,,,\nclose,,,,,,,,\n?", case) for case in kept), kept)
         self.assertGreater(len(kept), 0)
 
     def test_one_plan_that_differs_is_found(self):
         words = ["--count", "2", "--seed", "a", "--commands", "clear", "--every-plan", "--tries", "3"]
-        self.assertEqual(self.fuzz(*words), (0, "2 passed, 0 failed\n", []))
-        status, out, _ = self.fuzz(*words, defect="plan")
+        self.assertEqual(self.run_fuzzer(*words), (0, "2 passed, 0 failed\n", []))
+        status, out, _ = self.run_fuzzer(*words, defect="plan")
         self.assertEqual((status, "clear --workers 8 --cut 8: stdout differs" in out), (1, True), out)
 
     def test_a_wrong_status_is_found(self):
         for apart in (True, False):
-            status, out, kept = self.fuzz("--count", "4", "--seed", "b", "--commands", "replay", defect="status", apart=apart)
+            status, out, kept = self.run_fuzzer("--count", "4", "--seed", "b", "--commands", "replay", defect="status", apart=apart)
             self.assertEqual((status, "status differs" in out, b"" in kept), (1, True, True), out)
 
     def test_a_day_in_another_order_is_found(self):
-        status, out, _ = self.fuzz("--count", "3", "--seed", "d", "--commands", "day", defect="order")
+        status, out, _ = self.run_fuzzer("--count", "3", "--seed", "d", "--commands", "day", defect="order")
         self.assertEqual((status, "in their order" in out), (1, True))
 
     def test_a_program_is_compared_with_another(self):
         words = ["--count", "6", "--seed", "a", "--commands", "clear"]
         with tempfile.TemporaryDirectory() as folder:
-            same, wrong = other_programs(folder, "", "price")
-            self.assertEqual(self.fuzz(*words, "--like", str(same)), (0, "6 passed, 0 failed\n", []))
-            status, out, kept = self.fuzz(*words, "--like", str(wrong))
+            same, wrong = write_other_programs(folder, "", "price")
+            self.assertEqual(self.run_fuzzer(*words, "--like", str(same)), (0, "6 passed, 0 failed\n", []))
+            status, out, kept = self.run_fuzzer(*words, "--like", str(wrong))
         self.assertEqual((status, "stdout differs" in out, b"" in kept), (1, True, False), out)
 
     def test_books_with_profiles(self):
         words = ["--count", "4", "--profiles", "--commands", "clear", "--tries", "3"]
-        self.assertEqual(self.fuzz(*words), (0, "4 passed, 0 failed\n", []))
-        status, out, kept = self.fuzz(*words, "--every-plan", defect="plan")
+        self.assertEqual(self.run_fuzzer(*words), (0, "4 passed, 0 failed\n", []))
+        status, out, kept = self.run_fuzzer(*words, "--every-plan", defect="plan")
         self.assertEqual((status, "clear --workers 8 --cut 8: stdout differs" in out, b",block," in kept[0]), (1, True, True), out)
 
     def test_the_nodes_of_two_programs_are_compared(self):
         words = ["--count", "3", "--profiles", "--nodes", "--commands", "clear", "--tries", "3"]
         with tempfile.TemporaryDirectory() as folder:
-            same, more = other_programs(folder, "", "nodes")
-            self.assertEqual(self.fuzz(*words, "--like", str(same)), (0, "3 passed, 0 failed\n", []))
-            status, out, _ = self.fuzz(*words, "--like", str(more))
+            same, more = write_other_programs(folder, "", "nodes")
+            self.assertEqual(self.run_fuzzer(*words, "--like", str(same)), (0, "3 passed, 0 failed\n", []))
+            status, out, _ = self.run_fuzzer(*words, "--like", str(more))
         self.assertEqual(status, 1)
         self.assertRegex(out, r"clear --workers 1 --cut \d --nodes \d+: status differs", out)
-        status, out, _ = self.fuzz("--nodes", "--count", "1")
+        status, out, _ = self.run_fuzzer("--nodes", "--count", "1")
         self.assertEqual((status, out), (1, "fuzz: --nodes compares with the program of --like\n"))
 
     def test_a_program_that_takes_too_long_is_ended_and_its_input_kept(self):
         words = ["--count", "1", "--wait", "1", "--seed", "check", "--commands", "replay"]
-        status, out, kept = self.fuzz(*words, defect="late", apart=True)
+        status, out, kept = self.run_fuzzer(*words, defect="late", apart=True)
         self.assertEqual((status, "no answer in time" in out, len(kept)), (1, True, 1), out)
         self.assertEqual(out.splitlines()[-1], "0 passed, 1 failed")
 
@@ -166,7 +166,7 @@ class Doctored(unittest.TestCase):
 
     def doctored(self, *words, defect=""):
         with tempfile.TemporaryDirectory() as folder:
-            return called("doctored.py", folder, *words, defect=defect)
+            return run_fuzzer("doctored.py", folder, *words, defect=defect)
 
     def test_a_program_that_is_right(self):
         status, out = self.doctored("--count", "12")
@@ -194,7 +194,7 @@ class Doctored(unittest.TestCase):
 class Selections(unittest.TestCase):
     def selections(self, *words, defect=""):
         with tempfile.TemporaryDirectory() as folder:
-            return called("enumerated.py", folder, *words, defect=defect)
+            return run_fuzzer("enumerated.py", folder, *words, defect=defect)
 
     def test_a_program_that_is_right(self):
         status, out = self.selections("--blocks", "7", "--count", "10")
@@ -230,7 +230,7 @@ class Full(unittest.TestCase):
 
     def full(self, defect=""):
         with tempfile.TemporaryDirectory() as folder:
-            return called("full.py", folder, "--hourly", "30", "--blocks", "5", "--commands", "90", defect=defect)
+            return run_fuzzer("full.py", folder, "--hourly", "30", "--blocks", "5", "--commands", "90", defect=defect)
 
     def test_a_program_that_is_right(self):
         self.assertEqual(self.full(), (0, "36 passed, 0 failed\n"))

@@ -66,7 +66,7 @@ class Isolation(unittest.TestCase):
         for name in (*PACKAGES, "lib", "argparse", "zipfile"):
             self.folder.joinpath(f"{name}.py").write_text(STRANGER)
 
-    def ran(self, name, *words, options=(), seconds=300, **environment):
+    def run_tool_apart(self, name, *words, options=(), seconds=300, **environment):
         line = [sys.executable, *options, TOOLS / name, *words]
         ended = subprocess.run(line, cwd=self.folder, capture_output=True, env={**os.environ, **environment}, timeout=seconds)
         self.assertFalse(self.folder.joinpath("ran").exists(), (name, words, options, environment))
@@ -77,8 +77,8 @@ class Isolation(unittest.TestCase):
         for name, *words in (*([name] for name in place.TOOLS), ["whatif", "scenarios"], ["receipts", "seal"], ["package"], ["manual"], ["reading-list"]):
             status, right, err = run_tool(name, *words, "--help")
             self.assertEqual((status, err), (0, ""), name)
-            self.assertEqual(self.ran(name, *words, "--help", **STRANGE), (0, right, b""), name)
-        self.assertEqual(self.ran(name, "--help", options=["-I", "-OO"]), (0, right, b""))
+            self.assertEqual(self.run_tool_apart(name, *words, "--help", **STRANGE), (0, right, b""), name)
+        self.assertEqual(self.run_tool_apart(name, "--help", options=["-I", "-OO"]), (0, right, b""))
 
     def test_a_path_of_modules_is_ignored(self):
         """An empty entry of PYTHONPATH is the working folder, whose sitecustomize Python would run before the tool."""
@@ -103,9 +103,9 @@ class Isolation(unittest.TestCase):
             os.mkfifo(self.folder / name)
         for folder in ("/proc/self/cwd", str(self.folder)):
             for locale in ({"LANGUAGE": folder}, {"LANGUAGE": "", "LC_ALL": folder}):
-                self.assertEqual(self.ran("audit", "--version", seconds=30, **locale)[::2], (0, b""), locale)
+                self.assertEqual(self.run_tool_apart("audit", "--version", seconds=30, **locale)[::2], (0, b""), locale)
         for words in (("audit", AUCTION, AUCTION_RESULTS), ("table", AUCTION, AUCTION_RESULTS, "--quiet")):
-            self.assertEqual(self.ran(*words, seconds=30, OPENSSL_CONF="openssl.cnf")[::2], (0, b""), words)
+            self.assertEqual(self.run_tool_apart(*words, seconds=30, OPENSSL_CONF="openssl.cnf")[::2], (0, b""), words)
 
     def test_only_whole_paths_of_the_environment_stay(self):
         homes, user = ({"HOME": "."}, {"HOME": "here"}, {}), mock.Mock(pw_dir="/a/home")
@@ -132,14 +132,14 @@ class Isolation(unittest.TestCase):
         os.mkfifo(self.folder / "a.so")
         words = ("table", AUCTION, AUCTION_RESULTS, "--quiet", "--rows", "orders", "-o", self.folder / "a.xlsx")
         for given in ({"ACC_PROFLIB": str(self.folder / "a.so")}, {"ACC_PROFLIB": "./a.so"}, {"OMP_DISPLAY_ENV": "TRUE"}, {"PILLOW_ALIGNMENT": "a"}):
-            self.assertEqual(self.ran(*words, seconds=60, **given), (0, b"", b""), given)
+            self.assertEqual(self.run_tool_apart(*words, seconds=60, **given), (0, b"", b""), given)
         threads = {"OMP_NUM_THREADS": "2", "OPENBLAS_NUM_THREADS": "1"}
         others = {"_PYTHON_SYSCONFIGDATA_NAME": "antigravity", "FLEXIBLAS": "a.so", "MKL_VERBOSE": "1", "TQDM_MININTERVAL": "a", "SSL_CERT_FILE": "a"}
         with mock.patch.dict(os.environ, {"HOME": "/", **threads, **others}, clear=True):
             surroundings.isolate_environment()
             self.assertEqual(dict(os.environ), {"HOME": "/", "LANGUAGE": "C", **threads})
 
-    def dask_settings(self, **found):
+    def write_dask_settings(self, **found):
         """Writes a file of settings for a user whose home is the working folder."""
         folder = self.folder / ".config" / "dask"
         folder.mkdir(parents=True, exist_ok=True)
@@ -152,15 +152,15 @@ class Isolation(unittest.TestCase):
         words = ("whatif", "scenarios", "--program", "/bin/true", AUCTION, table, "--cluster", "tcp://127.0.0.1:1")
         said = b"whatif: the cluster tcp://127.0.0.1:1 can't be reached: Connection refused\n"
         for given in OF_DASK:
-            self.assertEqual(self.ran(*words, **given), (3, b"", said), given)
+            self.assertEqual(self.run_tool_apart(*words, **given), (3, b"", said), given)
         for found in ({"logging": SETTINGS}, {"distributed": 5}, {"array": 5}):
-            self.dask_settings(**found)
-            self.assertEqual(self.ran(*words, HOME=str(self.folder)), (3, b"", said), found)
+            self.write_dask_settings(**found)
+            self.assertEqual(self.run_tool_apart(*words, HOME=str(self.folder)), (3, b"", said), found)
 
     @unittest.skipUnless(modules.has_module("distributed"), "dask is missing (Debian's python3-distributed)")
     def test_certificates_of_dask_are_taken_where_they_are_needed(self):
         program = self.folder / "program"
-        self.dask_settings(distributed={"client": {"preload": ["ran"]}, "comm": {"tls": {"client": {"cert": "a.pem"}}}})
+        self.write_dask_settings(distributed={"client": {"preload": ["ran"]}, "comm": {"tls": {"client": {"cert": "a.pem"}}}})
         for address, cert in (("tcp://a:1", None), ("tls://a:1", "a.pem")):
             program.write_text(SHOWN.format(tools=str(TOOLS), address=address))
             environment = {**os.environ, "HOME": str(self.folder)}
@@ -175,13 +175,13 @@ class Isolation(unittest.TestCase):
                     self.assertEqual(name in os.environ, stays, (name, given))
         words = ("table", AUCTION, AUCTION_RESULTS, "--date", "2026-11-25", "--quiet")
         for places in (".", f"/nowhere:{self.folder}/..:."):
-            self.assertEqual(self.ran(*words, PYTHONTZPATH=places)[::2], (0, b""), places)
+            self.assertEqual(self.run_tool_apart(*words, PYTHONTZPATH=places)[::2], (0, b""), places)
 
     @unittest.skipUnless(modules.has_module("matplotlib"), "matplotlib is missing (Debian's python3-matplotlib)")
     def test_a_date_of_files_that_is_none(self):
         words, pictures = ("plot", AUCTION, AUCTION_RESULTS, "-o"), []
         for name, given in (("a.svg", "abc"), ("b.svg", "1")):
-            ran = self.ran(*words, self.folder / name, SOURCE_DATE_EPOCH=given)
+            ran = self.run_tool_apart(*words, self.folder / name, SOURCE_DATE_EPOCH=given)
             self.assertEqual(ran[::2], (0, b""), given)
             pictures.append(self.folder.joinpath(name).read_bytes())
         self.assertEqual(*pictures)
@@ -190,11 +190,11 @@ class Isolation(unittest.TestCase):
     def test_the_cache_of_pictures_is_apart_too(self):
         names = {path.name for path in self.folder.iterdir()}
         words = ("plot", AUCTION, AUCTION_RESULTS, "-o", "-")
-        self.assertEqual(self.ran(*words, HOME=".", XDG_CACHE_HOME=".", XDG_CONFIG_HOME=".")[0], 0)
+        self.assertEqual(self.run_tool_apart(*words, HOME=".", XDG_CACHE_HOME=".", XDG_CONFIG_HOME=".")[0], 0)
         self.assertEqual({path.name for path in self.folder.iterdir()}, names)
 
     def test_the_scripts_of_the_launcher_start_too(self):
-        self.assertEqual(self.ran("prove", "--help", **STRANGE)[::2], (0, b""))
+        self.assertEqual(self.run_tool_apart("prove", "--help", **STRANGE)[::2], (0, b""))
         sources = [sys.executable, "-I", "-B", TOOLS / "lib" / "crates" / "sources.py", "dam_plan"]
         self.assertEqual(subprocess.run(sources, cwd=self.folder, stdout=subprocess.DEVNULL).returncode, 0)
 
@@ -206,7 +206,7 @@ class Isolation(unittest.TestCase):
             program.parent.mkdir(parents=True)
             program.write_text("#!/bin/sh\necho > ran\n")
             program.chmod(0o755)
-            self.ran("unproved", "--version", options=["-I", "-S"], PATH="/nowhere", **given)
+            self.run_tool_apart("unproved", "--version", options=["-I", "-S"], PATH="/nowhere", **given)
 
     @unittest.skipUnless(modules.has_module("matplotlib"), "matplotlib is missing (Debian's python3-matplotlib)")
     def test_no_settings_of_pictures_are_obeyed(self):
@@ -214,10 +214,10 @@ class Isolation(unittest.TestCase):
         status, right, err = run_tool("plot", *texts)
         self.assertEqual((status, err), (0, ""))
         settings.write_text("ytick.labelleft: False\ntext.usetex: True\n")
-        self.assertEqual(self.ran("plot", *texts, **STRANGE), (0, right, b""))
+        self.assertEqual(self.run_tool_apart("plot", *texts, **STRANGE), (0, right, b""))
         settings.unlink()
         os.mkfifo(settings)  # nobody writes to it
-        self.assertEqual(self.ran("plot", *texts), (0, right, b""))
+        self.assertEqual(self.run_tool_apart("plot", *texts), (0, right, b""))
         self.assertEqual([path.name for path in self.folder.iterdir() if path.suffix != ".py"], ["matplotlibrc"])
 
     @unittest.skipUnless(modules.has_module("matplotlib"), "matplotlib is missing (Debian's python3-matplotlib)")

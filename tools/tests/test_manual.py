@@ -77,7 +77,7 @@ class Pages(unittest.TestCase):
 class ManPages(unittest.TestCase):
     def test_no_word_of_a_page_is_lost(self):
         """But for the heads of tables, most of which become lists."""
-        for name, made in formats.made("1.0.0", tree.installed).items():
+        for name, made in formats.run_for_pages("1.0.0", tree.installed).items():
             text = (TOP / formats.PAGES[name][0]).read_text(encoding="utf-8").partition("\n")[2]
             text = formats.OF_CLONES.sub("", pages.LINK.sub(r"\1", re.sub(r"^\|.*\|\n(?=\|[-|]+\|$)", "", text, flags=re.MULTILINE)))
             own = re.sub(r"\]\(#[^)]*\)|^```\w+$", "", tree.installed(text), flags=re.MULTILINE).upper()
@@ -92,7 +92,7 @@ class ManPages(unittest.TestCase):
         self.assertEqual(formats.TABLE.sub(formats.listed, table), table)
         listed = f"`a`\n: one; What to do: {'two ' * 20}".rstrip() + f"\n\n`b`\n: {'three ' * 20}".rstrip() + "\n\n"
         self.assertEqual(formats.TABLE.sub(formats.listed, wide), listed)
-        for name, made in formats.made("1.0.0", tree.installed).items():
+        for name, made in formats.run_for_pages("1.0.0", tree.installed).items():
             self.assertIn(f".SH NAME\n.PP\n{name} \\- ", made.decode().replace(" - ", " \\- "))
 
 
@@ -113,7 +113,7 @@ class Made(unittest.TestCase):
         name = re.sub(r"README\.md$", "index.md", name)
         return self.site.pages[self.site.folder / name.replace(".md", ".html")]
 
-    def definitions(self):
+    def run_for_definitions(self):
         """Each definition of the list, with its crate, module and sentence."""
         listed = run_tool("reading-list", "--definitions")[1].decode()
         for crate, module, body in re.findall(r"^## `(\w+)/specs/(\w+)\.antt`\n(.*?)(?=^## |\Z)", listed, re.MULTILINE | re.DOTALL):
@@ -160,7 +160,7 @@ class Made(unittest.TestCase):
 
     def test_each_definition_has_its_text_and_links_both_ways(self):
         repository, seen = Repository(TOP), 0
-        for crate, module, name in self.definitions():
+        for crate, module, name in self.run_for_definitions():
             made = self.page(f"{navigation.DEFINITIONS}/{crate}.md")
             with self.subTest(name, crate=crate):
                 self.assertIn(name, made.places)

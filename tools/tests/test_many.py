@@ -59,9 +59,9 @@ def ends(process):
 class Many(unittest.TestCase):
     def setUp(self):
         self.folder = new_folder(self)
-        self.program = self.script("dam", f'PYTHONPATH="{FAKE.parent}" exec "{sys.executable}" "{FAKE}" "$@"')
+        self.program = self.write_script("dam", f'PYTHONPATH="{FAKE.parent}" exec "{sys.executable}" "{FAKE}" "$@"')
 
-    def script(self, name, line):
+    def write_script(self, name, line):
         path = Path(self.folder, name)
         path.write_text(f"#!/bin/sh\n{line}\n")
         path.chmod(0o755)
@@ -82,7 +82,7 @@ class Many(unittest.TestCase):
             found[0].nothing
 
     def test_a_slow_journal_keeps_its_place(self):
-        slow = self.script("slow", f"read line; sleep $line; {EMPTY}; echo $line")
+        slow = self.write_script("slow", f"read line; sleep $line; {EMPTY}; echo $line")
         given = [f"{seconds}\n".encode() for seconds in ("0.3", "0.01", "0.02", "0.15", "0")]
         wanted = [b"day,24\nwelfare,0\n" + text for text in given]
         self.assertEqual([day.text for day in dam_tools.clear_many(given, 3, program=slow)], wanted)
@@ -114,13 +114,13 @@ class Many(unittest.TestCase):
                 taken.append(number)
                 yield f"day,24\nwelfare,{number}\n".encode()
 
-        days = dam_tools.clear_many(journals(), 2, program=self.script("echo", "cat"))
+        days = dam_tools.clear_many(journals(), 2, program=self.write_script("echo", "cat"))
         self.assertEqual([next(days).text for _ in range(5)], [b"day,24\nwelfare,%d\n" % number for number in range(5)])
         self.assertLess(len(taken), 12)
         days.close()
 
     def test_what_runs_ends_with_the_iterator(self):
-        hang = self.script("hang", f'echo $$ >> {self.folder}/pids; read line; [ "$line" = day ] || exec sleep 600')
+        hang = self.write_script("hang", f'echo $$ >> {self.folder}/pids; read line; [ "$line" = day ] || exec sleep 600')
         days = dam_tools.clear_many([b"day\n", b"x\n", b"x\n", b"x\n", b"x\n"], 3, program=hang)
         next(days)
         while len(Path(self.folder, "pids").read_text().split()) < 3:
@@ -128,7 +128,7 @@ class Many(unittest.TestCase):
         days.close()
         self.assertTrue(all(map(ends, Path(self.folder, "pids").read_text().split())))
 
-    def interrupted(self, code, environment, begun):
+    def run_interrupted(self, code, environment, begun):
         """The lines of a program that is interrupted once something has begun."""
         support.heed_interrupts(self)
         environment = {**os.environ, "PYTHONPATH": str(support.TOOLS), **environment}
@@ -144,22 +144,22 @@ class Many(unittest.TestCase):
         return said
 
     def test_an_interrupt_ends_what_runs(self):
-        hang = self.script("hang", f"echo $$ >> {self.folder}/pids; exec sleep 600")
+        hang = self.write_script("hang", f"echo $$ >> {self.folder}/pids; exec sleep 600")
         code = f"import dam_tools\nlist(dam_tools.clear_many([b'x'] * 9, 2, program={str(hang)!r}))"
         pids = Path(self.folder, "pids")
-        said = self.interrupted(code, {}, lambda: pids.exists() and len(pids.read_text().split()) >= 2)
+        said = self.run_interrupted(code, {}, lambda: pids.exists() and len(pids.read_text().split()) >= 2)
         self.assertIn(b"KeyboardInterrupt", said)
         self.assertTrue(all(map(ends, pids.read_text().split())))
 
     def test_an_interrupt_does_not_wait_for_the_library(self):
         begun = Path(self.folder, "begun")
         slow = ECHO.replace("    struct answer found", f'    fclose(fopen("{begun}", "w"));\n    sleep(600);\n    struct answer found')
-        path = self.library(f"#include <stdio.h>\n#include <unistd.h>\n{slow}")
+        path = self.compile_library(f"#include <stdio.h>\n#include <unistd.h>\n{slow}")
         code = "import dam_tools\nlist(dam_tools.clear_many([b'x'] * 9, 2))"
-        said = self.interrupted(code, {"DAM_LIBRARY": path}, begun.exists)
+        said = self.run_interrupted(code, {"DAM_LIBRARY": path}, begun.exists)
         self.assertIn(b"KeyboardInterrupt", said)
 
-    def library(self, source):
+    def compile_library(self, source):
         """A stand-in for the library."""
         if not shutil.which("gcc"):
             self.skipTest("gcc is missing")
@@ -190,13 +190,13 @@ class Many(unittest.TestCase):
 
     def test_a_program_that_prints_no_results(self):
         for line in (":", "cat", "echo day,24"):
-            other = self.script("other", line)
+            other = self.write_script("other", line)
             (fault,) = dam_tools.clear_many([AUCTION], program=other)
             self.assertIsInstance(fault, dam_tools.Fault)
             self.assertEqual((str(fault), fault.status), (f"{other} printed no results of this journal", None))
 
     def test_a_program_that_says_that_it_is_not_proved(self):
-        launcher = self.script("launcher", f'echo "dam: this run is not proved" >&2; exec {self.program} "$@"')
+        launcher = self.write_script("launcher", f'echo "dam: this run is not proved" >&2; exec {self.program} "$@"')
         with unittest.mock.patch.object(by_program, "RELAYED", set()), contextlib.redirect_stderr(io.StringIO()) as said:
             for _ in range(2):
                 self.assertEqual(dam_tools.clear(AUCTION, launcher).text, dam_tools.clear(AUCTION, self.program).text)
@@ -210,19 +210,19 @@ class Many(unittest.TestCase):
         tracemalloc.start()
         self.addCleanup(tracemalloc.stop)
         with self.assertRaises(dam_tools.Fault) as raised:
-            dam_tools.clear(AUCTION, self.script("fails", f"{much}; exit 3"))
+            dam_tools.clear(AUCTION, self.write_script("fails", f"{much}; exit 3"))
         self.assertEqual((str(raised.exception) == begin + end, raised.exception.status), (True, 3), str(raised.exception)[:200])
         with unittest.mock.patch.object(by_program, "RELAYED", set()), contextlib.redirect_stderr(io.StringIO()) as said:
-            found = dam_tools.clear(AUCTION, self.script("right", f'{much}; exec {self.program} "$@"')).text
+            found = dam_tools.clear(AUCTION, self.write_script("right", f'{much}; exec {self.program} "$@"')).text
         self.assertEqual((found, said.getvalue() == f"{begin}{end}\n"), (read_results(AUCTION), True), said.getvalue()[:200])
         for call in dam_tools.clear, dam_tools.replay:
-            other = self.script("other", "exec head -c 60000000 /dev/zero")
+            other = self.write_script("other", "exec head -c 60000000 /dev/zero")
             with self.assertRaisesRegex(dam_tools.Fault, f"^{other} printed more than {by_program.MOST_PRINTED:,} bytes$"):
                 call(AUCTION, other)
         self.assertLess(tracemalloc.get_traced_memory()[1], 8 << 20)
 
     def test_a_program_that_says_something_else_each_time(self):
-        run = self.script("run", f'echo "$$" >&2; exec {self.program} "$@"')
+        run = self.write_script("run", f'echo "$$" >&2; exec {self.program} "$@"')
         with (
             unittest.mock.patch.multiple(by_program, RELAYED=set(), MOST_RELAYED=3),
             contextlib.redirect_stderr(io.StringIO()) as said,
@@ -235,7 +235,7 @@ class Many(unittest.TestCase):
 
     def test_a_program_that_fails_without_words(self):
         for line, status in ("exit 1", 1), ("kill -9 $$", -9), ("exit 70", 70):
-            silent, said = self.script("silent", line), f"the program ended with status {status}"
+            silent, said = self.write_script("silent", line), f"the program ended with status {status}"
             (fault,) = dam_tools.clear_many([AUCTION], program=silent)
             self.assertEqual((str(fault), fault.status), (said, status))
             for call in dam_tools.clear, dam_tools.replay:
@@ -249,7 +249,7 @@ class Many(unittest.TestCase):
         with concurrent.futures.ThreadPoolExecutor(len(given)) as threads:
             found = threads.map(lambda path: dam_tools.clear(path, self.program).text, given)
             self.assertEqual(list(found), list(map(read_results, given)))
-            library = self.library(ECHO.replace("    return found;", "    usleep(1000);\n    return found;"))
+            library = self.compile_library(ECHO.replace("    return found;", "    usleep(1000);\n    return found;"))
             texts = [str(number).encode() * 1_000 for number in range(100, 200)]
             self.assertEqual(list(threads.map(lambda text: by_library.run_library(library, text), texts)), texts)
 
@@ -260,15 +260,15 @@ class Many(unittest.TestCase):
         self.assertIn(70, statuses)
         for status in filter(None, statuses):
             with self.subTest(status), self.assertRaises(dam_tools.Fault) as raised:
-                dam_tools.clear(AUCTION, self.script("ends", f"exit {status}"))
+                dam_tools.clear(AUCTION, self.write_script("ends", f"exit {status}"))
             self.assertEqual(raised.exception.status, status)
         # so the page has all of them
         self.assertRegex(python, r"\n\| `Fault\.status` \| the \[status\]\(FORMATS\.md#statuses-and-faults\) of a failed run, ")
 
     def test_limits_of_nodes_and_time(self):
-        days = dam_tools.clear_many([AUCTION], program=self.script("nodes", f"{EMPTY}; echo $*"), nodes=7)
+        days = dam_tools.clear_many([AUCTION], program=self.write_script("nodes", f"{EMPTY}; echo $*"), nodes=7)
         self.assertEqual(next(days).text.splitlines()[-1], b"clear --workers=1 --cut=0 --nodes=7")
-        slow = self.script("slow", f'read line; [ "$line" = day ] || exec sleep 600; {EMPTY}')
+        slow = self.write_script("slow", f'read line; [ "$line" = day ] || exec sleep 600; {EMPTY}')
         with unittest.mock.patch.dict(os.environ, {"DAM": os.fspath(slow), "DAM_LIBRARY": "/nowhere/libdam.so"}):
             late, found = dam_tools.clear_many([b"x\n", b"day\n"], timeout=0.5)
         self.assertIsInstance(late, dam_tools.TimedOut)
@@ -296,13 +296,13 @@ class Many(unittest.TestCase):
             list(dam_tools.clear_many(given, executor=pool, program=self.program))
 
     def test_a_worker_that_dies_is_said_of_its_journals(self):
-        kill = self.script("kill", "kill -9 $PPID")
+        kill = self.write_script("kill", "kill -9 $PPID")
         with concurrent.futures.ProcessPoolExecutor(1) as pool:
             found = list(dam_tools.clear_many([AUCTION, AUCTION], executor=pool, program=kill))
         self.assertEqual([str(fault)[:40] for fault in found], ["the executor failed: BrokenProcessPool: "] * 2)
 
     def test_the_calls_of_a_library(self):
-        path = self.library(ECHO)
+        path = self.compile_library(ECHO)
         texts = [b"%d" % number * 70_000 for number in range(10)]
         with unittest.mock.patch.dict(os.environ, {"DAM_LIBRARY": path, "DAM": "/nowhere/dam"}):
             found = list(dam_tools.clear_many([*texts, b""]))

@@ -217,16 +217,16 @@ class Answers(http.server.BaseHTTPRequestHandler):
         if isinstance(answer, bytes):
             self.wfile.write(answer)
         elif answer is not None:
-            self.say(*answer)
+            self.send_json(*answer)
 
     def do_GET(self):
         self.server.asked.append(self.path)
         if self.server.whole:
             self.wfile.write(self.server.whole)
         else:
-            self.say(200, {"next": self.server.next})
+            self.send_json(200, {"next": self.server.next})
 
-    def say(self, status, value):
+    def send_json(self, status, value):
         body = json.dumps(value).encode() + b"\n"
         self.send_response(status)
         self.send_header("Content-Length", str(len(body)))
@@ -443,7 +443,7 @@ class Connections(unittest.IsolatedAsyncioTestCase):
     async def answer(self, request):
         return aiohttp.web.Response(text="right")
 
-    async def answers(self, count):
+    async def send_answers(self, count):
         """How many answers come to this number of requests that are sent at once, until the connection ends or is idle."""
         reader, writer = await asyncio.open_connection("127.0.0.1", self.port)
         writer.write(b"GET / HTTP/1.1\r\nHost: x\r\n\r\n" * count)
@@ -458,7 +458,7 @@ class Connections(unittest.IsolatedAsyncioTestCase):
         """One too many ends the connection, whichever of them has its turn."""
         with self.assertNoLogs("aiohttp"):
             for count in (1, guards.MOST_AHEAD, *[guards.MOST_AHEAD + 1] * 20, 2 * guards.MOST_AHEAD, 100):
-                self.assertEqual(await self.answers(count), count if count <= guards.MOST_AHEAD else 0)
+                self.assertEqual(await self.send_answers(count), count if count <= guards.MOST_AHEAD else 0)
 
     async def test_a_connection_that_is_reset(self):
         """At once after a request, or with its answer on the way."""
@@ -469,7 +469,7 @@ class Connections(unittest.IsolatedAsyncioTestCase):
                 one.sendall(b"GET / HTTP/1.1\r\nHost: x\r\n\r\n" * (1 + number % guards.MOST_AHEAD))
                 await asyncio.sleep(number % 3 / 1_000)
                 one.close()
-            self.assertEqual(await self.answers(1), 1)
+            self.assertEqual(await self.send_answers(1), 1)
 
 
 if __name__ == "__main__":

@@ -215,7 +215,7 @@ class Closing(Office):
         self.make()
         disk = Disk()
 
-        def states():
+        def touch_and_read_states():
             given.files.path_of(folder.DESK).touch()
             records = mock.patch.object(operate.asyncio, "run", lambda _: ["day", *disk.records])
             with mock.patch.object(operate, "run_for_records", mock.Mock()), records:
@@ -225,16 +225,16 @@ class Closing(Office):
             given = self.writer()
             task = asyncio.create_task(given.run())
             await given.is_ready.wait()
-            self.assertEqual(states(), ("open", "open"))
+            self.assertEqual(touch_and_read_states(), ("open", "open"))
             operate.leave_request(given.files, folder.CLOSE_NOW)
             given.begin_close()
-            self.assertEqual(states(), ("closing", "closing"))
+            self.assertEqual(touch_and_read_states(), ("closing", "closing"))
             await self.until(lambda: given.ledger.is_closed)
-            self.assertEqual(states(), ("closed", "closed"))
+            self.assertEqual(touch_and_read_states(), ("closed", "closed"))
             given.files.path_of(folder.RESULTS).write_bytes(b"")
-            self.assertEqual(states(), ("results", "results"))
+            self.assertEqual(touch_and_read_states(), ("results", "results"))
             self.assertIn("published", operate.leave_publish_request(None, DAY, given.files))
-            self.assertEqual(states(), ("published", "published"))
+            self.assertEqual(touch_and_read_states(), ("published", "published"))
             task.cancel()
             await asyncio.gather(task, return_exceptions=True)
 

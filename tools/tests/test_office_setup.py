@@ -77,10 +77,10 @@ class Setup(Office):
 
     def test_a_day_that_is_not_made_makes_no_token(self):
         """Nobody would see it, and a further day prints only new ones."""
-        self.participants("participant\nGAS\n")
+        self.write_and_read_participants("participant\nGAS\n")
         words, path = ["--close", "12:00", "--participants", self.office.path.parent / "p.csv"], self.office.path
         self.assertEqual(run_tool("office", "init", path, "--day", "2099-11-29", *words)[0], command.DONE)
-        self.participants("participant\nGAS\nWIND\n")
+        self.write_and_read_participants("participant\nGAS\nWIND\n")
         self.assertEqual(run_tool("office", "init", path, "--day", "2099-11-29", *words)[:2], (command.NO_INPUT, b""))
         status, out, _ = run_tool("office", "init", path, "--day", "2099-11-30", *words)
         self.assertEqual((status, [line[:5] for line in out.splitlines()[-1:]]), (command.DONE, [b"WIND."]))
@@ -130,13 +130,13 @@ class Setup(Office):
     def table(self):
         return self.office.path.parent / "p.csv"
 
-    def participants(self, text):
+    def write_and_read_participants(self, text):
         self.table.write_text(text)
         return setup.read_participants(self.table)
 
     def test_tokens_that_can_not_be_printed(self):
         """The day is there, so it is said how the participants get others."""
-        self.participants("participant\nGAS\n")
+        self.write_and_read_participants("participant\nGAS\n")
         words = ["init", self.office.path, "--close", "12:00", "--participants", self.table, "--day"]
         closed, pipe = os.pipe()
         os.close(closed)
@@ -151,12 +151,12 @@ class Setup(Office):
 
     def test_a_public_key_of_another_key_is_seen(self):
         """By a start, and by a further day before it is made and a token is printed."""
-        self.participants("participant\nGAS\n")
+        self.write_and_read_participants("participant\nGAS\n")
         words = ["--close", "12:00", "--participants", self.office.path.parent / "p.csv"]
         self.assertEqual(run_tool("office", "init", self.office.path, "--day", "2099-11-29", *words)[0], command.DONE)
         public = self.office.path_of(folder.PUBLIC)
         kept = public.read_bytes()
-        self.participants("participant\nGAS\nWIND\n")
+        self.write_and_read_participants("participant\nGAS\nWIND\n")
         for other in (signing.public_text(signing.new_key()), b"", kept[:-30]):
             public.write_bytes(other)
             with self.subTest(other=other):
@@ -170,8 +170,8 @@ class Setup(Office):
         self.assertEqual(self.office.require_public_text(self.office.read_key()).split(), kept.decode().split())
 
     def test_shares_never_exceed_the_journal(self):
-        self.assertEqual(self.participants("participant\nA\nGAS\n"), {"A": None, "GAS": None})
-        found = self.participants("participant,commands\nA,100\nGAS,\nOIL,\n")
+        self.assertEqual(self.write_and_read_participants("participant\nA\nGAS\n"), {"A": None, "GAS": None})
+        found = self.write_and_read_participants("participant,commands\nA,100\nGAS,\nOIL,\n")
         self.assertEqual(setup.require_shares(found), {"A": 100, "GAS": 4_949, "OIL": 4_949})
         self.assertLessEqual(sum(setup.require_shares(dict.fromkeys(map(str, range(7)))).values()), folder.MOST_COMMANDS)
         with self.assertRaises(command.Stop):
@@ -186,7 +186,7 @@ class Setup(Office):
             "participant\nÄ\n",
         ):
             with self.subTest(text=text), self.assertRaises(command.Stop):
-                self.participants(text)
+                self.write_and_read_participants(text)
 
     def test_no_cell_of_the_participants_is_lost(self):
         for table in (
@@ -195,7 +195,7 @@ class Setup(Office):
             "commands\tparticipant\n10\tGAS\n\tWIND\n",
         ):
             with self.subTest(table=table):
-                self.assertEqual(self.participants(table), {"GAS": 10, "WIND": None})
+                self.assertEqual(self.write_and_read_participants(table), {"GAS": 10, "WIND": None})
         columns, number = "the columns are participant, commands", "should be a whole number of at most 5 digits, such as 500"
         for table, words in (
             ("participant,max_commands\nGAS,10\n", f"line 1, column 2: 'max_commands' is not a column; {columns}"),
@@ -222,14 +222,14 @@ class Setup(Office):
         ):
             said = f"{self.table}: {words}" if words else f"{self.table} is a PDF: save the table as .xlsx or as CSV"
             with self.subTest(table=table), self.assertRaises(command.Stop) as caught:
-                self.participants(table)
+                self.write_and_read_participants(table)
             self.assertEqual(str(caught.exception), said)
 
     def test_a_table_of_excel_is_read(self):
         for text in ("\ufeffparticipant,commands\r\nA,100\r\nGAS,\r\n", "\ufeffparticipant;commands\r\nA;100\r\nGAS;\r\n"):
-            self.assertEqual(self.participants(text), {"A": 100, "GAS": None})
+            self.assertEqual(self.write_and_read_participants(text), {"A": 100, "GAS": None})
         with self.assertRaisesRegex(command.Stop, "column commands: '²' should be a whole number"):
-            self.participants("participant,commands\nA,²\n")
+            self.write_and_read_participants("participant,commands\nA,²\n")
         path = self.office.path.parent / "p.xlsx"
         path.write_bytes(b"PK\x03\x04\xff")
         with self.assertRaisesRegex(command.Stop, "p.xlsx: line 1: the Excel workbook can't be read"):
@@ -257,15 +257,15 @@ class Setup(Office):
     def test_a_table_without_the_column_is_named(self):
         for text in ("GAS\nWIND\n", "name,commands\nGAS,1\n", "", "participants\nGAS\n"):
             with self.subTest(text=text), self.assertRaisesRegex(command.Stop, "no column participant"):
-                self.participants(text)
+                self.write_and_read_participants(text)
 
     def test_a_day_is_added_with_its_new_participants_alone(self):
         later = "2099-11-28", "2099-11-29"
-        self.participants("participant\nA\nGAS\n")
+        self.write_and_read_participants("participant\nA\nGAS\n")
         path = str(self.office.path.parent / "p.csv")
         _, made = setup.make_or_extend_office(self.office, self.args(day=later[0], participants=path))
         self.assertEqual(list(made), ["A", "GAS"])
-        self.participants("participant\nA\nOIL\n")
+        self.write_and_read_participants("participant\nA\nOIL\n")
         terms, made = setup.make_or_extend_office(self.office, self.args(day=later[1], participants=path))
         self.assertEqual((list(made), list(terms.shares)), (["OIL"], ["A", "OIL"]))
         self.assertEqual(list(self.office.list_days()), list(later))
@@ -323,7 +323,7 @@ class Setup(Office):
 
     def test_words_like_the_end_of_options(self):
         """The first `--` ends the options, and each further one is a word: a day `--` isn't the only day, which could not be opened again."""
-        self.participants("participant\nGAS\n")
+        self.write_and_read_participants("participant\nGAS\n")
         run_tool("office", "init", self.office.path, "--day", "2099-11-29", "--close", "12:00", "--participants", self.table)
         (day,) = self.office.list_days().values()
         for name in ("close", "publish"):
@@ -389,7 +389,7 @@ class Setup(Office):
         self.addCleanup(os.umask, os.umask(0o077))
         self.make()
         room = self.office.path.parent
-        self.participants("participant\nGAS\n")
+        self.write_and_read_participants("participant\nGAS\n")
         tokens.Register(self.office.path_of(folder.PARTICIPANTS)).write_new_participants(["GAS"])
         words = ["--day", "2099-11-28", "--close", "12:00", "--participants", room / "p.csv"]
         day = self.office.path_of(folder.DAYS) / DAY
@@ -590,21 +590,21 @@ class Setup(Office):
             ({"shares": {"GAS": 9_000, "A": 1_000}}, "shares: together they are 10,000, and a journal has 9,999 commands"),
             ({"share": 1}, "'share' is no member of it"),
         ):
-            self.odd(path, json.dumps({**value, **more}).encode(), words)
+            self.check_odd_terms(path, json.dumps({**value, **more}).encode(), words)
         for name in value:
-            self.odd(path, json.dumps({other: value[other] for other in value if other != name}).encode(), f"'{name}' is missing")
+            self.check_odd_terms(path, json.dumps({other: value[other] for other in value if other != name}).encode(), f"'{name}' is missing")
             twice = kept.rstrip()[:-1] + f', "{name}": {json.dumps(value[name])}}}'.encode()
-            self.odd(path, twice, f"'{name}' comes twice")
-        self.odd(path, kept.replace(b'"GAS": 1000', b'"GAS": 1, "GAS": 2'), "'GAS' comes twice")
-        self.odd(path, b"[]", "it should be an object")
-        self.odd(path, kept.replace(b'"periods": 24', b'"periods": 1' + b"0" * 9_999), f"{periods}Infinity")
-        self.odd(path, kept.replace(b'"periods": 24', b'"periods": 1e999'), f"{periods}Infinity")
+            self.check_odd_terms(path, twice, f"'{name}' comes twice")
+        self.check_odd_terms(path, kept.replace(b'"GAS": 1000', b'"GAS": 1, "GAS": 2'), "'GAS' comes twice")
+        self.check_odd_terms(path, b"[]", "it should be an object")
+        self.check_odd_terms(path, kept.replace(b'"periods": 24', b'"periods": 1' + b"0" * 9_999), f"{periods}Infinity")
+        self.check_odd_terms(path, kept.replace(b'"periods": 24', b'"periods": 1e999'), f"{periods}Infinity")
         with mock.patch("lib.tool.modules.has_zone", return_value=False):
-            self.odd(path, kept, f'{zone}"UTC"', False)
+            self.check_odd_terms(path, kept, f'{zone}"UTC"', False)
         path.write_bytes(kept)
         self.assertEqual(self.office.list_days()[DAY].read_terms().value(), value)
 
-    def odd(self, path, data, words, by_status=True):
+    def check_odd_terms(self, path, data, words, by_status=True):
         """Terms whose fault has these words."""
         path.write_bytes(data)
         said = f"{path} can't be used: it isn't the terms of a day: {words}"
@@ -720,7 +720,7 @@ class Setup(Office):
         for close, is_late in (("23:59", False), ("2026-11-28T23:59", False), ("2026-11-29T00:00", True), ("2026-12-03T12:00", True)):
             with self.subTest(close=close):
                 self.assertEqual(setup.is_closing_late(self.terms(day="2026-11-29", close=close)), is_late)
-        self.participants("participant\nGAS\n")
+        self.write_and_read_participants("participant\nGAS\n")
         words = ["--day", "2099-11-28", "--close", "2099-11-28T12:00", "--participants", self.office.path.parent / "p.csv"]
         status, _, err = run_tool("office", "init", self.office.path, *words)
         self.assertEqual(status, 0)

@@ -38,12 +38,12 @@ class Day(unittest.TestCase):
         for path in (self.bin, self.day):
             path.mkdir()
         for tool in ("audit", "lint"):
-            self.script(f"dam-{tool}", f'exec "{sys.executable}" -B "{TOOLS / tool}" "$@"')
+            self.write_script(f"dam-{tool}", f'exec "{sys.executable}" -B "{TOOLS / tool}" "$@"')
         program = f'"{which.BUILT}"' if which.BUILT.exists() else f'"{sys.executable}" -B "{FAKE}"'
-        self.script("dam", f'PYTHONPATH="{FAKE.parent}" exec {program} "$@"')
+        self.write_script("dam", f'PYTHONPATH="{FAKE.parent}" exec {program} "$@"')
         Path(self.day, "day.csv").write_bytes(AUCTION.read_bytes())
 
-    def script(self, name, line):
+    def write_script(self, name, line):
         path = self.bin / name
         path.write_text(f"#!/bin/sh\n{line}\n")
         path.chmod(0o755)
@@ -82,24 +82,24 @@ class Day(unittest.TestCase):
         """Its journal is taken from the desk's file; if that can't be read, there are no results."""
         Path(self.day, "day.desk").write_bytes(AUCTION.read_bytes())
         Path(self.day, "day.csv").unlink()
-        self.script("dam-desk", 'test "$1" = --journal && cat "$2"')
+        self.write_script("dam-desk", 'test "$1" = --journal && cat "$2"')
         status, out, _ = self.run_once()
         self.assertEqual((status, self.names()), (0, ["day.csv", "day.desk", "replies.txt", "results.txt"]), out)
         self.assertEqual(Path(self.day, "day.csv").read_bytes(), AUCTION.read_bytes())
         for line, words in (("exit 4", "desk: 4"), ("echo day,24; exit 4", "desk: 4"), ("exit 0", "no journal")):
-            self.script("dam-desk", line)
+            self.write_script("dam-desk", line)
             self.assertEqual(self.run_once()[:2], (10, [words]))
             self.assertNotIn("results.txt", self.names())
             self.assertEqual(Path(self.day, "day.csv").read_bytes(), AUCTION.read_bytes(), "the last journal that was read stays")
-        self.script("dam-desk", 'cat "$2"')
-        self.script("mv", 'case $1 in */day.csv) exit 1 ;; *) exec /bin/mv "$@" ;; esac')
+        self.write_script("dam-desk", 'cat "$2"')
+        self.write_script("mv", 'case $1 in */day.csv) exit 1 ;; *) exec /bin/mv "$@" ;; esac')
         self.assertEqual(self.run_once()[:2], (10, ["no journal"]), "an older journal isn't cleared in place of the desk's")
         self.assertNotIn("results.txt", self.names())
 
     def test_a_desk_that_is_a_link_to_a_missing_file(self):
         """Such as one on a disk that isn't mounted: an older journal isn't cleared in place of it."""
         Path(self.day, "day.desk").symlink_to("/nonexistent/desk")
-        self.script("dam-desk", 'cat "$2" || exit 4')
+        self.write_script("dam-desk", 'cat "$2" || exit 4')
         self.assertEqual(self.run_once()[:2], (10, ["desk: 4"]))
         self.assertNotIn("results.txt", self.names())
 
@@ -107,17 +107,17 @@ class Day(unittest.TestCase):
         """Old results that stay are never taken for those of the run."""
         self.assertEqual(self.run_once()[0], 0)
         before = self.names()
-        self.script("rm", "exit 1")
+        self.write_script("rm", "exit 1")
         self.assertEqual((self.run_once()[0], self.names()), (10, before))
         (self.bin / "rm").unlink()
-        self.script("mv", 'case $1 in */results.txt) exit 1 ;; *) exec /bin/mv "$@" ;; esac')
+        self.write_script("mv", 'case $1 in */results.txt) exit 1 ;; *) exec /bin/mv "$@" ;; esac')
         self.assertEqual(self.run_once()[0], 10)
         self.assertNotIn("results.txt", self.names())
 
     def test_two_runs_at_once(self):
         """The second one ends, says why, and spoils nothing of the first."""
         go = self.bin / "go"
-        self.script("dam-lint", f'touch "{go}.begun"; while [ ! -e "{go}" ]; do sleep 0.05; done')
+        self.write_script("dam-lint", f'touch "{go}.begun"; while [ ! -e "{go}" ]; do sleep 0.05; done')
         first = self.start(self.day)
         while not Path(f"{go}.begun").exists():
             time.sleep(0.05)
@@ -138,7 +138,7 @@ class Day(unittest.TestCase):
         ):
             before = (self.bin / name).read_text()
             self.assertEqual(self.run_once()[0], 0)
-            self.script(name, line)
+            self.write_script(name, line)
             found = self.run_once()
             self.assertEqual(found[:2], (status, [last]))
             room = self.day / "new"
@@ -148,7 +148,7 @@ class Day(unittest.TestCase):
     def test_a_run_that_is_killed_leaves_no_results_and_no_lock(self):
         self.assertEqual(self.run_once()[0], 0)
         begun, before = self.bin / "begun", (self.bin / "dam-audit").read_text()
-        self.script("dam-audit", f'touch "{begun}"; exec sleep 60')
+        self.write_script("dam-audit", f'touch "{begun}"; exec sleep 60')
         run = self.start(self.day)
         while not begun.exists():
             time.sleep(0.05)
@@ -164,7 +164,7 @@ class Day(unittest.TestCase):
         begun = self.bin / "begun"
         for name, line in (("dam", '[ "$1" = replay ] || '), ("dam-audit", "")):
             before = (self.bin / name).read_text()
-            self.script(name, f'{line}{{ touch "{begun}"; exec sleep 60; }}')
+            self.write_script(name, f'{line}{{ touch "{begun}"; exec sleep 60; }}')
             for number, send in SIGNALS:
                 with self.subTest(name, number=number):
                     run = self.start(self.day)
@@ -185,21 +185,21 @@ class Day(unittest.TestCase):
         begun, desk = self.bin / "begun", Path(self.day, "day.desk")
         desk.write_bytes(AUCTION.read_bytes())
         for name in ("lint", "audit"):
-            self.script(f"dam-{name}", "exec sleep 60")
+            self.write_script(f"dam-{name}", "exec sleep 60")
         for line, pauses in (
             (f'touch "{begun}"; exec sleep 60', [0]),
             ("exec sleep 60", [number / 3_000 for number in range(40)]),  # it may come at any moment of the beginning
             ('cat "$2"', [number / 500 for number in range(12)]),
         ):
-            self.script("dam-desk", line)
+            self.write_script("dam-desk", line)
             for pause in pauses:
                 number, send = random.choice(SIGNALS)
                 with self.subTest(line, pause=pause, number=number):
-                    self.signalled(number, send, pause, begun if "begun" in line else None)
+                    self.run_signalled(number, send, pause, begun if "begun" in line else None)
                     self.assertLessEqual({"results.txt", "replies.txt"} & set(self.names()), set())
                 begun.unlink(missing_ok=True)
 
-    def signalled(self, number, send, pause, begun=None):
+    def run_signalled(self, number, send, pause, begun=None):
         """A run that gets a signal after a pause, and ends with the lock free."""
         run = self.start(self.day)
         self.addCleanup(kill, run)
@@ -218,11 +218,11 @@ class Day(unittest.TestCase):
         whole, ends = ["day.csv", "replies.txt", "results.txt"], 'sleep 0.2; kill -{0} $PPID; kill -{0} 0; sleep 0.2'
         for number, _ in SIGNALS:
             self.assertEqual((self.run_once()[0], self.names()), (0, whole))
-            self.script("rm", f'/bin/rm -f results.txt; {ends.format(number)}; exec /bin/rm "$@"')
+            self.write_script("rm", f'/bin/rm -f results.txt; {ends.format(number)}; exec /bin/rm "$@"')
             with self.subTest(number=number, step="rm"):
                 self.assertEqual((self.run_once()[0], self.names()), (10, ["day.csv"]))
             (self.bin / "rm").unlink()
-            self.script("mv", f'/bin/mv "$@"; {ends.format(number)}')
+            self.write_script("mv", f'/bin/mv "$@"; {ends.format(number)}')
             with self.subTest(number=number, step="mv"):
                 self.assertEqual((self.run_once()[0], self.names()), (0, whole))
             (self.bin / "mv").unlink()
@@ -263,7 +263,7 @@ class Day(unittest.TestCase):
     def test_without_flock(self):
         """That isn't a lock which another run has."""
         for status, wanted in ((127, 10), (1, 75)):
-            self.script("flock", f"exit {status}")
+            self.write_script("flock", f"exit {status}")
             self.assertEqual((self.run_once()[0], self.names()), (wanted, ["day.csv"]))
 
     def test_the_units(self):

@@ -336,7 +336,7 @@ class Receipts(unittest.TestCase):
         self.assertEqual((heads.base64_of(extension.old.root), heads.base64_of(extension.old.signature)), (root, signature))
         self.assertEqual(extension.path, receipt.path[1:])
 
-    def said_by_openssl(self, data, key=None):
+    def run_openssl(self, data, key=None):
         """What the second reading of the format says about the text of a receipt."""
         if not shutil.which("openssl"):
             self.skipTest("openssl is missing")
@@ -354,15 +354,15 @@ class Receipts(unittest.TestCase):
         head = seal.head()
         for number in (1, 2, head.size // 2, head.size):
             made = seal.receipt(number, head)
-            self.assertEqual(self.said_by_openssl(heads.line_of(made)), f"right: {made.record}, {made.reply}\n")
+            self.assertEqual(self.run_openssl(heads.line_of(made)), f"right: {made.record}, {made.reply}\n")
             for other in (made._replace(record=made.record.replace(",", ",,", 1)), made._replace(number=number % head.size + 1)):
-                self.assertEqual(self.said_by_openssl(heads.line_of(other)), "wrong\n")
+                self.assertEqual(self.run_openssl(heads.line_of(other)), "wrong\n")
 
     def test_other_writings_by_openssl(self):
         """It takes the written form alone, as `verify` does for status 0."""
         seal = sealed_of(b"".join(FIRST.splitlines(keepends=True)[:4]), key=self.key)
         line = heads.line_of(seal.receipt(2, seal.head()))
-        self.assertEqual(self.said_by_openssl(line), "right: submit,STAD,BASE-8,hour,buy,9500,8:300,,, done\n")
+        self.assertEqual(self.run_openssl(line), "right: submit,STAD,BASE-8,hour,buy,9500,8:300,,, done\n")
         salt = re.search(rb'"salt":"(.*?)"', line)[1]
         digits = b"ABCDEFGHIJKLMNOPQRSTUVWXYZabcdefghijklmnopqrstuvwxyz0123456789+/"
         bits = salt[:-2] + digits[digits.index(salt[-2]) + 1 :][:1] + b"="  # the same bytes
@@ -370,12 +370,12 @@ class Receipts(unittest.TestCase):
         changes += [(b'=","', b'=""'), (b'=","', b'=,'), (b'"path":["', b'"path":[,"'), (b'=","', b'=",,"'), (b'"],"head', b'",],"head')]
         changes += [(b"\n", b""), (b"\n", b"\n\n"), (b"\n", b"\r\n"), (b"\n", b"\0\n"), (b"{", b" {"), (b'":', b'": ')]
         changes += [(salt, bits), (salt, salt + b"*"), (salt, salt[:-1]), (b'="],', b'=*"],'), (b'"number":2', b'"number":02')]
-        self.assertEqual(self.said_by_openssl(line * 2), "wrong\n")
+        self.assertEqual(self.run_openssl(line * 2), "wrong\n")
         for old, new in changes:
             other = line.replace(old, new, 1)
             with self.subTest(other):
                 self.assertNotEqual(verdict_of(other, seal.head(), self.public), receipts.RIGHT)
-                self.assertEqual(self.said_by_openssl(other), "wrong\n")
+                self.assertEqual(self.run_openssl(other), "wrong\n")
 
     def test_other_members_by_openssl(self):
         """Members that no head or receipt may have, though they are signed."""
@@ -387,14 +387,14 @@ class Receipts(unittest.TestCase):
             root["root"] = heads.leaf_of(*own.values())
             return heads.line_of(heads.Receipt(**own, path=(), head=signing.sign(self.key, heads.Head(**root))))
 
-        self.assertEqual(self.said_by_openssl(line_of({}, {})), "right: cancel,A,B,,,,,,, done\n")
+        self.assertEqual(self.run_openssl(line_of({}, {})), "right: cancel,A,B,,,,,,, done\n")
         own = [{"number": 0}, {"record": "I OWE YOU"}, {"record": "cancel,A,B"}, {"record": "day,24,,,,,,,"}, {"record": "cancel,A,B ,,,,,,"}]
         own += [{"reply": "refused,"}, {"reply": "Done"}, {"reply": "done\ndone"}]
         signed = [{"day": "D" * 33}, {"day": "28 Nov"}, {"periods": 26}, {"size": 10_001}, {"size": 2}]
         for line in (*(line_of(one, {}) for one in own), *(line_of({}, one) for one in signed)):
             with self.subTest(line):
                 self.assertNotEqual(verdict_of(line, None, self.public), receipts.RIGHT)
-                self.assertEqual(self.said_by_openssl(line), "wrong\n")
+                self.assertEqual(self.run_openssl(line), "wrong\n")
 
     def test_keys_that_sign_for_anyone_by_openssl(self):
         """Each signature is right under its key."""
@@ -407,9 +407,9 @@ class Receipts(unittest.TestCase):
                 head = next(head for head in every if signing.is_signed(key, head))
                 line = heads.line_of(seal.receipt(1, seal.head())._replace(head=head))
                 text = key.public_bytes(serialization.Encoding.PEM, serialization.PublicFormat.SubjectPublicKeyInfo)
-                self.assertEqual(self.said_by_openssl(line, text), "wrong\n")
+                self.assertEqual(self.run_openssl(line, text), "wrong\n")
         line = heads.line_of(seal.receipt(1, seal.head()))
-        self.assertEqual(self.said_by_openssl(line, signing.public_text(self.key) * 2), "wrong\n")
+        self.assertEqual(self.run_openssl(line, signing.public_text(self.key) * 2), "wrong\n")
 
     def test_keys_that_sign_for_anyone(self):
         """Keys of small order, with either sign, and a file of two keys."""
@@ -447,7 +447,7 @@ class Receipts(unittest.TestCase):
         for made, is_right in ((signature(point), True), (signature(moved), False), (signature(point, order), False)):
             signed = head._replace(signature=made)
             self.assertEqual(signing.is_signed(self.public, signed), is_right)
-            said = self.said_by_openssl(heads.line_of(seal.receipt(1, head)._replace(head=signed)))
+            said = self.run_openssl(heads.line_of(seal.receipt(1, head)._replace(head=signed)))
             self.assertEqual(said, "right: cancel,A,B,,,,,,, refused,UnknownOrder\n" if is_right else "wrong\n")
 
     def test_the_head_of_no_entry(self):
@@ -506,7 +506,7 @@ class Command(InFolder):
         said = ["entry 93: cancel,GAS,START,,,,,,, refused,HasChildren"]
         said.append("right: 94 receipts of the head of 2026-11-28 with 94 entries, 1 of them refused")
         self.assertEqual(self.verify(0, *every, "--day", DAY).splitlines(), said)
-        self.assertIn("is the head of 2026-11-28 with 94 entries, and not of 2026-11-29", self.error(3, "--day", "2026-11-29"))
+        self.assertIn("is the head of 2026-11-28 with 94 entries, and not of 2026-11-29", self.run_for_error(3, "--day", "2026-11-29"))
         self.assertIn("right: 1 head", self.run_tool(0, "heads", "sealed/head.json", "--key", "key.pem.pub"))
         for path in (Path("key.pem"), Path("sealed/salts.json"), *every):
             self.assertEqual(stat.S_IMODE(path.stat().st_mode), 0o600)
@@ -530,7 +530,7 @@ class Command(InFolder):
                 self.assertEqual(run_help_for_unsaid("receipts", one, *parts), set())
         self.assertTrue(found["receipts"] and wrong["findings"])
 
-    def error(self, status, *words):
+    def run_for_error(self, status, *words):
         """What `verify` says on standard error."""
         ran = run_tool("receipts", "verify", "sealed/receipts/STAD.jsonl", "--key", "key.pem.pub", "--head", "sealed/head.json", *words)
         self.assertEqual(ran[:2], (status, b""))
@@ -581,23 +581,23 @@ class Command(InFolder):
         words = ["--sent", "mine.csv", "--participant", "NORD"]
         own = "x/receipts/NORD.jsonl"
 
-        def outcome(status, commands, *more):
+        def seal_and_verify(status, commands, *more):
             shutil.rmtree("x", ignore_errors=True)
             Path("x.csv").write_bytes(b"day,24,,,,,,,\n" + b"".join(commands))
             Path("x.txt").write_bytes(replies_of(Path("x.csv").read_bytes()))
             self.seal("x", "x.csv", "x.txt")
             return self.verify(status, own, *more, *words, head="x/head.json")
 
-        self.assertEqual(outcome(0, amends), "right: 3 receipts of the head of 2026-11-28 with 3 entries; as sent: 3 commands\n")
-        self.assertIn("is out of its order", outcome(1, [amends[0], amends[2], amends[1]]))
-        self.assertIn("the receipt of entry 4 was not sent: cancel,NORD,W,,,,,,", outcome(1, [*amends, b"cancel,NORD,W,,,,,,\n"]))
-        self.assertIn("right: 3 receipts of the head of 2026-11-28 with 4 entries, 3 of them refused", outcome(0, [b"close,,,,,,,,\n", *amends]))
-        self.assertIn("repeats what was sent once", outcome(1, [*amends, amends[2]]))
-        self.assertIn("is missing in the receipts", outcome(1, amends[:2]))
+        self.assertEqual(seal_and_verify(0, amends), "right: 3 receipts of the head of 2026-11-28 with 3 entries; as sent: 3 commands\n")
+        self.assertIn("is out of its order", seal_and_verify(1, [amends[0], amends[2], amends[1]]))
+        self.assertIn("the receipt of entry 4 was not sent: cancel,NORD,W,,,,,,", seal_and_verify(1, [*amends, b"cancel,NORD,W,,,,,,\n"]))
+        self.assertIn("right: 3 receipts of the head of 2026-11-28 with 4 entries, 3 of them refused", seal_and_verify(0, [b"close,,,,,,,,\n", *amends]))
+        self.assertIn("repeats what was sent once", seal_and_verify(1, [*amends, amends[2]]))
+        self.assertIn("is missing in the receipts", seal_and_verify(1, amends[:2]))
         Path("mine.csv").write_bytes(b"".join([*amends, amends[2]]))
-        self.assertIn("is missing in the receipts", outcome(1, amends))
+        self.assertIn("is missing in the receipts", seal_and_verify(1, amends))
         Path("mine.csv").write_bytes(b"".join(amends))
-        outcome(0, [*amends, b"submit,GAS,W,hour,sell,100,8:10,,\n"])
+        seal_and_verify(0, [*amends, b"submit,GAS,W,hour,sell,100,8:10,,\n"])
         self.assertIn("it isn't a receipt of NORD", self.verify(3, own, "x/receipts/GAS.jsonl", "--participant", "NORD", head="x/head.json"))
         # A forged receipt, and one that was given twice.
         data = Path(own).read_bytes()
@@ -641,7 +641,7 @@ class Command(InFolder):
         out = self.run_tool(0, "heads", paths[0], paths[2], "--key", "key.pem.pub")
         days = ["2026-11-28: 1 head, the last with 94 entries", "2026-11-29: 1 head, the last with 15 entries"]
         self.assertEqual(out.splitlines(), [*days, "right: 2 heads of 2 days"])
-        self.verify(3, self.receipt_of(made[2]), head=paths[0])
+        self.verify(3, self.write_receipt(made[2]), head=paths[0])
 
     def test_files_of_many_lines(self):
         self.seal()

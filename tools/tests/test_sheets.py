@@ -452,14 +452,14 @@ class Statement(unittest.TestCase):
     )
     DAY = DATA + b"results\n" + results_of(DATA, frozenset())
 
-    def rows(self, *words):
+    def run_for_rows(self, *words):
         status, out, err = run_tool("table", "--quiet", *words, "-", data=self.DAY)
         self.assertEqual((status, err), (0, ""))
         return list(csv.DictReader(io.StringIO(out.decode())))
 
     def test_what_was_sent_and_what_became_of_it(self):
         heads = ["command", "what", "order", "reply", "reason", "outcome", "executed_mwh", "amount_eur", "code"]
-        found = [[row[head] for head in heads] for row in self.rows("--participant", "A")]
+        found = [[row[head] for head in heads] for row in self.run_for_rows("--participant", "A")]
         self.assertEqual(
             found,
             [
@@ -471,21 +471,21 @@ class Statement(unittest.TestCase):
                 ["7", "submit", "K1", "done", "", "rejected", "0.0", "0.000", "loses"],
             ],
         )
-        whys = [row["why"] for row in self.rows("--participant", "A")]
+        whys = [row["why"] for row in self.run_for_rows("--participant", "A")]
         self.assertEqual(whys[:2], ["command 4 changes it", "command 5 cancels it"])
         self.assertEqual(whys[2], "its limit is better than the price, 52.50 EUR/MWh")
         self.assertEqual(whys[4], "the participant has no such order: it was cancelled, refused, or never entered")
 
     def test_each_participants_statements_are_all_of_them(self):
-        whole = self.rows("--rows", "statement")
-        parts = [row for who in "AB" for row in self.rows("--participant", who)]
+        whole = self.run_for_rows("--rows", "statement")
+        parts = [row for who in "AB" for row in self.run_for_rows("--participant", who)]
         self.assertEqual(sorted(parts, key=lambda row: int(row["command"])), whole[:-1])
         self.assertEqual(whole[-1]["what"], "close")
 
     def test_other_tables_of_a_participant(self):
-        self.assertEqual([row["participant"] for row in self.rows("--participant", "A", "--rows", "participants")], ["A"])
-        self.assertEqual(len(self.rows("--participant", "B", "--rows", "orders", "--long")), 1)
-        self.assertEqual([row["command"] for row in self.rows("--participant", "B", "--rows", "commands")], ["2"])
+        self.assertEqual([row["participant"] for row in self.run_for_rows("--participant", "A", "--rows", "participants")], ["A"])
+        self.assertEqual(len(self.run_for_rows("--participant", "B", "--rows", "orders", "--long")), 1)
+        self.assertEqual([row["command"] for row in self.run_for_rows("--participant", "B", "--rows", "commands")], ["2"])
 
     def test_a_participant_without_a_command_is_a_fault(self):
         """Such as one whose name is misspelt: a script would take an empty table for an answer."""

@@ -175,7 +175,7 @@ class Audit(Audited):
                 self.assertIn(f"\nthe head of 2026-11-28 with 94 entries: {said}\n", out)
         # A receipt under another head doesn't decide: the operator may have sealed two journals, with two secrets.
         other = sealed_of(AUCTION.read_bytes(), key=signing.parse_private(Path("key.pem").read_bytes()))
-        self.receipt_of(other)
+        self.write_receipt(other)
         Path("sealed/salts.json").write_bytes(wrong)
         self.assertIn("or the salts aren't this journal's\n", self.audit(1, "day.csv", "--replies", "--receipts", "receipt.jsonl"))
         # The salts are those of the published head: the operator signed another journal, or this one with other salts.
@@ -254,27 +254,27 @@ class Audit(Audited):
         self.seal()
         words = ["--sent", "mine.csv", "--participant", "STAD", "--receipts", "receipt.jsonl"]
         other = sealed_of(AUCTION.read_bytes(), day="2026-11-27", key=key)
-        self.receipt_of(other, place)
+        self.write_receipt(other, place)
         said = "not compared: 1 receipt or head\nreceipt.jsonl line 1: it is of 2026-11-27, and the journal's head of 2026-11-28\n"
         self.assertIn(said, self.audit(3, "day.csv", "--receipts", "receipt.jsonl", "--replies", results="replies.txt"))
         self.assertIn(said, self.audit(1, "day.csv", *words))
-        self.receipt_of(sealed_of(AUCTION.read_bytes()), place)  # by another key
+        self.write_receipt(sealed_of(AUCTION.read_bytes()), place)  # by another key
         out = self.audit(1, "day.csv", *words)
         self.assertIn("receipt.jsonl line 1: not the operator's: its head isn't signed by this key", out)
         self.assertIn("no receipt proves that the operator had it", out)
         self.assertNotIn("the operator's fault", out)
         self.assertNotIn("not as signed", out)
         # Another key, and another day.
-        self.receipt_of(sealed_of(AUCTION.read_bytes(), day="2026-11-27"), place)
+        self.write_receipt(sealed_of(AUCTION.read_bytes(), day="2026-11-27"), place)
         self.assertIn("receipt.jsonl line 1: not the operator's: its head isn't signed by this key", self.audit(1, "day.csv", *words))
-        self.receipt_of(sealed_of(AUCTION.read_bytes(), key=key), place)
+        self.write_receipt(sealed_of(AUCTION.read_bytes(), key=key), place)
         self.assertIn("the operator's fault, proved", self.audit(1, "day.csv", *words))
         # The reply is signed too.
         seal = sealing.Seal(DAY, 24, sealing.new_salts(DAY), key)
         entries = list(sealed_of(Path("day.csv").read_bytes()).entries)
         for entry in [entries[0]._replace(reply="refused,Closed"), *entries[1:]]:
             seal.append(entry)
-        self.receipt_of(seal)
+        self.write_receipt(seal)
         self.assertIn("the operator signed entry 1 as", self.audit(1, "day.csv", "--receipts", "receipt.jsonl"))
         Path("folder").mkdir()
         Path("folder/STAD.json").write_bytes(b"")

@@ -260,28 +260,28 @@ class Entered(unittest.TestCase):
 class Tools(unittest.TestCase):
     def setUp(self):
         self.folder = new_folder(self)
-        stand_in = self.script("dam", f'PYTHONPATH="{FAKE.parent}" exec "{sys.executable}" "{FAKE}" "$@"')
+        stand_in = self.write_script("dam", f'PYTHONPATH="{FAKE.parent}" exec "{sys.executable}" "{FAKE}" "$@"')
         self.program = which.BUILT if which.BUILT.exists() else stand_in  # the built program is far quicker
-        self.journal = self.file("day.csv", journal_of(*SMALL))
+        self.journal = self.write_file("day.csv", journal_of(*SMALL))
 
-    def script(self, name, line):
-        path = self.file(name, f"#!/bin/sh\n{line}\n".encode())
+    def write_script(self, name, line):
+        path = self.write_file(name, f"#!/bin/sh\n{line}\n".encode())
         path.chmod(0o755)
         return path
 
-    def file(self, name, data):
+    def write_file(self, name, data):
         path = Path(self.folder, name)
         path.write_bytes(data)
         return path
 
-    def whatif(self, *words, data=b""):
+    def run_whatif(self, *words, data=b""):
         return run_tool("whatif", words[0], "--program", self.program, *words[1:], data=data)
 
     def rows(self, out):
         return list(csv.DictReader(io.StringIO(out.decode())))
 
     def test_a_limit_in_words_as_a_record_and_as_a_row(self):
-        status, out, err = self.whatif("limit", self.journal, "--participant", "GEN", "--order", "UNIT")
+        status, out, err = self.run_whatif("limit", self.journal, "--participant", "GEN", "--order", "UNIT")
         self.assertEqual((status, err), (0, ""))
         self.assertIn("Its worst limit is 50.00 EUR/MWh: with it, and with every lower limit, it is accepted", out.decode())
         self.assertIn("docs/MARKET.md", out.decode())
@@ -289,38 +289,38 @@ class Tools(unittest.TestCase):
         found = {cells[0]: [cell.strip() for cell in cells[1:] if cell.strip()] for cells in lines}
         self.assertEqual(found["surplus at these prices, EUR"], ["20.00", "0.00", "-0.02"])
         self.assertEqual(found["gain of GEN, EUR"], ["20.00", "0.00", "0.00"])
-        status, out, _ = self.whatif("limit", self.journal, "--participant", "GEN", "--order", "UNIT", "--json")
+        status, out, _ = self.run_whatif("limit", self.journal, "--participant", "GEN", "--order", "UNIT", "--json")
         record = json.loads(out)
         self.assertEqual((record["worst_limit_eur_mwh"], [case["accepted"] for case in record["cases"]]), (50.0, [True, True, False]))
         self.assertEqual([case["surplus_eur"] for case in record["cases"]], [20.0, 0.0, -0.02])
         self.assertEqual(record["others"], [{"participant": "CITY", "order": "TOWN", "past_mwh": 0.0, "at_mwh": 2.0}])
         self.assertEqual([case["gain_eur"] for case in record["cases"]], [20.0, 0.0, 0.0])
-        status, out, _ = self.whatif("limit", self.journal, "--participant", "GEN", "--all")
+        status, out, _ = self.run_whatif("limit", self.journal, "--participant", "GEN", "--all")
         (row,) = self.rows(out)
         self.assertEqual((row["worst_limit_eur_mwh"], row["others"], row["surplus_eur"]), ("50.00", "1", "0.000"))
         # A file of values has a table, not words.
         path = Path(self.folder, "limits.CSV")
-        self.whatif("limit", self.journal, "--participant", "GEN", "--order", "UNIT", "-o", path)
+        self.run_whatif("limit", self.journal, "--participant", "GEN", "--order", "UNIT", "-o", path)
         self.assertEqual(path.read_bytes(), out)
 
     def test_an_hourly_order_is_sampled(self):
         words = ["--participant", "CITY", "--order", "TOWN", "--from", "39.99", "--to", "40.01", "--step", "0.01"]
-        status, out, err = self.whatif("limit", self.journal, *words)
+        status, out, err = self.run_whatif("limit", self.journal, *words)
         self.assertEqual(status, 0)
         self.assertEqual([(row["limit_eur_mwh"], row["executed_mw"]) for row in self.rows(out)],
                          [("39.99", "0.0"), ("40.00", "2.0"), ("40.01", "2.0"), ("50.00", "2.0")])
         said = "whatif: sampled at 4 limits, one of them the order's own, 50.00 EUR/MWh: between them the result may be another"
         self.assertTrue(err.startswith(said), err)
-        err = self.whatif("limit", self.journal, *words[:4], "--from", "50", "--to", "51")[2]
+        err = self.run_whatif("limit", self.journal, *words[:4], "--from", "50", "--to", "51")[2]
         self.assertTrue(err.startswith("whatif: sampled at 2 limits: between"), err)
-        quarters = self.file("quarters.csv", journal_of(*SMALL).replace(b"day,24,", b"day,96,"))
+        quarters = self.write_file("quarters.csv", journal_of(*SMALL).replace(b"day,24,", b"day,96,"))
         for path, welfare in ((self.journal, 20), (quarters, 5)):
-            out = self.whatif("limit", path, *words[:4], "--from", "50", "--to", "51")[1]
+            out = self.run_whatif("limit", path, *words[:4], "--from", "50", "--to", "51")[1]
             self.assertEqual(Fraction(self.rows(out)[0]["welfare_eur"]), welfare)
 
     def test_a_change_and_the_comparison_of_the_two_days(self):
-        more = self.file("more.csv", b"submit,WIND,MILL,hour,sell,1000,1:20,,\n")
-        status, out, err = self.whatif("change", self.journal, more, "--participant", "GEN")
+        more = self.write_file("more.csv", b"submit,WIND,MILL,hour,sell,1000,1:20,,\n")
+        status, out, err = self.run_whatif("change", self.journal, more, "--participant", "GEN")
         self.assertEqual((status, err), (0, ""))
         rows = {(row["what"], row["participant"], row["order"], row["period"]): row for row in self.rows(out)}
         # MILL serves TOWN for 10.00 to 50.00; UNIT is rejected.
@@ -331,32 +331,32 @@ class Tools(unittest.TestCase):
         days = []
         for name, lines in (("a", SMALL), ("b", (*SMALL, more.read_text().strip()))):
             data = journal_of(*lines)
-            days += [self.file(f"{name}.csv", data), self.file(f"{name}.txt", support.results_of(data, best(data)))]
+            days += [self.write_file(f"{name}.csv", data), self.write_file(f"{name}.txt", support.results_of(data, best(data)))]
         self.assertEqual(run_tool("compare", "--participant", "GEN", *days)[:2], (0, out))
         status, again, _ = run_tool("compare", *days)
         self.assertIn(b"executed,MWh,WIND,MILL,,,2.0,,,in full\n", again)
         self.assertEqual(run_tool("compare", *days[:2], *days[:2])[2], "compare: nothing differs\n")
         # without MILL and UNIT nothing is traded, and the price says nothing
-        none = self.whatif("change", self.journal, "-", data=b"cancel,GEN,UNIT,,,,,,\n")[1]
+        none = self.run_whatif("change", self.journal, "-", data=b"cancel,GEN,UNIT,,,,,,\n")[1]
         self.assertIn(b"price,EUR/MWh,,,1,50.00,,,,\nvolume,MW,,,1,2.0,0.0,-2.0,,\n", none)
         # a table of orders is such a change too, and so is standard input
         table = b"participant,order,kind,side,price_eur_mwh,periods,volume_mw\nWIND,MILL,hour,sell,10,1,2\n"
-        self.assertEqual(self.whatif("change", self.journal, "-", "--participant", "GEN", data=table)[:2], (0, out))
+        self.assertEqual(self.run_whatif("change", self.journal, "-", "--participant", "GEN", data=table)[:2], (0, out))
         self.assertEqual(len(json.loads(run_tool("compare", "--json", *days)[1])["rows"]), len(again.splitlines()) - 1)
 
     def test_amends_and_cancels_change_a_day(self):
-        status, out, _ = self.whatif("change", self.journal, "-", data=b"cancel,GEN,UNIT,,,,,,\n")
+        status, out, _ = self.run_whatif("change", self.journal, "-", data=b"cancel,GEN,UNIT,,,,,,\n")
         self.assertEqual(status, 0)
         self.assertIn("executed,MWh,GEN,UNIT,,2.0,,,accepted,", out.decode())
-        status, out, _ = self.whatif("change", self.journal, "-", data=b"day,24,,,,,,,\namend,GEN,UNIT,,,6000,1:20,,\nclose,,,,,,,,\n")
+        status, out, _ = self.run_whatif("change", self.journal, "-", data=b"day,24,,,,,,,\namend,GEN,UNIT,,,6000,1:20,,\nclose,,,,,,,,\n")
         self.assertIn("executed,MWh,GEN,UNIT,,2.0,0.0,-2.0,accepted,rejected", out.decode())
         # the same as a table of commands, as tools/table --rows commands prints it
         table = b"command,what,participant,order,kind,side,price_eur_mwh,periods,volume_mw,reply\n1,amend,GEN,UNIT,,,60,1,2,done\n"
-        self.assertEqual(self.whatif("change", self.journal, "-", data=table), (0, out, ""))
+        self.assertEqual(self.run_whatif("change", self.journal, "-", data=table), (0, out, ""))
 
     def test_bad_input_is_one_line(self):
         out = Path(self.folder, "out.csv")
-        opened = self.file("open.csv", journal_of(*SMALL).replace(b"close,,,,,,,,\n", b""))
+        opened = self.write_file("open.csv", journal_of(*SMALL).replace(b"close,,,,,,,,\n", b""))
         own = ["--participant", "GEN", "--order"]
         for words, data, status, said in (
             (["limit", self.journal, *own, "UNIT-8"], b"", 3, "GEN has no order UNIT-8 in the book: its blocks are UNIT"),
@@ -389,7 +389,7 @@ class Tools(unittest.TestCase):
             (["change", self.journal, self.journal, "--participant", "NONE"], b"", 3, None),
         ):
             with self.subTest(said):
-                found = self.whatif(*words, "-o", out, data=data)
+                found = self.run_whatif(*words, "-o", out, data=data)
                 self.assertEqual((found[0], found[1], len(found[2].splitlines())), (status, b"", 1), found[2])
                 if said:
                     self.assertEqual(found[2], f"whatif: {said}\n")
@@ -399,39 +399,39 @@ class Tools(unittest.TestCase):
         table = TABLE + b"amend,GEN,UNIT,,,60,25,2\nclose,,,,,,,\nmove,A,X,hour,buy,1,1,1\n"
         said = "whatif: standard input: line 2, column periods: the day has periods 1 to 24, so there is no period 25 (PeriodOutOfDay)\n"
         said += "  line 4, column what: 'move' should be submit, amend or cancel\n"
-        self.assertEqual(self.whatif("change", self.journal, "-", data=table), (3, b"", said))
+        self.assertEqual(self.run_whatif("change", self.journal, "-", data=table), (3, b"", said))
         for head, row in ((TABLE, b"move,A,X%d,hour,buy,1,1,1\n"), (TABLE.removeprefix(b"what,"), b"A,X%d,hour,buy,1,25,1\n")):
             for count in (9, 20, 21, 22, 100):
                 data = head + b"".join(row % at for at in range(count))
-                *lines, last = self.whatif("change", self.journal, "-", data=data)[2].splitlines()
+                *lines, last = self.run_whatif("change", self.journal, "-", data=data)[2].splitlines()
                 self.assertEqual((len(lines), last), (5, f"  and {count - 5} more"))
 
     def test_notes_say_how_a_table_was_read(self):
-        amended = self.whatif("change", self.journal, "-", data=b"amend,GEN,UNIT,,,6000,1:20,,\n")[1]
+        amended = self.run_whatif("change", self.journal, "-", data=b"amend,GEN,UNIT,,,6000,1:20,,\n")[1]
         head, row = "what,participant,order,price_eur_mwh,periods,volume_mw,sub-group,note\n", "amend,GEN,UNIT,60,1,2,,f\u00fcr\n"
         orders = "participant,order,kind,side,price_eur_mwh,periods,volume_mw,note\n", "GEN,MORE,hour,sell,60,1,2,f\u00fcr\n"
         code = ["line 2: the table isn't in UTF-8, and was read as Windows-1252"]
         unused = ["the column 'sub-group' isn't used", "the column 'note' isn't used"]
         for table, said in (((head, row), code + unused), (orders, code + unused[1:])):
             data = "".join(table).encode("cp1252")
-            status, out, err = self.whatif("change", self.journal, "-", data=data)
+            status, out, err = self.run_whatif("change", self.journal, "-", data=data)
             self.assertEqual((status, err.splitlines()), (0, [f"whatif: standard input: {note}" for note in said]))
-            self.assertEqual(self.whatif("change", "--quiet", self.journal, "-", data=data), (0, out, ""))
-        self.assertEqual(self.whatif("change", self.journal, "-", data=(head + row).encode("cp1252"))[1], amended)
+            self.assertEqual(self.run_whatif("change", "--quiet", self.journal, "-", data=data), (0, out, ""))
+        self.assertEqual(self.run_whatif("change", self.journal, "-", data=(head + row).encode("cp1252"))[1], amended)
         # before a refusal too
-        refused = self.whatif("change", self.journal, "-", data=(orders[0] + orders[1].replace("MORE", "UNIT")).encode())
+        refused = self.run_whatif("change", self.journal, "-", data=(orders[0] + orders[1].replace("MORE", "UNIT")).encode())
         self.assertEqual((refused[0], refused[2].splitlines()[0]), (3, f"whatif: standard input: {unused[1]}"))
-        self.assertEqual(self.whatif("change", "--quiet", self.journal, "-", data=b"close,,,,,,,,\n")[::2], (0, ""))
+        self.assertEqual(self.run_whatif("change", "--quiet", self.journal, "-", data=b"close,,,,,,,,\n")[::2], (0, ""))
 
     def test_a_cell_beyond_the_header_is_a_fault_of_each_command(self):
         head = b"what,participant,order,price_eur_mwh,periods,volume_mw\n"
         for row, count in ((b"amend,GEN,UNIT,60,1,2,30", 7), (b"cancel,GEN,UNIT,,,,30", 7), (b"close,,,,,,,30", 8), (b",,,,,,30", 7)):
             said = f"whatif: standard input: line 3: it has {count} cells, but the header has 6\n"
             table = head + b"amend,GEN,UNIT,60,1,2\n" + row + b"\n"
-            self.assertEqual(self.whatif("change", self.journal, "-", data=table), (3, b"", said))
+            self.assertEqual(self.run_whatif("change", self.journal, "-", data=table), (3, b"", said))
             table = b"".join(b"%s%s\n" % (b"S," if at else b"scenario,", line) for at, line in enumerate(table.splitlines()))
             said = f"whatif: standard input: line 3: it has {count + 1} cells, but the header has 7\n"
-            self.assertEqual(self.whatif("scenarios", self.journal, "-", data=table), (3, b"", said))
+            self.assertEqual(self.run_whatif("scenarios", self.journal, "-", data=table), (3, b"", said))
 
     def test_a_column_of_a_table_of_commands_that_appears_twice(self):
         for name, table, column in (
@@ -440,15 +440,15 @@ class Tools(unittest.TestCase):
             ("scenarios", b"scenario,what,participant,order,scenario\nS,cancel,GEN,UNIT,T\n", "5: the column 'scenario'"),
         ):
             said = f"whatif: standard input: line 1, column {column} appears twice\n"
-            self.assertEqual(self.whatif(name, self.journal, "-", data=table), (3, b"", said))
+            self.assertEqual(self.run_whatif(name, self.journal, "-", data=table), (3, b"", said))
 
     def test_a_table_needs_the_columns_of_its_commands(self):
         """An amend has no kind and no side, a cancel has neither limit nor volumes, and a close is left out."""
-        amended = self.whatif("change", self.journal, "-", data=b"amend,GEN,UNIT,,,6000,1:20,,\n")
+        amended = self.run_whatif("change", self.journal, "-", data=b"amend,GEN,UNIT,,,6000,1:20,,\n")
         table = b"what,participant,order,price_eur_mwh,periods,volume_mw\namend,GEN,UNIT,60,1,2\nclose,,,,,\n"
-        self.assertEqual(self.whatif("change", self.journal, "-", data=table), amended)
-        cancelled = self.whatif("change", self.journal, "-", data=b"cancel,GEN,UNIT,,,,,,\n")
-        self.assertEqual(self.whatif("change", self.journal, "-", data=b"what,participant,order\ncancel,GEN,UNIT\n"), cancelled)
+        self.assertEqual(self.run_whatif("change", self.journal, "-", data=table), amended)
+        cancelled = self.run_whatif("change", self.journal, "-", data=b"cancel,GEN,UNIT,,,,,,\n")
+        self.assertEqual(self.run_whatif("change", self.journal, "-", data=b"what,participant,order\ncancel,GEN,UNIT\n"), cancelled)
         self.assertEqual((amended[0], cancelled[0]), (0, 0))
 
     def test_a_cell_that_a_command_does_not_have(self):
@@ -468,7 +468,7 @@ class Tools(unittest.TestCase):
 
     def test_bad_words_and_bad_comparisons(self):
         for word in ("abc", text.eur_per_mwh(rules.HIGHEST_PRICE + 1), "1e3", "0.001"):
-            status, _, err = self.whatif("limit", self.journal, "--participant", "CITY", "--order", "TOWN", "--from", word)
+            status, _, err = self.run_whatif("limit", self.journal, "--participant", "CITY", "--order", "TOWN", "--from", word)
             self.assertEqual((status, word in err), (2, True))
         days = AUCTION, AUCTION_RESULTS, QUARTERS, QUARTERS_RESULTS
         said = "compare: the days have 24 and 96 periods, so their prices can't be compared\n"
@@ -488,7 +488,7 @@ class Tools(unittest.TestCase):
                 ran = subprocess.run([sys.executable, support.TOOLS / name, *words], stdout=full, stderr=subprocess.PIPE, text=True)
             said = f"{name}: standard output can't be written: No space left on device"
             self.assertEqual((ran.returncode, ran.stderr.splitlines()[-1]), (3, said))
-        status, out, err = self.whatif("limit", self.journal, "--participant", "GEN", "--all", "-o", "/nowhere/a.csv")
+        status, out, err = self.run_whatif("limit", self.journal, "--participant", "GEN", "--all", "-o", "/nowhere/a.csv")
         self.assertEqual((status, out, err), (3, b"", "whatif: /nowhere/a.csv can't be written: No such file or directory\n"))
 
     def test_no_program_and_one_that_fails(self):
@@ -500,10 +500,10 @@ class Tools(unittest.TestCase):
         self.assertRegex(err, "^whatif: the library /nowhere/libdam.so can't be used: .*\n$")
         limit = ["limit", self.journal, "--participant", "GEN"]
         for end, status in (("exit 1", 3), ("exit 3", 3), ("exit 4", 5), ("exit 5", 5), ("exit 70", 5), ("kill -9 $$", 5)):
-            self.program = self.script("fails", f"echo words >&2; {end}")
+            self.program = self.write_script("fails", f"echo words >&2; {end}")
             for words in [*limit, "--order", "UNIT"], [*limit, "--all"], ["change", self.journal, "-"]:
                 with self.subTest(end=end, words=words):
-                    self.assertEqual(self.whatif(*words, data=TABLE + b"cancel,GEN,UNIT,,,,,\n"), (status, b"", "whatif: words\n"))
+                    self.assertEqual(self.run_whatif(*words, data=TABLE + b"cancel,GEN,UNIT,,,,,\n"), (status, b"", "whatif: words\n"))
 
     def test_a_program_that_cant_be_started(self):
         """It is no fault of a file, whether memory or open files run out or it can't be run."""
@@ -516,7 +516,7 @@ class Tools(unittest.TestCase):
             with unittest.mock.patch.object(subprocess, "Popen", side_effect=OSError(number, os.strerror(number))):
                 for words, data, before in runs:
                     said = f"whatif: {before}{self.program} can't be run: {os.strerror(number)}\n"
-                    self.assertEqual(self.whatif(*words, data=data), (command.FAILED, b"", said))
+                    self.assertEqual(self.run_whatif(*words, data=data), (command.FAILED, b"", said))
 
     def test_a_program_that_prints_something_else(self):
         limit, more = ["limit", self.journal, "--participant", "GEN"], TABLE + b"cancel,GEN,UNIT,,,,,\n"
@@ -524,13 +524,13 @@ class Tools(unittest.TestCase):
             (":", "{} printed no results of this journal"),
             ("printf 'day,24\nwelfare,0\n'", "the program printed no results of this journal"),
         ):
-            self.program = self.script("other", line)
+            self.program = self.write_script("other", line)
             for words in [*limit, "--all"], [*limit, "--order", "UNIT"], ["change", self.journal, "-"]:
-                self.assertEqual(self.whatif(*words, data=more), (3, b"", f"whatif: {said.format(self.program)}\n"))
+                self.assertEqual(self.run_whatif(*words, data=more), (3, b"", f"whatif: {said.format(self.program)}\n"))
 
     def test_results_that_break_the_rules(self):
         """The first fault is named, with the clearing and its place, and nothing is printed."""
-        more, real = self.file("more.csv", b"submit,WIND,MILL,hour,sell,1000,1:20,,\n"), self.program
+        more, real = self.write_file("more.csv", b"submit,WIND,MILL,hour,sell,1000,1:20,,\n"), self.program
         welfare = "s/^welfare,/welfare,1/", "results line 2: the welfare is 1"
         unit, town = (["--participant", who, "--order", name] for who, name in (("GEN", "UNIT"), ("CITY", "TOWN")))
         cases = [
@@ -552,28 +552,28 @@ class Tools(unittest.TestCase):
         for words, mark, name, edit, place in cases:
             self.program = support.write_doctored_program(self.folder, real, mark, edit)
             with self.subTest(words=words, mark=mark, edit=edit):
-                status, out, err = self.whatif(*words)
+                status, out, err = self.run_whatif(*words)
                 self.assertEqual((status, out, len(err.splitlines())), (command.DIFFERS, b"", 1), err)
                 self.assertTrue(err.startswith(f"whatif: the program's results of {name} break the rules ({place}"), err)
 
     def test_results_between_which_the_limit_is_sought(self):
         """They aren't checked, since they don't matter: a wrong one ends the search at it, or has no effect."""
         words = "limit", self.journal, "--participant", "GEN", "--order", "UNIT"
-        right, real = self.whatif(*words), self.program
+        right, real = self.run_whatif(*words), self.program
         middle = limits.limit_at("sell", (limits.place_of("sell", 4000) + 1 + limits.COUNT) // 2)
         for edit, status, said in (
             ("s/,rejected,/,accepted,/", command.DIFFERS, "results line 28: block GEN,UNIT: it is accepted and loses "),
             ("s/^welfare,/welfare,1/", command.DONE, ""),
         ):
             self.program = support.write_doctored_program(self.folder, real, f"sell,{middle},", edit)
-            found = self.whatif(*words)
+            found = self.run_whatif(*words)
             self.assertEqual((found[0], said in found[2], found[1] == right[1]), (status, True, not said), found)
 
     def test_a_program_that_hangs(self):
         """It's ended, and named; also others of the team, which began later."""
         late = f"mkdir {self.folder}/first 2> {os.devnull} || sleep 1"
-        hang = self.script("hang", f"{late}; echo $$ >> {self.folder}/pids; exec sleep 600")
-        table, limit = self.file("s.csv", b"scenario,what,participant,order\nA,cancel,GEN,UNIT\n"), ["limit", "--participant", "GEN"]
+        hang = self.write_script("hang", f"{late}; echo $$ >> {self.folder}/pids; exec sleep 600")
+        table, limit = self.write_file("s.csv", b"scenario,what,participant,order\nA,cancel,GEN,UNIT\n"), ["limit", "--participant", "GEN"]
         self.assertEqual(by_program.RUN_SECONDS, 3_600)
         for words, begin in (
             (["scenarios", "--jobs", "2", self.journal, table], "the day as it was: "),
@@ -589,7 +589,7 @@ class Tools(unittest.TestCase):
 
     def test_an_interrupt_ends_the_program_too(self):
         support.heed_interrupts(self)
-        hang = self.script("hang", f"echo $$ >> {self.folder}/pids; exec sleep 600")
+        hang = self.write_script("hang", f"echo $$ >> {self.folder}/pids; exec sleep 600")
         words = [sys.executable, support.TOOLS / "whatif", "limit", "--program", hang, self.journal, "--participant", "GEN", "--all"]
         running = subprocess.Popen(words, stderr=subprocess.PIPE, stdout=subprocess.PIPE, text=True, start_new_session=True)
         try:
@@ -607,9 +607,9 @@ class Tools(unittest.TestCase):
 
     def test_the_first_example_of_the_journals(self):
         """Refused commands and orders without trade are in the way of nothing."""
-        path = self.file("first.csv", FIRST)
+        path = self.write_file("first.csv", FIRST)
         who = next(command.who for command in journal.parse_journal(FIRST).commands if hasattr(command, "who"))
-        status, out, err = self.whatif("change", path, "-", "--participant", who, data=b"day,24,,,,,,,\n")
+        status, out, err = self.run_whatif("change", path, "-", "--participant", who, data=b"day,24,,,,,,,\n")
         self.assertEqual((status, len(self.rows(out))), (0, 2), err)
 
 
@@ -625,7 +625,7 @@ class Examples(unittest.TestCase):
         page = (docs / "WHATIF.md").read_text() + (docs / "PYTHON.md").read_text().partition("\n## Many days")[2]
         self.blocks = re.findall(r"^```(\w+)\n(.*?)^```$", page, re.MULTILINE | re.DOTALL)
 
-    def ran(self, words):
+    def run_words(self, words):
         path = f"{Path(sys.executable).parent}:{os.environ['PATH']}"
         environment = {**os.environ, "PATH": path, "PYTHONPATH": str(support.TOOLS), "PYTHONDONTWRITEBYTECODE": "1"}
         return subprocess.run(words, cwd=self.folder, env=environment, capture_output=True, text=True)
@@ -638,14 +638,14 @@ class Examples(unittest.TestCase):
         for kind, block in self.blocks:
             if kind == "sh":
                 with self.subTest(block):
-                    ran = self.ran(["sh", "-ec", block.replace("--sample 1000", "--sample 50")])
+                    ran = self.run_words(["sh", "-ec", block.replace("--sample 1000", "--sample 50")])
                     self.assertEqual(ran.returncode, 0, ran.stderr)
                     if block in quoted:
                         self.assertEqual(ran.stdout, quoted[block])
 
     def test_the_python_program(self):
         program = next(block for kind, block in self.blocks if kind == "python")
-        ran = self.ran([sys.executable, "-c", program])
+        ran = self.run_words([sys.executable, "-c", program])
         self.assertEqual((ran.returncode, ran.stderr), (0, ""))
         self.assertIn("auction-day.csv 3021520000 in the units of the program\n", ran.stdout)
         self.assertEqual(len(ran.stdout.splitlines()), len(list((support.TOP / "examples").glob("*.csv"))))

@@ -51,12 +51,12 @@ READ = "of 2 sheets, 'orders' was read"
 class Read(unittest.TestCase):
     """Reads workbooks of two sheets."""
 
-    def fault(self, data):
+    def run_for_fault(self, data):
         status, out, err = run_tool("table", "--journal", "-", data=data)
         self.assertEqual((status, out), (command.NO_INPUT, b""), err)
         return err.removesuffix(f"table: standard input: {READ}\n").removeprefix("table: standard input: ").removesuffix("\n")
 
-    def orders(self, data):
+    def run_for_orders(self, data):
         status, out, err = run_tool("table", "--journal", "--open", "-", data=data)
         self.assertEqual((status, err), (0, f"table: standard input: {READ}\n"))
         return [(fields[2], fields[8]) for fields in csv.reader(out.decode().splitlines()[1:])]
@@ -68,7 +68,7 @@ class Faults(Read):
         rows = [order(2, "K1", ("I2", "G1")), order(3, "K2", ("I3", "G1")), order(4, "K3", ("I4", "G1"))]
         for size in ("A1:I3", "A1:G5", "A1", "A1:XFD1048576", "no size"):
             heads = made.OPEN.replace(b"<sheetData>", f'<dimension ref="{size}"/><sheetData>'.encode())
-            self.assertEqual(self.orders(made.workbook_of_sheet(heads, *rows, made.CLOSE)), [(name, "G1") for name in ("K1", "K2", "K3")], size)
+            self.assertEqual(self.run_for_orders(made.workbook_of_sheet(heads, *rows, made.CLOSE)), [(name, "G1") for name in ("K1", "K2", "K3")], size)
 
     def test_each_fault_has_its_place(self):
         sheet = "sheet 'orders', "
@@ -87,9 +87,9 @@ class Faults(Read):
             ([row(at, (f"ALL{at}", "1")) for at in range(2, 400)], f"cell ALL301: {LIMITED}"),
         ):
             if said is None:
-                self.assertEqual(self.fault(book(*pieces)), "sheet 'orders': a row has the number '5000000': they go from 1 to 1048576")
+                self.assertEqual(self.run_for_fault(book(*pieces)), "sheet 'orders': a row has the number '5000000': they go from 1 to 1048576")
             else:
-                self.assertEqual(self.fault(book(*pieces)), sheet + said)
+                self.assertEqual(self.run_for_fault(book(*pieces)), sheet + said)
 
     def test_merged_cells_of_the_table(self):
         """Of the merged cells of a column only the first has the group: the other orders would be in none."""
@@ -97,19 +97,19 @@ class Faults(Read):
         for ref in ("I2:I3", "I9:I2", "I9:A2", "A9:I2", "I2:A1", "A1:I1", "$A$3:$B$3"):
             close = made.CLOSE.replace(b"</worksheet>", f'<mergeCells><mergeCell ref="{ref}"/></mergeCells></worksheet>'.encode())
             said = f"sheet 'orders': the cells {ref} are merged, but each row of a table has its own"
-            self.assertEqual(self.fault(made.workbook_of_sheet(made.OPEN, *rows, close)), said)
+            self.assertEqual(self.run_for_fault(made.workbook_of_sheet(made.OPEN, *rows, close)), said)
         for ref in (b"K1:L9", b"L9:K1", b"A9:C4", b"K9:L1"):
             others = close.replace(b"$A$3:$B$3", ref)
-            self.assertEqual(self.orders(made.workbook_of_sheet(made.OPEN, *rows, others)), [("K1", "G1"), ("K2", "")])
+            self.assertEqual(self.run_for_orders(made.workbook_of_sheet(made.OPEN, *rows, others)), [("K1", "G1"), ("K2", "")])
 
     def test_a_table_has_no_more_rows_than_a_journal(self):
         said = f"a table has at most {order_table.MOST_ROWS:,} rows after its first"
         rows = [order(at, "K1") for at in range(2, order_table.MOST_ROWS + 3)]
-        self.assertEqual(self.fault(book(*rows)), f"sheet 'orders', row {order_table.MOST_ROWS + 2}: {said}")
+        self.assertEqual(self.run_for_fault(book(*rows)), f"sheet 'orders', row {order_table.MOST_ROWS + 2}: {said}")
         table = ",".join(order_table.ORDER) + "\n" + "A,K1,block,buy,1,8,5,,\n" * (order_table.MOST_ROWS + 1)
-        self.assertEqual(self.fault(table.encode()), f"line {order_table.MOST_ROWS + 2}: {said}")
-        self.assertIn("(NameTaken)", self.fault(book(*rows[:-1])))
-        self.assertIn("(NameTaken)", self.fault(table.encode()[:-23]))
+        self.assertEqual(self.run_for_fault(table.encode()), f"line {order_table.MOST_ROWS + 2}: {said}")
+        self.assertIn("(NameTaken)", self.run_for_fault(book(*rows[:-1])))
+        self.assertIn("(NameTaken)", self.run_for_fault(table.encode()[:-23]))
 
     def test_a_text_takes_little_memory(self):
         """Empty rows aren't kept, rows after those that a table may have aren't read, and no row is too long."""
@@ -204,25 +204,25 @@ class Faults(Read):
                 left_out = f"<extLst>{''.join(map(form.format, names))}</extLst></row>".encode()
                 data = book(order(2, "K1").replace(tail, left_out))
                 with self.subTest(form, said=said):
-                    self.assertEqual(self.fault(data) if said else self.orders(data), said or [("K1", "")])
+                    self.assertEqual(self.run_for_fault(data) if said else self.run_for_orders(data), said or [("K1", "")])
 
     def test_an_archive_behind_another_one(self):
         """The last of the two would be read, and the rows of the first one lost."""
         first, last = book(order(2, "K1"), order(3, "K2")), book(order(2, "K1"))
         said = "line 1: the Excel workbook can't be read: other bytes stand before its archive, such as another workbook"
         for data in (first + last, first[:-2] + len(last).to_bytes(2, "little") + last, b"PK\3\4" + last):
-            self.assertEqual(self.fault(data), said)
-        self.assertEqual(self.orders(last), [("K1", "")])
+            self.assertEqual(self.run_for_fault(data), said)
+        self.assertEqual(self.run_for_orders(last), [("K1", "")])
 
     def test_bytes_behind_an_archive(self):
         """Such as another workbook that was cut: of it no row would be read."""
         first, last = book(order(2, "K1")), book(order(2, "K1"), order(3, "K2"))
         said = "line 1: the Excel workbook can't be read: other bytes stand after its archive, such as another workbook"
         for data in (first + last[:-22], first + b"x", first + b"\n"):
-            self.assertEqual(self.fault(data), said)
+            self.assertEqual(self.run_for_fault(data), said)
         with_comment = first[:-2] + (4).to_bytes(2, "little") + b"note"
-        self.assertEqual(self.orders(with_comment), [("K1", "")])
-        self.assertEqual(self.fault(with_comment + b"x"), said)
+        self.assertEqual(self.run_for_orders(with_comment), [("K1", "")])
+        self.assertEqual(self.run_for_fault(with_comment + b"x"), said)
 
     def test_a_part_twice_with_a_slash(self):
         """A slash before the name of a part makes no other one of it."""
@@ -230,18 +230,18 @@ class Faults(Read):
         with zipfile.ZipFile(data, "a") as archive:
             name = next(name for name in archive.namelist() if "worksheets/" in name)
             archive.writestr(f"/{name}", archive.read(name))
-        self.assertEqual(self.fault(data.getvalue()), f"line 1: the Excel workbook can't be read: two parts are named '/{name}'")
+        self.assertEqual(self.run_for_fault(data.getvalue()), f"line 1: the Excel workbook can't be read: two parts are named '/{name}'")
 
     def test_other_archives(self):
         said = "line 1: the Excel workbook can't be read: it isn't an Excel workbook (.xlsx), but another archive"
-        self.assertEqual(self.fault(made.archive_bytes({"xl/other": b""})), said)
-        self.assertEqual(self.fault(made.archive_bytes({"other": b""})), "this is an archive (.zip): unzip FILE unpacks it")
+        self.assertEqual(self.run_for_fault(made.archive_bytes({"xl/other": b""})), said)
+        self.assertEqual(self.run_for_fault(made.archive_bytes({"other": b""})), "this is an archive (.zip): unzip FILE unpacks it")
 
     def test_another_sheet_that_cant_be_read(self):
         """The sheet with the columns of orders is read, whatever the others are."""
         for other in (b"<worksheet", made.OPEN + b"<row r='0'/>" + made.CLOSE, made.OPEN + made.CLOSE + b"x"):
             data = made.workbook_of_sheet(made.OPEN, order(2, "K1"), made.CLOSE, **{"xl/worksheets/other.xml": other})
-            self.assertEqual(self.orders(data), [("K1", "")])
+            self.assertEqual(self.run_for_orders(data), [("K1", "")])
 
 
 class Places(Read):
@@ -283,7 +283,7 @@ class Places(Read):
         ):  # fmt: skip
             if said is None:
                 said = "sheet 'orders', after row 2: an element 'extLst' stands in 'sheetData'"
-            found = self.fault(self.changed(old, new))
+            found = self.run_for_fault(self.changed(old, new))
             self.assertEqual(found, said if said.startswith("sheet") else self.SHEET + said, (old, new))
 
     def test_texts_in_a_wrong_place(self):
@@ -302,9 +302,9 @@ class Places(Read):
             (end, b"<c r='I2' t='inlineStr'>" + spoken + b"</c>" + end, "cell I2: its only text is how it is pronounced (rPh)"),
             (end, b"<c r='I2' t='inlineStr'>" + both + b"</c>" + end, "cell I2: it has two texts: a whole one, and one in runs"),
         ):  # fmt: skip
-            self.assertEqual(self.fault(self.changed(old, new)), self.SHEET + said, (old, new))
+            self.assertEqual(self.run_for_fault(self.changed(old, new)), self.SHEET + said, (old, new))
         said = "sheet 'orders': the text 'x' stands in 'worksheet'"
-        self.assertEqual(self.fault(self.changed(b"</sheetData>", b"</sheetData>x")), said)
+        self.assertEqual(self.run_for_fault(self.changed(b"</sheetData>", b"</sheetData>x")), said)
 
     def test_shared_strings_in_a_wrong_place(self):
         cant, end = "line 1: the Excel workbook can't be read: ", b"</row>" + self.ROWS[1]
@@ -318,7 +318,7 @@ class Places(Read):
         ):
             strings = f'<sst xmlns="{made.MAIN[0]}">{item}</sst>'.encode()
             data = self.changed(end, b"<c r='I2' t='s'><v>0</v></c>" + end, **{made.SHARED: strings})
-            self.assertEqual(self.fault(data), cant + said, item)
+            self.assertEqual(self.run_for_fault(data), cant + said, item)
 
     def test_parts_of_the_workbook_in_a_wrong_place(self):
         cant = "line 1: the Excel workbook can't be read: "
@@ -333,10 +333,10 @@ class Places(Read):
             (f"{sheets}<formats/>", "an element 'formats' stands in 'workbook'"),
         ):
             found = {"xl/workbook.xml": listed.format(made.MAIN[0], made.OFFICE[0], content).encode()}
-            self.assertEqual(self.fault(made.workbook_of_sheet(made.OPEN, made.CLOSE, **found)), cant + said, content)
+            self.assertEqual(self.run_for_fault(made.workbook_of_sheet(made.OPEN, made.CLOSE, **found)), cant + said, content)
         for styles in ("<dxfs><cellXfs/></dxfs>", "<cellXfs/><cellXfs/>", "<cellXfs/>x", "<cellXfs><b><xf/></b></cellXfs>"):
             found = {"xl/styles.xml": f'<styleSheet xmlns="{made.MAIN[0]}">{styles}</styleSheet>'.encode()}
-            self.assertIn(cant, self.fault(made.workbook_of_sheet(made.OPEN, made.CLOSE, **found)), styles)
+            self.assertIn(cant, self.run_for_fault(made.workbook_of_sheet(made.OPEN, made.CLOSE, **found)), styles)
 
     def test_right_places(self):
         """Extensions at the ends, further elements of Excel, and those of other namespaces, as Excel writes them."""
@@ -349,7 +349,7 @@ class Places(Read):
         row = self.ROWS[0].replace(b"</row>", cells.encode())
         data = made.workbook_of_sheet(made.OPEN.replace(b"<sheetData>", b"<sheetPr/>\n<cols><col/></cols><sheetData>"), row,
                              made.CLOSE.replace(b"</sheetData>", ends.encode()))  # fmt: skip
-        self.assertEqual(self.orders(data), [("K1", "G1")])
+        self.assertEqual(self.run_for_orders(data), [("K1", "G1")])
 
 
 class Unlike(unittest.TestCase):
