@@ -2,7 +2,7 @@
 # day.sh FOLDER: clears day.csv, of day.desk if it is there; with status 0, results.txt may be published
 trap 'trap "" HUP INT TERM; exec 2>&-; kill $!; sleep .2; kill $!; wait; exit 10' HUP INT TERM
 run() { "$@" < day.csv & wait $!; }  # a step that a signal ends
-[ "$1" ] && CDPATH= cd -- "$1/" && [ ! -p lock ] && command exec 9>> lock || exit 10
+[ "$1" ] && CDPATH= cd -- "$1/" && ! [ -p lock -o -p day.csv -o -p day.desk ] && command exec 9>> lock || exit 10
 flock -n 9 || { [ $? = 1 ] || exit 10; echo "$1: another run has the lock" >&2; exit 75; }
 (trap "" HUP INT TERM; rm -rf new results.txt replies.txt) && mkdir new || exit 10
 if [ -e day.desk ] || [ -L day.desk ]; then

@@ -260,6 +260,14 @@ class Day(unittest.TestCase):
         lock.symlink_to(other)
         self.assertEqual((self.run_once()[0], other.read_text()), (0, "kept"))
 
+    def test_a_journal_that_is_a_pipe(self):
+        """It would wait for a writer, with the lock."""
+        for name in ("day.csv", "day.desk"):
+            Path(self.day, "day.csv").unlink(missing_ok=True)
+            os.mkfifo(Path(self.day, name))
+            self.assertEqual((self.run_once()[0], self.names()), (10, [name]))
+            Path(self.day, name).unlink()
+
     def test_without_flock(self):
         """That isn't a lock which another run has."""
         for status, wanted in ((127, 10), (1, 75)):
