@@ -210,6 +210,18 @@ class Closing(Office):
         self.assertEqual((rights, given.is_healthy), ([False, True, True], True))
         self.assertEqual([one.get("file") for one in map(json.loads, log.getvalue().splitlines()) if one["event"] == "not made"], ["head.json"] * 2)
 
+    async def test_each_file_has_its_own_pauses(self):
+        """The failures of one file don't make the pauses of the next ones longer."""
+        pauses, made = [], mock.AsyncMock(side_effect=3 * [OSError(errno.ENOSPC, "full"), OSError(errno.ENOSPC, "full"), None])
+
+        async def note_pause(seconds):
+            pauses.append(seconds)
+
+        steps = mock.patch.multiple(publishing, write_head=made, write_results=made, write_statement=made)
+        with steps, mock.patch.object(publishing.asyncio, "sleep", note_pause):
+            await self.publish(mock.Mock())
+        self.assertEqual(pauses, 3 * [publishing.FIRST_PAUSE, 2 * publishing.FIRST_PAUSE])
+
     async def test_the_states_of_a_day(self):
         """The office and the command status, which has the files alone, have the same words."""
         self.make()

@@ -16,8 +16,8 @@ FIRST_PAUSE, LONGEST_PAUSE = 1.0, 60.0  # seconds before a step that failed is t
 
 async def write_missing_files(writer):
     """Makes the files of a closed day, each once; a step that fails is tried again."""
-    pause = FIRST_PAUSE
     for step, name in ((write_head, folder.HEAD), (write_results, folder.RESULTS), (write_statement, folder.STATEMENT)):
+        pause = FIRST_PAUSE
         while True:
             began = time.monotonic()
             try:
