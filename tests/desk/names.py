@@ -48,6 +48,12 @@ def run(counts, desk, dam, whole):
         took = f"other names {about} take {taken / 1e6:.1f} million instructions"
         print(took, flush=True)
         counts.check(f"{took}, more than {costs.MOST_TIMES} times {millions} million", taken < costs.MOST_TIMES * millions * 1e6)
+    some = costs.submits_of(costs.run_for_colliding_names(desk.room, costs.SOME))
+    for periods in set(costs.rules.DAYS) - {24}:
+        words, data = [desk.make_folder() / "day.desk"], costs.journal_text(some, True, periods)
+        taken = costs.run_for_instructions(program, words, data, costs.DRAWN)
+        took = f"{costs.SOME:,} names that collide, on {periods} periods, take {taken / usual[0]:.1f} times the instructions of {costs.ORDERS:,} others"
+        counts.check(took, taken < usual[0])
     full = costs.run_for_instructions(program, [desk.make_folder() / "day.desk"], costs.journal_text(costs.full_journal()), costs.DRAWN)
     took = f"a full journal takes {full / 1e6:.1f} million instructions"
     print(took, flush=True)

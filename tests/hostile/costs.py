@@ -17,6 +17,7 @@ import errno
 import itertools
 import re
 import shutil
+import struct
 import subprocess
 from typing import NamedTuple
 
@@ -27,6 +28,9 @@ from lib.base import rules
 ORDERS = rules.MOST_HOURLY
 TIMES = 3  # names that collide take less than 3 times the instructions of others; with the fixed seed 50 times or more
 CANCEL_TIMES = 2  # cancels take less than twice the instructions of others
+SOME = 1_000  # of the names, where there are many runs: with the fixed seed, those that collide take 20 times the instructions
+RANDOM = bytes(range(1, 17))  # random bytes, each another
+WORKERS = {"clear": {2: 23, 3: 25, 4: 92, 8: 100}, "day": {2: 100, 3: 92, 4: 25, 8: 23}}  # and the length of the day
 AGAIN = 2_990  # the orders that are cancelled, each with a submit after it, so that all fit a journal of 10,000 records
 MOST_TIMES = 3  # a run on a full book takes less than three times the instructions that were counted
 SEARCH_TIMES = 1.5  # and as many for a search by relaxed welfares, most of whose time goes to finding places among many steps
@@ -70,8 +74,8 @@ def ordinary_names():
     return [f"N-{number:010}" for number in range(ORDERS)]
 
 
-def run_for_colliding_names(room):
-    return subprocess.run([room / "collide", str(ORDERS)], stdout=subprocess.PIPE, text=True, check=True).stdout.split()
+def run_for_colliding_names(room, count=ORDERS, keys=()):
+    return subprocess.run([room / "collide", *map(str, (count, *keys))], stdout=subprocess.PIPE, text=True, check=True).stdout.split()
 
 
 def check_names(runs):
@@ -94,6 +98,40 @@ def check_names(runs):
         runs.check(f"{about}: names that collide take {drawn:.1f} times the instructions of others", drawn < TIMES)
         runs.check(f"{about}, quarter-hours: names that collide take {long:.1f} times the instructions of others", long < TIMES)
         runs.check(f"{about}: with the fixed seed, names that collide take only {fixed:.1f} times those of others", fixed > TIMES)
+    check_names_by_plans(runs)
+    check_seed_bytes(runs)
+
+
+def check_names_by_plans(runs):
+    """Names that collide, with several workers and on other days, compared with others on the longest day."""
+    others, colliding = ordinary_names()[:SOME], run_for_colliding_names(runs.program.room, SOME)
+    for word in ("clear", "day"):
+        asked = [([word], 100, others)]
+        asked += [([word, "--workers", str(workers)], periods, colliding) for workers, periods in WORKERS[word].items()]
+        texts = [(words, journal_text(submits_of(names), word != "day", periods)) for words, periods, names in asked]
+        usual, *found = runs.pool.map(lambda it: run_for_instructions(runs.program, *it, DRAWN), texts)
+        for (words, periods, _), count in zip(asked[1:], found):
+            about = f"{' '.join(words)}, {periods} periods: names that collide take {count / usual:.1f} times the instructions of others"
+            runs.check(about, count < TIMES * usual)
+
+
+def check_seed_bytes(runs):
+    """The seed is of all random bytes: names that collide under the seed of these take few instructions if any byte is another."""
+    refusals = HostileProgram(REFUSALS, runs.program.room)
+    records = submits_of(run_for_colliding_names(runs.program.room, SOME, struct.unpack("<2Q", RANDOM)))
+    engines = [(runs.program, [word]) for word in ("replay", "clear", "day")] + [(refusals, words) for words in GATES.values()]
+    others = [RANDOM[:place] + b"\0" + RANDOM[place + 1 :] for place in range(len(RANDOM))]
+    asked = [(*engine, RANDOM) for engine in engines] + [(*engines[0], other) for other in others]
+
+    def run(program, words, random):
+        given = RefusedCalls("given", *struct.unpack("<2Q", random))
+        return run_for_instructions(program, words, journal_text(records, words not in OPEN), given)
+
+    counts = list(runs.pool.map(lambda it: run(*it), asked))
+    slow, quick = counts[: len(engines)], counts[len(engines) :]
+    took = f"names that collide under the seed of given random bytes take {min(slow) / max(quick):.1f} times as long as if a byte is another"
+    print(took, flush=True)
+    runs.check(f"{took}: {slow}, {quick}", min(slow) > TIMES * max(quick))
 
 
 def numbered_submits(numbers):

@@ -9,7 +9,8 @@
 
    For memory, MOST is no limit: if it isn't 0, each reading of the clock is MOST milliseconds later than the one before.
 
-   Four kinds refuse nothing. held counts the starts of threads during which the program holds a block of at least MOST bytes, and beside
+   Five kinds refuse nothing. given counts the calls for random bytes, and gives in each those of FIRST, the lowest first, then those of
+   LAST, and then zeros. held counts the starts of threads during which the program holds a block of at least MOST bytes, and beside
    the calls for memory that got a block then. clock counts the readings of the clock, and has each of them MOST milliseconds later than
    the one before. peak counts no calls: the number is the most bytes of blocks that the program held at once, and a block that moves
    counts twice while it does. */
@@ -42,9 +43,9 @@ typedef int join_thread(pthread_t, void **);
 typedef int give_entropy(void *, size_t);
 typedef ssize_t give_random(void *, size_t, unsigned);
 
-enum kind { NONE, MEMORY, THREAD, RANDOM, READ, WRITE, REPORT, HELD, BESIDE, CLOCK, PEAK };
+enum kind { NONE, MEMORY, THREAD, RANDOM, READ, WRITE, REPORT, GIVEN, HELD, BESIDE, CLOCK, PEAK };
 
-static const char *const names[] = {"none", "memory", "thread", "random", "read", "write", "report", "held", "beside", "clock", "peak"};
+static const char *const names[] = {"none", "memory", "thread", "random", "read", "write", "report", "given", "held", "beside", "clock", "peak"};
 
 static enum kind chosen = NONE;
 static unsigned long first, last, most;
@@ -200,12 +201,22 @@ static bool refuses_random(void) {
     return true;
 }
 
+/* Gives the chosen bytes, or says that it doesn't. */
+static bool gives(unsigned char *bytes, size_t count) {
+    if (chosen != GIVEN)
+        return false;
+    refuses(GIVEN);
+    for (size_t at = 0; at < count; at++)
+        bytes[at] = at < 16 ? (unsigned char)((at < 8 ? first : last) >> at % 8 * 8) : 0;
+    return true;
+}
+
 int getentropy(void *bytes, size_t count) {
-    return refuses_random() ? -1 : entropy(bytes, count);
+    return refuses_random() ? -1 : gives(bytes, count) ? 0 : entropy(bytes, count);
 }
 
 ssize_t getrandom(void *bytes, size_t count, unsigned how) {
-    return refuses_random() ? -1 : randomly(bytes, count, how);
+    return refuses_random() ? -1 : gives(bytes, count) ? (ssize_t)count : randomly(bytes, count, how);
 }
 
 /* A read or write by its number, of one of the three standard streams. */
