@@ -201,11 +201,16 @@ def check_stacks(runs):
 
 def check_copies(runs):
     """A day asks for memory as often for each command, however many orders the book holds: no command copies the book."""
-    records = {"submits": b"submit,A,N-%d,hour,buy,0,1:1,,\n", "amends": b"amend,A,N-%d,,,1,1:1,,\n", "cancels": b"cancel,A,N-%d,,,,,,\n"}
-    for last, about in enumerate(records):
-        kinds = list(records.values())[: last + 1]
-        most = min(rules.MOST_HOURLY, rules.MOST_DAY_COMMANDS // len(kinds))
-        few, many = (b"".join([DAY, *(kind % at for kind in kinds for at in range(count))]) for count in (most // 2, most))
+    records = ["submit,%s,N-%d,hour,buy,0,1:1,,\n", "amend,%s,N-%d,,,1,1:1,,\n", "cancel,%s,N-%d,,,,,,\n"]
+    tried = [(24, "A", rules.MOST_HOURLY), *((periods, codes, 600) for periods in rules.DAYS for codes in ("A", "AB", "ABCDEFGH"))]
+    for (periods, codes, orders), last in itertools.product(tried, range(len(records))):
+        kinds = records[: last + 1]
+        most = min(orders, rules.MOST_DAY_COMMANDS // len(kinds))
+        few, many = (
+            "".join([f"day,{periods},,,,,,,\n", *(kind % (codes[at % len(codes)], at) for kind in kinds for at in range(count))]).encode()
+            for count in (most // 2, most)
+        )
         asked, twice = (runs.program.run(["day"], data, RefusedCalls("memory"))[1] for data in (few, many))
-        wrong = f"day with {about} asks for memory {asked} times, and {twice} times with twice the orders"
+        about = f"{most} orders of {len(codes)} participants on {periods} periods, of {len(kinds)} kinds of commands"
+        wrong = f"a day with half of {about} asks for memory {asked} times, and {twice} times with all"
         runs.check(wrong, most // 2 < asked < twice < 3 * asked)
