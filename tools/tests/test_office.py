@@ -2,6 +2,7 @@
 
 import asyncio
 import errno
+import gc
 import io
 import json
 import random
@@ -323,6 +324,19 @@ class Opening(unittest.IsolatedAsyncioTestCase):
                 opening.cancel()
         self.assertEqual(ended, {opening})
         self.assertIsInstance(opening.exception(), asyncio.TimeoutError)
+
+    async def test_a_desk_that_is_killed_while_it_is_written_to(self):
+        """It has ended, and asyncio has no fault to report."""
+        pipes = dict.fromkeys(("stdin", "stdout", "stderr"), asyncio.subprocess.PIPE)
+        with self.assertNoLogs("asyncio", "ERROR"):
+            desk = Desk(await asyncio.create_subprocess_exec("sleep", "3600", **pipes), 0)
+            entered = desk.enter(["x" * 2**20])
+            asyncio.get_running_loop().call_later(0.1, desk.process.kill)
+            with self.assertRaisesRegex(Ended, "^the desk was ended by signal 9: no fault line$"):
+                await entered.__anext__()
+            await desk.close()
+            del desk, entered
+            gc.collect()
 
 
 @unittest.skipUnless(aiohttp, "aiohttp is missing (Debian's python3-aiohttp)")

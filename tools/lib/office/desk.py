@@ -153,11 +153,14 @@ class Desk:
                 yield self.take_reply(data[:-1].decode("ascii"))
 
     async def close(self):
-        """Ends the desk: it enters what it was given, and ends at the end of its input."""
+        """Ends the desk: it enters what it was given, and ends at the end of its input. Of one that was killed it doesn't read the rest, which
+        asyncio reports unless something waits for it."""
+        self.process.stdin.close()
         if self.process.returncode is None:
-            self.process.stdin.close()
             try:
                 await asyncio.wait_for(self.process.communicate(), END_SECONDS)
             except (asyncio.TimeoutError, ValueError):
                 self.process.kill()
                 await self.process.wait()
+        with contextlib.suppress(OSError):
+            await self.process.stdin.wait_closed()
