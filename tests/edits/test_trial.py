@@ -55,11 +55,11 @@ class Trials(unittest.TestCase):
         os.mkdir(f"{self.crate}/wrong-bodies")
         write_text(f"{self.crate}/src/lib.rt", LIB)
 
-    def edit(self, name, **bodies):
+    def write_edit(self, name, **bodies):
         pairs = [f"old: fn {it}() -> u64 {{\nnew: fn {it}() -> u64 {{ {body}();\n" for it, body in bodies.items()]
         write_text(f"{self.crate}/wrong-bodies/{name}.edit", "file: src/lib.rt\n" + "".join(pairs))
 
-    def tried(self, text=LIB, **how):
+    def try_all_edits(self, text=LIB, **how):
         with contextlib.redirect_stdout(io.StringIO()), StandInTrial(self.copy, "toy") as self.trial:
             results = list(self.trial.try_all(read_edits(self.crate, ("wrong-bodies",)), **how))
         self.assertEqual(read_text(f"{self.crate}/src/lib.rt"), text)
@@ -68,66 +68,66 @@ class Trials(unittest.TestCase):
 
     def test_one_check_refuses_many(self):
         for it in NUMBERS:
-            self.edit(it, **{it: "wrong"})
-        self.assertEqual(set(self.tried().values()), {(True, "refused")})
+            self.write_edit(it, **{it: "wrong"})
+        self.assertEqual(set(self.try_all_edits().values()), {(True, "refused")})
         self.assertEqual(self.trial.tried, ["as it stands", "4 wrong bodies at once"])
 
     def test_each_alone(self):
         for it in NUMBERS:
-            self.edit(it, **{it: "wrong"})
-        self.assertEqual(set(self.tried(alone=True).values()), {(True, "refused")})
+            self.write_edit(it, **{it: "wrong"})
+        self.assertEqual(set(self.try_all_edits(alone=True).values()), {(True, "refused")})
         self.assertEqual(self.trial.tried, ["as it stands", "four", "one", "three", "two"])
 
     def test_what_the_check_takes_is_tried_alone_and_told(self):
-        self.edit("taken", one="right")
-        self.edit("refused", two="wrong")
-        self.assertEqual(self.tried(), {"refused": (True, "refused"), "taken": (False, "NOT REFUSED")})
+        self.write_edit("taken", one="right")
+        self.write_edit("refused", two="wrong")
+        self.assertEqual(self.try_all_edits(), {"refused": (True, "refused"), "taken": (False, "NOT REFUSED")})
         self.assertEqual(self.trial.tried, ["as it stands", "2 wrong bodies at once", "taken"])
 
     def test_a_name_that_went_is_a_bad_edit(self):
-        self.edit("gone", one="gone")
-        self.edit("refused", two="wrong")
-        self.assertEqual(self.tried(), {"refused": (True, "refused"), "gone": (False, "BAD EDIT")})
+        self.write_edit("gone", one="gone")
+        self.write_edit("refused", two="wrong")
+        self.assertEqual(self.try_all_edits(), {"refused": (True, "refused"), "gone": (False, "BAD EDIT")})
 
     def test_an_edit_that_does_not_compile_is_taken_out_of_the_batch(self):
-        self.edit("a", one="wrong")
-        self.edit("ill", two="ill")
-        self.edit("z", three="wrong")
-        self.assertEqual(self.tried(), {"a": (True, "refused"), "z": (True, "refused"), "ill": (False, "BAD EDIT")})
+        self.write_edit("a", one="wrong")
+        self.write_edit("ill", two="ill")
+        self.write_edit("z", three="wrong")
+        self.assertEqual(self.try_all_edits(), {"a": (True, "refused"), "z": (True, "refused"), "ill": (False, "BAD EDIT")})
         self.assertEqual(self.trial.tried[1:], ["3 wrong bodies at once", "2 wrong bodies at once", "ill"])
 
     def test_two_edits_of_a_function_go_into_two_batches(self):
-        self.edit("a", one="wrong")
-        self.edit("b", one="right")
-        self.assertEqual(self.tried(), {"a": (True, "refused"), "b": (False, "NOT REFUSED")})
+        self.write_edit("a", one="wrong")
+        self.write_edit("b", one="right")
+        self.assertEqual(self.try_all_edits(), {"a": (True, "refused"), "b": (False, "NOT REFUSED")})
         self.assertEqual(self.trial.batches, 2)
 
     def test_an_edit_of_two_functions_is_refused_by_either(self):
-        self.edit("both", one="right", two="wrong")
-        self.assertEqual(self.tried(), {"both": (True, "refused")})
+        self.write_edit("both", one="right", two="wrong")
+        self.assertEqual(self.try_all_edits(), {"both": (True, "refused")})
 
     def test_functions_that_call_each_other_are_refused_together(self):
         cycle = LIB.replace("fn one", "#[cycle(one)]\nfn one").replace("fn two", "#[cycle(one)]\nfn two")
         write_text(f"{self.crate}/src/lib.rt", cycle)
-        self.edit("a", one="wrong")
-        self.assertEqual(self.tried(cycle), {"a": (True, "refused")})
+        self.write_edit("a", one="wrong")
+        self.assertEqual(self.try_all_edits(cycle), {"a": (True, "refused")})
         self.assertEqual(self.trial.tried, ["as it stands", "1 wrong bodies at once"])
-        self.edit("b", two="wrong")
-        self.assertEqual(self.tried(cycle), {"a": (True, "refused"), "b": (True, "refused")})
+        self.write_edit("b", two="wrong")
+        self.assertEqual(self.try_all_edits(cycle), {"a": (True, "refused"), "b": (True, "refused")})
         self.assertEqual(self.trial.tried[1:], ["2 wrong bodies at once", "a", "b"])
 
     def test_a_method_of_a_type_that_another_file_defines_is_refused_in_the_batch(self):
         text = LIB.replace("fn one() -> u64 {\n    right()\n}", "impl Tree {\nfn one() -> u64 {\n    right()\n}\n}")
         write_text(f"{self.crate}/src/lib.rt", text)
         write_text(f"{self.crate}/src/tree.rt", "pub struct Tree {\n    depth: u64,\n}\n")
-        self.edit("method", one="wrong")
-        self.edit("other", two="wrong")
-        self.assertEqual(self.tried(text), {"method": (True, "refused"), "other": (True, "refused")})
+        self.write_edit("method", one="wrong")
+        self.write_edit("other", two="wrong")
+        self.assertEqual(self.try_all_edits(text), {"method": (True, "refused"), "other": (True, "refused")})
         self.assertEqual(self.trial.tried, ["as it stands", "2 wrong bodies at once"])
 
     def test_an_edit_that_cannot_be_applied(self):
-        self.edit("none", five="wrong")
-        self.assertEqual(self.tried(), {"none": (False, "BAD EDIT")})
+        self.write_edit("none", five="wrong")
+        self.assertEqual(self.try_all_edits(), {"none": (False, "BAD EDIT")})
         self.assertEqual(self.trial.tried, ["as it stands"])
 
     def test_a_crate_that_is_not_proved_as_it_stands(self):

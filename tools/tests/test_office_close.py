@@ -76,7 +76,7 @@ class Closing(Office):
             await given.submit("GAS", 1, commands("cancel,GAS,A,,,,,,"))
             given.begin_close()
             await task
-            await publishing.write_head(given)
+            await publishing.write_journal_and_head(given)
             await publishing.write_statement(given)
         return given
 
@@ -187,7 +187,7 @@ class Closing(Office):
 
     async def test_a_day_whose_files_cant_be_made_isnt_right(self):
         self.make()
-        step, faults = publishing.write_head, [OSError(errno.ENOSPC, "full")] * 2
+        step, faults = publishing.write_journal_and_head, [OSError(errno.ENOSPC, "full")] * 2
 
         async def sign(given):
             if faults:
@@ -200,7 +200,7 @@ class Closing(Office):
 
         rights, log = [], io.StringIO()
         with opener(Disk()), mock.patch.object(publishing, "write_missing_files", self.publish), mock.patch.multiple(
-            publishing, FIRST_PAUSE=0.001, write_head=sign, write_results=made, write_statement=made
+            publishing, FIRST_PAUSE=0.001, write_journal_and_head=sign, write_results=made, write_statement=made
         ):
             given = self.writer(log=observed.Log(log))
             task = asyncio.create_task(given.run())
@@ -217,7 +217,7 @@ class Closing(Office):
         async def note_pause(seconds):
             pauses.append(seconds)
 
-        steps = mock.patch.multiple(publishing, write_head=made, write_results=made, write_statement=made)
+        steps = mock.patch.multiple(publishing, write_journal_and_head=made, write_results=made, write_statement=made)
         with steps, mock.patch.object(publishing.asyncio, "sleep", note_pause):
             await self.publish(mock.Mock())
         self.assertEqual(pauses, 3 * [publishing.FIRST_PAUSE, 2 * publishing.FIRST_PAUSE])

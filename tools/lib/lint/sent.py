@@ -178,7 +178,7 @@ def difference_lines(sent, published, where=JOURNAL, look=lambda: None, proof=no
     lines = [(other.record, moved_line(one, other)) for one, other in moved]
     lines += [(other.record, changed_line(one, other, proof(one.command))) for one, other in changed]
     found = [(sent[at].record, published[place].record) for at, place in pairs]
-    lines += [(place_of(one, found), missing_line(one, where, proof(one.command))) for one in left]
+    lines += [(record_before(one, found), missing_line(one, where, proof(one.command))) for one in left]
     lines += [(other.record, more_line(other, sent_times[other.command])) for other in more]
     return [line for _, line in sorted(lines, key=lambda line: line[0])]
 
@@ -215,7 +215,7 @@ def more_line(other, times):
     return Fault(words, "repeated", other.line, subject_of(other))
 
 
-def place_of(one, found):
+def record_before(one, found):
     """The record of the journal that a missing command should come after; `found` pairs the records that are sent with these."""
     before = bisect_left(found, (one.record,))
     return found[before - 1][1] if before else 0

@@ -16,7 +16,7 @@ FIRST_PAUSE, LONGEST_PAUSE = 1.0, 60.0  # seconds before a step that failed is t
 
 async def write_missing_files(writer):
     """Makes the files of a closed day, each once; a step that fails is tried again."""
-    for step, name in ((write_head, folder.HEAD), (write_results, folder.RESULTS), (write_statement, folder.STATEMENT)):
+    for step, name in ((write_journal_and_head, folder.HEAD), (write_results, folder.RESULTS), (write_statement, folder.STATEMENT)):
         pause = FIRST_PAUSE
         while True:
             began = time.monotonic()
@@ -33,7 +33,7 @@ async def write_missing_files(writer):
         writer.log_event("made", file=name, seconds=round(time.monotonic() - began, 3))
 
 
-async def write_head(writer):
+async def write_journal_and_head(writer):
     """The head of the whole journal, which no later one follows, with the journal and its replies."""
     for name, data in ((folder.JOURNAL, writer.ledger.journal_text()), (folder.REPLIES, writer.ledger.replies_text())):
         with folder.naming_file(writer.files.path_of(name)):

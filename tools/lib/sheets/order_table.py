@@ -229,7 +229,7 @@ def parse_cells(data, most=MOST_ROWS, is_long=False):
         raise BadOrders(f"this is {kind}: {kinds.ADVICE[kind]}")
     try:
         rows, decimal_comma = sheets.parse_rows(data, NEEDED, read, most, is_long)
-        count = refuse_many_rows(rows, most)
+        count = count_rows_or_refuse(rows, most)
     except sheets.BadTable as fault:
         raise BadOrders(str(fault)) from None
     if not count:
@@ -237,7 +237,7 @@ def parse_cells(data, most=MOST_ROWS, is_long=False):
     return Cells(rows, decimal_comma, read)
 
 
-def refuse_many_rows(rows, most):
+def count_rows_or_refuse(rows, most):
     """How many rows there are, if they aren't too many."""
     count = 0
     for number, _ in rows:

@@ -167,11 +167,11 @@ def statement(day):
         if result:
             yield [*cells, result.outcome, result.executed, result.surplus, result.amount, result.code, result.why]
         else:
-            why = REASONS[reason].words if reason else later_why(day, replaced[number]) if number in replaced else ""
+            why = REASONS[reason].words if reason else words_of_last_change(day, replaced[number]) if number in replaced else ""
             yield [*cells, "", "", "", "", "", why]
 
 
-def later_why(day, number):
+def words_of_last_change(day, number):
     """The last change of an order by a command."""
     does = "cancels" if isinstance(day.journal.commands[number - 1], journal.Cancel) else "changes"
     return f"command {number} {does} it"
