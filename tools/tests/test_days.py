@@ -154,6 +154,18 @@ class Days(unittest.TestCase):
         said = f"audit: {self.folder / 'list'} isn't a table of days: its first line should name the columns journal, results\n"
         self.assertEqual(self.audit(place=self.folder / "list"), (command.NO_INPUT, "", said))
 
+    def test_a_manifest_in_another_code_or_form(self):
+        self.write(a=(DATA, TEXT))
+        path = self.folder / "list"
+        path.write_bytes(b"day,journal,results\nd\xe9c,a.csv,a.txt\n")
+        said = f"audit: {path}: line 2: the table isn't in UTF-8, and was read as Windows-1252\n"
+        self.assertEqual(self.audit(place=path)[::2], (0, said))
+        self.assertEqual(self.audit("--quiet", place=path)[::2], (0, ""))
+        for data, kind in ((b"PK\x03\x04\x81", "an Excel workbook (.xlsx)"), (b"\x1f\x8b", "a compressed file (.gz)")):
+            path.write_bytes(data)
+            said = f"audit: {path} is {kind}: save the table of days as CSV\n"
+            self.assertEqual(self.audit(place=path), (command.NO_INPUT, "", said))
+
     def test_two_rows_of_a_manifest_with_one_name(self):
         """Neither is read: a reader could take the verdict of one for the other's. Names that no row gives may be equal."""
         self.write(a=(DATA, TEXT), b=(DATA, TEXT))
@@ -178,7 +190,7 @@ class Days(unittest.TestCase):
         self.write(a=(DATA, TEXT))
         tracemalloc.start()
         self.addCleanup(tracemalloc.stop)
-        self.assertEqual(len(days.require_pairs(self.folder / "list")), 20)
+        self.assertEqual(len(days.require_pairs(self.folder / "list", [])), 20)
         self.assertLess(tracemalloc.get_traced_memory()[1], 16 * 2**20)
 
     def test_cells_of_a_manifest_in_no_column(self):

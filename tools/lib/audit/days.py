@@ -9,7 +9,7 @@ from pathlib import Path
 from typing import NamedTuple
 
 from ..base import ending, record, text
-from ..sheets import sheets
+from ..sheets import kinds, sheets
 from ..tool import command, day_files, file_io, modules
 from . import verdict
 from ..runs.by_program import Running
@@ -41,11 +41,11 @@ class Pair(NamedTuple):
     missing: object = None  # the message if there are no results, and the journal isn't the text of a day
 
 
-def require_pairs(place):
-    """The days of a folder, by name, or of a manifest, in its order. None of their files is read."""
+def require_pairs(place, notes):
+    """The days of a folder, by name, or of a manifest, in its order. None of their files is read. Notes say how a manifest was read."""
     path = Path(place)
     try:
-        pairs = pairs_by_name(path) if path.is_dir() else require_listed_pairs(path)
+        pairs = pairs_by_name(path) if path.is_dir() else require_listed_pairs(path, notes)
     except OSError as fault:
         raise command.Stop(f"{command.shown(place)} can't be read: {fault.strerror}") from None
     if not pairs:
@@ -79,10 +79,14 @@ def pair_of(name, journal, published):
     return Pair(name, journal, None, file_io.unread_reason(journal), f"{command.shown(published)} is missing")
 
 
-def require_listed_pairs(path):
+def require_listed_pairs(path, notes):
     """The pairs of a manifest: a table with the columns `journal` and `results`, whose files are sought from its own folder."""
+    data = file_io.read_bytes(path)
+    kind = kinds.kind_of(data)
+    if kind in kinds.FILES:
+        raise command.Stop(f"{command.shown(path)} is {kind}: save the table of days as CSV")
     try:
-        rows = iter(sheets.text_rows(file_io.read_bytes(path)))
+        rows = iter(sheets.text_rows(data, notes))
         heads = [cell.strip().lower() for cell in next(rows, (0, []))[1]]
         refuse_heads(path, heads)
         pairs, lines = [], {}
@@ -377,6 +381,9 @@ def status_of(records):
 
 def run_audits_of(args):
     """As much as is kept of the records of all days."""
-    pairs = require_pairs(args.days)
+    notes = []
+    pairs = require_pairs(args.days, notes)
+    for note in [] if args.quiet else notes:
+        command.print_note("audit", f"{command.shown(args.days)}: {note}")
     jobs = min(args.jobs or os.cpu_count() or 1, len(pairs))
     return run_audits(pairs, options_of(args), jobs, StepBar("audit", len(pairs), "days", args.quiet), seconds_of(args), args.json)

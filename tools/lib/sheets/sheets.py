@@ -168,9 +168,9 @@ class Text:
         self.is_counted = True
 
 
-def text_rows(data):
-    """The rows of a text that aren't empty, which aren't kept."""
-    return Text(data, [], None, MANY)
+def text_rows(data, notes):
+    """The rows of a text that aren't empty, which aren't kept. A note says that it isn't in UTF-8."""
+    return Text(data, notes, None, MANY)
 
 
 def table_text(rows, decimal_comma=False):
