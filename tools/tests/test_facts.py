@@ -368,7 +368,7 @@ class Facts(unittest.TestCase):
         """They are said in round numbers."""
         tool, text = load_tool("reading-list"), plain(TOP / "docs" / "ASSURANCE.md")
         repository = Repository(TOP)
-        nodes = {node for _, _, new in tool.lists(repository) for node in new}
+        nodes = {node for _, _, new in tool.function_lists(repository) for node in new}
         sizes = dict(tool.reached_sizes(repository))["`run_clear`"]
         counts = {
             r"some (\d+) definitions and types": [len(nodes)],

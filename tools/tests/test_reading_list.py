@@ -149,7 +149,7 @@ pub fn law()
         module.THEOREM = {"run_clear": (is_printed, listed, others)}
         with tempfile.TemporaryDirectory() as folder:
             self.repository(folder)
-            return module.theorem(module.Repository(Path(folder)))
+            return module.theorem_text(module.Repository(Path(folder)))
 
     def test_the_theorem_has_the_listed_definitions_and_the_sentences_of_others(self):
         text = self.theorem(["Printed"], ["IsSize"])
@@ -180,7 +180,7 @@ pub fn law()
 
         def renewed(text, theorem, sizes):
             parts = {"theorem": (lambda _: theorem, str.__eq__), "sizes": (lambda _: sizes, module.is_near)}
-            return module.renewed(None, text, parts)
+            return module.renewed_page(None, text, parts)
 
         page = PAGE % ("one\n", "| 100 |\n")
         self.assertEqual(renewed(page, "one\n", "| 100 |\n"), (page, True))
