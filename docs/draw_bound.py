@@ -19,7 +19,7 @@ from lib.journal import book, journal
 from lib.results import period, selection
 
 
-def problem():
+def read_sunny_day():
     closed, _ = book.run_commands(journal.parse_journal((TOP / "examples/sunny-day.csv").read_bytes()))
     return selection.Problem(closed)
 
@@ -155,7 +155,7 @@ def draw_tree(axes, found, least, canvas):
 def figure():
     from lib.pictures import canvas
 
-    day = problem()
+    day = read_sunny_day()
     prices = prices_of(day)
     bound, order = bound_by(day, prices), order_of(day)
     least = result(day, bound, order)

@@ -13,9 +13,9 @@ TOP = Path(__file__).resolve().parent.parent
 sys.dont_write_bytecode = True
 sys.path.insert(0, str(TOP / "tools"))
 
+from draw_bound import read_sunny_day
 from lib.audit import best
 from lib.base import rules, text
-from lib.journal import book, journal
 from lib.results import selection
 from lib.tool import command, modules
 
@@ -67,11 +67,6 @@ class Effect(NamedTuple):
         return [Fraction(total, sum(self.volumes)) for total in worth]
 
 
-def problem():
-    closed, _ = book.run_commands(journal.parse_journal((TOP / "examples/sunny-day.csv").read_bytes()))
-    return selection.Problem(closed)
-
-
 def counted(day):
     """The counts, and the best selection."""
     search = Counting(day)
@@ -115,7 +110,7 @@ def say_effect(day):
     found = effect(day, accepted)
     name = f"{' '.join(BLOCK)}, {text.shown_volume(max(found.volumes)).removesuffix('.0')} MW"
     yield f"{name:<20}{'rejected':>10}{'accepted':>12}"
-    for number, *prices in zip(found.periods, *found.read_prices):
+    for number, *prices in zip(found.periods, *found.prices):
         yield f"price of hour {number:<4}" + "".join(f"{text.eur_per_mwh(price):>12}" for price in prices)
     yield f"{'their average':<18}" + "".join(f"{text.shown_price(average):>12}" for average in found.averages())
     yield f"{'its limit':<18}" + f"{text.eur_per_mwh(found.limit):>12}" * 2
@@ -141,7 +136,7 @@ def draw_effect(day):
     with canvas.matplotlib.rc_context(canvas.STYLE):
         drawn, axes = canvas.pyplot.subplots(figsize=(canvas.BROAD * 0.7, 3))
         looks = {"color": canvas.COLOURS["sell"], "linewidth": 2.2}, {"color": canvas.COLOURS["ink"], "linewidth": 1.6, "linestyle": "--"}
-        for prices, look, words in zip(found.read_prices, looks, ("UNIT-7 is rejected", "UNIT-7 is accepted")):
+        for prices, look, words in zip(found.prices, looks, ("UNIT-7 is rejected", "UNIT-7 is accepted")):
             axes.stairs([canvas.eur(price) for price in prices], edges, baseline=None, label=f"price if {words}", **look)
         axes.axhline(canvas.eur(found.limit), color=canvas.COLOURS["soft"], linewidth=1)
         axes.annotate(f"its limit: {canvas.eur(found.limit):g}", (edges[0], canvas.eur(found.limit)), (3, 4), textcoords="offset points")
@@ -184,12 +179,12 @@ def main():
         sys.exit(__doc__.split("\n\n", 1)[0])
     say, draw = SUBJECTS[words[0]]
     if not words[1:]:
-        print(*say(problem()), sep="\n")
+        print(*say(read_sunny_day()), sep="\n")
         return
     modules.refuse_missing("matplotlib")
     from lib.pictures import canvas
 
-    sys.stdout.buffer.write(canvas.picture(draw(problem()), "svg"))
+    sys.stdout.buffer.write(canvas.picture(draw(read_sunny_day()), "svg"))
 
 
 if __name__ == "__main__":

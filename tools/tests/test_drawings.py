@@ -97,7 +97,7 @@ class Bound(unittest.TestCase):
     """That the bound by its prices holds, and that the tree leaves out no better selection."""
 
     def setUp(self):
-        self.day = draw_bound.problem()
+        self.day = draw_bound.read_sunny_day()
         self.prices = draw_bound.prices_of(self.day)
         self.bound, self.order = draw_bound.bound_by(self.day, self.prices), draw_bound.order_of(self.day)
 
@@ -160,7 +160,7 @@ class Trust(unittest.TestCase):
     def test_what_the_pictures_say(self):
         from lib.pictures import canvas
 
-        day = draw_trust.problem()
+        day = draw_trust.read_sunny_day()
         for draw, words in (draw_trust.draw_effect, ["hour 19", "its limit: 130"]), (draw_trust.draw_selections, ["4,096 ways", "207 of"]):
             drawn = canvas.picture(draw(day), "svg", words_as_text=True).decode()
             for word in words:
