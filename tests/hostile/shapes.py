@@ -234,6 +234,9 @@ def runs_of_searches():
         if number % 5 == 0:
             yield f"clear, limited: {about}", Run([*CLEAR, "--nodes", "500"], data, (0, UNFINISHED))
             yield f"clear by pieces: {about}", Run(["clear", "--workers", "1", "--cut", "8"], data)
+        for cut, nodes in ((3, 20), (8, 1)) if number % 10 == 0 else ():
+            words = ["clear", "--workers", "1", "--cut", str(cut), "--nodes", str(nodes)]
+            yield f"clear by {1 << cut} pieces, limited: {about}", Run(words, data, (0, UNFINISHED))
 
 
 def run_script(script, *words):
