@@ -56,6 +56,8 @@ def text_of(source: JournalSource) -> bytes:
 
 def one_of_many(source: JournalSource) -> bytes:
     """The bytes of a journal for which others wait, so that a device or a pipe, which may have no end, is a fault."""
+    if not isinstance(source, (str, bytes, os.PathLike, Journal)):
+        raise Fault(f"a journal should be a file, its text, or one that was read, and not of the type {type(source).__name__}")
     is_file = not isinstance(source, Journal) and not is_text(source) and source != ""
     if is_file and (said := file_io.unread_reason(source)):
         raise Fault(said)

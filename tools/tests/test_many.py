@@ -4,6 +4,7 @@ import concurrent.futures
 import itertools
 import contextlib
 import io
+import math
 import os
 import re
 import shutil
@@ -274,6 +275,16 @@ class Many(unittest.TestCase):
         self.assertIsInstance(late, dam_tools.TimedOut)
         self.assertEqual(str(late), f"{slow} took longer than 0.5 seconds")
         self.assertEqual(found.text, b"day,24\nwelfare,0\n")
+        for call in (dam_tools.clear, dam_tools.replay, lambda path, **how: dam_tools.clear_many([path], **how)):
+            for timeout in (math.nan, math.inf, 1e7):
+                with self.assertRaisesRegex(ValueError, "^timeout should be a number of seconds, at most 1,000,000$"):
+                    call(AUCTION, program=self.program, timeout=timeout)
+
+    def test_what_is_no_journal_does_not_end_the_others(self):
+        *faults, found = dam_tools.clear_many([None, 5, bytearray(b"day"), AUCTION], program=self.program)
+        said = "a journal should be a file, its text, or one that was read, and not of the type "
+        self.assertEqual([str(fault) for fault in faults], [f"{said}{name}" for name in ("NoneType", "int", "bytearray")])
+        self.assertEqual(found.text, read_results(AUCTION))
 
     def test_one_broken_journal_has_one_status(self):
         broken = OPEN + b"submit,x\n"

@@ -416,6 +416,13 @@ class RequestHeads(unittest.IsolatedAsyncioTestCase):
                 with self.subTest(odd=odd, cut=cut):
                     self.assertEqual((len(made._messages), made.is_deaf), (1, True))
 
+    async def test_the_version_of_a_request(self):
+        """The answer has it, if there is such a version."""
+        for given, taken in (("1.0", (1, 0)), ("1.1", (1, 1)), ("1.2", (1, 1)), ("2.0", (1, 1)), ("9.9", (1, 1)), ("0.9", (1, 1))):
+            made = self.connection()
+            made.data_received(f"GET /days HTTP/{given}\r\nHost: x\r\n\r\n".encode())
+            self.assertEqual([message.version for message, _ in made._messages], [taken], given)
+
     async def test_a_head_that_comes_byte_by_byte(self):
         for size in (guards.MOST_HEAD, guards.MOST_HEAD + 1):
             made = self.connection()

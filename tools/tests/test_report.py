@@ -277,6 +277,8 @@ class Page(unittest.TestCase):
         self.assertNotIn(b"Supply and demand in period", out)
         out = run_tool("report", "-", "-o", "-", "--curves", "none", "--title", "a\u00a0\udcff", data=day)[1]
         self.assertIn("<title>a\u00a0\\xff</title>".encode(), out)
+        out = run_tool("report", "-", "-o", "-", "--curves", "none", "--title", "a\x1b[31m\x7f\x9b\n", data=day)[1]
+        self.assertIn(b"<title>a\\x1b[31m\\x7f\\x9b\\n</title>", out)
         words = ["--date", "2026-11-25"] if modules.has_zone("Europe/Berlin") else []
         out = run_tool("report", "-", "-o", "-", "--curves", "4, 3-4,3", *words, data=day)[1]
         self.assertEqual([out.count(b"<figcaption>Supply and demand in period %d" % number) for number in (3, 4, 5)], [1, 1, 0])

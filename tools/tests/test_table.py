@@ -343,8 +343,10 @@ class CommandLine(unittest.TestCase):
     @unittest.skipUnless(modules.has_zone("Europe/Berlin"), "the time zones are missing (Debian's tzdata)")
     def test_dates_at_the_ends_of_the_calendar(self):
         texts = [AUCTION, AUCTION_RESULTS]
-        for date in ("9999-12-31", "0001-01-01"):
-            said = f"--date {date} is the first or the last day of the calendar: it should be another\n"
+        end = "is the first or the last day of the calendar: it should be another"
+        early = "is before Europe/Berlin had a time in whole minutes: it should be a later day"
+        for date, words in (("9999-12-31", end), ("0001-01-01", end), ("1582-10-10", early), ("1893-03-31", early)):
+            said = f"--date {date} {words}\n"
             self.assertEqual(run_tool("table", *texts, "--date", date), (command.COMMAND_LINE, b"", f"table: {said}"))
             if modules.has_module("matplotlib") and modules.has_module("jinja2"):
                 self.assertEqual(run_tool("report", *texts, "-o", "-", "--date", date), (command.COMMAND_LINE, b"", f"report: {said}"))

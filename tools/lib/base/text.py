@@ -12,6 +12,7 @@ LONG_LINE = 65_536  # characters; a line of a journal has fewer than 2,000
 MANY_FIELDS = 10  # more than a record has
 FIELDS = re.compile(rf'(?:(?:"[^"]*(?:""[^"]*)*"(?!")[^,]*|[^",][^,]*)?,){{{MANY_FIELDS}}}')
 SURROGATE = re.compile("[\ud800-\udfff]")  # no character: it stands for a byte that isn't UTF-8
+CONTROL = re.compile("[\0-\x1f\x7f-\x9f]")
 NO_NUL = "\u0100"  # no byte: stands for the byte 0, which `csv` doesn't read before Python 3.11
 # No number of a journal or of results has more digits than 18.
 NUMBER = re.compile(rb"-?[1-9][0-9]{0,17}|0")

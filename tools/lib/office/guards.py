@@ -5,7 +5,7 @@ import contextlib
 import ipaddress
 import re
 
-from aiohttp import web, web_protocol
+from aiohttp import HttpVersion10, HttpVersion11, web, web_protocol
 from multidict import CIMultiDict, CIMultiDictProxy
 
 MOST_CONNECTIONS = 1_000
@@ -66,7 +66,10 @@ def body_length(message):
 
 def plain_message(message):
     """A request as the office answers it. The name of an office is left out: there is one, and to decode another may take seconds. So is an
-    expectation, but for that of a client that waits: aiohttp would refuse others before any limit, and repeat them."""
+    expectation, but for that of a client that waits: aiohttp would refuse others before any limit, and repeat them; and a version that there
+    isn't, which would be the answer's."""
+    if message.version not in (HttpVersion10, HttpVersion11):
+        message = message._replace(version=HttpVersion11)
     if message.url.is_absolute():
         message = message._replace(url=message.url.relative())
     if message.headers.get("Expect", WAITS).lower() != WAITS:

@@ -23,6 +23,7 @@ MOST_SAID = 1 << 16  # bytes that are kept of a run's standard error, the last o
 PART = 1 << 16  # bytes that are read at once
 PIPES = {name: subprocess.PIPE for name in ("stdin", "stdout", "stderr")}  # of a run
 RUN_SECONDS = 3_600  # that a run may take if no timeout is named: of one that hangs, the others would wait for ever
+MOST_SECONDS = 1_000_000  # of a timeout
 START_SECONDS = 10  # that programs may take to start, if they are no longer wanted
 
 
@@ -34,6 +35,12 @@ def require_program(program=None):
     if not named and not found:
         raise Unstarted("no program was found: build it, or name it as `program` or in the environment variable DAM")
     return os.fspath(named or found.path)
+
+
+def require_timeout(seconds):
+    """Refuses a timeout that is none, such as NaN, or too long to wait for."""
+    if seconds is not None and not seconds <= MOST_SECONDS:
+        raise ValueError(f"timeout should be a number of seconds, at most {MOST_SECONDS:,}")
 
 
 def run_program(words, text, timeout=None, running=None):

@@ -43,9 +43,12 @@ def begin_times(date, periods, zone=ZONE):
     zone, utc = zoneinfo.ZoneInfo(zone), datetime.timezone.utc
     try:
         days = date, date + datetime.timedelta(1)
-        first, behind = (datetime.datetime.combine(day, datetime.time(), zone).astimezone(utc) for day in days)
+        begin, end = (datetime.datetime.combine(day, datetime.time(), zone) for day in days)
+        first, behind = begin.astimezone(utc), end.astimezone(utc)
     except OverflowError:
         raise BadDate(f"{date} is the first or the last day of the calendar: it should be another") from None
+    if begin.utcoffset() % datetime.timedelta(minutes=1):
+        raise BadDate(f"{date} is before {zone.key} had a time in whole minutes: it should be a later day")
     length = datetime.timedelta(hours=float(rules.DAYS[periods]))
     if first + periods * length != behind:
         hours = int((behind - first) / datetime.timedelta(hours=1))
