@@ -6,8 +6,8 @@ with only two orders of each side in a period; one with a single price; one whos
 net volumes; and one with all hourly orders in one period. In every second book each block has another volume in each
 period. The blocks are free, linked, in groups, or both. Three of the books come from journals of 10,000 commands, which amend and cancel
 orders, submit them again, and submit orders that the book refuses; the replies to these journals are compared too. Each book is cleared
-under three plans, whose results must be equal, and with a limit of a few nodes, which either changes nothing or ends the search. The last
-line is 'N passed, M failed'."""
+under three plans, whose results must be equal, with a limit of a few nodes, which either changes nothing or ends the search, and with one of
+a node, which ends it in a piece that is known. The last line is 'N passed, M failed'."""
 
 import argparse
 import math
@@ -29,6 +29,7 @@ MOST_COMMANDS = rules.MOST_RECORDS - 1
 PARTICIPANTS = ["A", "BRAVO", "CHARLIE", "DELTA", "ECHO", "FOXTROT", "GOLF", "PARTICIP"]
 PLANS = [[], ["--workers", "1", "--cut", "0"], ["--workers", "8", "--cut", "8"]]
 LIMITED, UNFINISHED = ["--nodes", "100"], re.compile(rb"unfinished: piece \d+ after \d+ nodes\n")
+ONE_NODE = ["--workers", "1", "--cut", "3", "--nodes", "1"]
 LEVEL = 6_000  # the mean price of a day, in cents per MWh
 CROWDED = 18  # the period of all orders of a crowded market
 
@@ -54,6 +55,7 @@ MARKETS = {
     "crowded": FullMarket(rules.MOST_HOURLY, (1, 99), 2_000, (50, 999), 0, is_crowded=True),
 }
 BONDS = ["free", "links", "groups", "both"]
+LEAST = {"free": 0, "links": 0, "groups": 3, "both": 1}  # the least of eight pieces that has selections: in a full book, many
 LONG = [("deep", 24), ("thin", 100), ("level", 96)]  # the books that come from a long journal
 
 
@@ -161,6 +163,7 @@ class Case(NamedTuple):
     data: bytes
     is_full: bool
     is_long: bool
+    least: int  # of eight pieces that a node doesn't finish; None if the book isn't full
 
 
 def draw_cases(size):
@@ -168,7 +171,8 @@ def draw_cases(size):
         bonds, is_flat, is_long = BONDS[(number + number // 6) % 4], number % 2 == 0, (market, periods) in LONG
         drawn = FullDay(random.Random(f"full {market} {periods}"), periods, market, size, is_flat, bonds)
         name = f"{market} {periods}, {bonds}, {'one volume' if is_flat else 'a volume in each period'}"
-        yield Case(name, drawn.draw_text(size.commands if is_long else None), MARKETS[market].hourly > 0, is_long)
+        least = LEAST[bonds] if size.blocks == rules.MOST_BLOCKS else None
+        yield Case(name, drawn.draw_text(size.commands if is_long else None), MARKETS[market].hourly > 0, is_long, least)
 
 
 def faults_of_sizes(case, held, size):
@@ -180,7 +184,7 @@ def faults_of_sizes(case, held, size):
         yield f"the journal has {len(case.data.splitlines())} records"
 
 
-def run_for_faults_of_results(program, data, held):
+def run_for_faults_of_results(program, data, held, least):
     """The faults of the results, in words."""
     printed = [program.run_for_output(["clear", *plan], data) for plan in PLANS]
     for plan, got in zip(PLANS, printed):
@@ -192,6 +196,9 @@ def run_for_faults_of_results(program, data, held):
     limited = program.run_for_output(["clear", *LIMITED], data)
     if limited != printed[0] and (limited.status, limited.stdout, bool(UNFINISHED.fullmatch(limited.stderr))) != (3, b"", True):
         yield f"clear {' '.join(LIMITED)}: {limited.stderr.decode().strip() or f'status {limited.status}'}"
+    ended = None if least is None else program.run_for_output(["clear", *ONE_NODE], data)
+    if ended and (ended.status, ended.stdout, ended.stderr) != (3, b"", b"unfinished: piece %d after 1 nodes\n" % least):
+        yield f"clear {' '.join(ONE_NODE)}: {ended.stderr.decode().strip() or f'status {ended.status}'}"
     if not printed[0].status:
         _, wrong = check.results_and_differences(selection.Problem(held), printed[0].stdout)
         yield from wrong[:1]
@@ -200,7 +207,7 @@ def run_for_faults_of_results(program, data, held):
 def run_for_faults(program, case, size):
     """The faults of a case."""
     held, _ = book.run_commands(compare.journal_or_fault(case.data))
-    wrong = [*faults_of_sizes(case, held, size), *run_for_faults_of_results(program, case.data, held)]
+    wrong = [*faults_of_sizes(case, held, size), *run_for_faults_of_results(program, case.data, held, case.least)]
     if case.is_long:
         wrong += compare.run_for_differences(program, "replay", [], case.data)
     return wrong
