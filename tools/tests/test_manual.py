@@ -142,7 +142,7 @@ class Made(unittest.TestCase):
             self.assertEqual(before and (page.path.parent / before).resolve(), last, seen[-1])
             last, after = page.path, page.neighbours.get("next")
             page = after and self.site.pages[(page.path.parent / after).resolve()]
-        self.assertEqual(sorted(seen), sorted(map(self.site.name, self.site.pages)))
+        self.assertEqual(sorted(seen), sorted(map(self.site.relative_name, self.site.pages)))
 
     def test_nothing_of_a_page_is_lost(self):
         """Each block of text, each item of a list and each table of a page are in the site."""
