@@ -2,7 +2,6 @@
 
 import re
 import subprocess
-import textwrap
 
 from lib.tool import command
 from manual import pages

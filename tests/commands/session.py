@@ -10,7 +10,7 @@ from typing import NamedTuple
 
 from lib.base.place import CLONED
 from lib.base.rules import VERSION
-from lib.tool import command, modules
+from lib.tool import modules
 from scenes import CLONE, INSTALLED, PAGES
 from shared.ports import find_free_port
 from shared.shown import blocks_of_page, code_spans

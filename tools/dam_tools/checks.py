@@ -6,7 +6,7 @@ import os
 import types
 from dataclasses import dataclass
 
-from .given import JournalSource, Source, as_faults, as_journal, bytes_of, name_of, text_of
+from .given import JournalSource, Source, as_journal, bytes_of, name_of, text_of
 from .lib.audit import best as best_of
 from .lib.audit import better, verdict
 from .lib.results import selection

@@ -8,7 +8,7 @@ from ..base import rules, text
 from ..journal import journal
 from ..results import decisions
 from ..runs import engine
-from ..tool import command, day_files, output
+from ..tool import command, day_files
 from . import changes
 from ..runs.cleared import THE_DAY, Cleared, book_text
 from ..runs.errors import Fault, Wrong
