@@ -372,7 +372,7 @@ class Days(unittest.TestCase):
 
     def test_memory_or_threads_for_a_day_that_run_out(self):
         pairs, bar = [days.Pair(name, Path("a.csv"), Path("a.txt")) for name in "ab"], unittest.mock.Mock()
-        for patched, faults in (("ran", [MemoryError]), ("failed", [MemoryError, unittest.mock.DEFAULT])):
+        for patched, faults in (("run_process", [MemoryError]), ("record_without_verdict", [MemoryError, unittest.mock.DEFAULT])):
             with unittest.mock.patch.object(days, patched, side_effect=faults * 2, wraps=getattr(days, patched)):
                 found = days.run_audits(pairs, ["--none"], 1, bar)
             self.assertEqual([(made["name"], made["status"]) for made in found], [("a", command.FAILED), ("b", command.FAILED)])
