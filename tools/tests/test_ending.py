@@ -224,7 +224,7 @@ class Failing(unittest.TestCase):
         self.assertEqual((ran.returncode, ran.stderr), (command.FAILED, "lint: out of memory\n"))
         for name in PACKAGES:
             text = (TOOLS / name).read_text()
-            self.assertIn(f'from lib.base import ending\n\nending.watch("{name}")\n\n', text)
+            self.assertIn(f'from lib.base import ending\n\nending.guard_tool("{name}")\n\n', text)
 
 
 class Interrupted(unittest.TestCase):
