@@ -28,7 +28,7 @@ from lib.base import rules
 ORDERS = rules.MOST_HOURLY
 TIMES = 3  # names that collide take less than 3 times the instructions of others; with the fixed seed 50 times or more
 CANCEL_TIMES = 2  # cancels take less than twice the instructions of others
-SOME = 1_000  # of the names, where there are many runs: with the fixed seed, those that collide take 20 times the instructions
+SOME = 1_000  # of the names, if there are many runs: with the fixed seed, those that collide take 20 times the instructions
 RANDOM = bytes(range(1, 17))  # random bytes, each another
 WORKERS = {"clear": {2: 23, 3: 25, 4: 92, 8: 100}, "day": {2: 100, 3: 92, 4: 25, 8: 23}}  # and the length of the day
 AGAIN = 2_990  # the orders that are cancelled, each with a submit after it, so that all fit a journal of 10,000 records

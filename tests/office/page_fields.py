@@ -1,4 +1,4 @@
-"""Faults at the fields: a wrong one is told in the trader's units, and nothing is sent."""
+"""Faults at the fields: a wrong one is reported in the trader's units, and nothing is sent."""
 
 from page_actions import cells_of, check_shown, choose, click, focus_on, focused_name, text_of, type_into
 from page_results import ON_SCREEN
@@ -36,7 +36,7 @@ PASTE = """{ const clipboardData = new DataTransfer(); const place = cells()[%d]
 
 
 async def check_faults(page, counts, pictures):
-    """A wrong field is told in the trader's units at the field, and nothing is sent."""
+    """A wrong field is reported in the trader's units at the field, and nothing is sent."""
     before = len(await cells_of(page, "commands-table"))
     counts.check("right values are right", await page.evaluate(RIGHT) == "400000 -50000 1250 1 99999 - ABCDEFGHIJ-9 ")
     await click(page, "input[value=hour]")

@@ -5,7 +5,7 @@ from page_actions import NEVER, cells_of, click, text_of, type_into, wait_for_me
 # Loses the answer to the next command, which the office enters.
 LOSE = """{ const real = window.fetch; window.lost = false; window.fetch = async (path, how) => { const answer = await real(path, how);
   if (how?.method !== 'PUT' || window.lost) return answer; window.lost = true; throw new TypeError('lost'); }; }"""
-# What is told of an order of which nobody knows whether it was entered.
+# The report on an order of which nobody knows whether it was entered.
 UNSURE = "The office can't be reached. We don't know whether GONE was entered: look in Your orders once it's back."
 # And once the office answers.
 NOT_YET = "The office answers again. GONE isn't among your commands so far: send it again, it can't be entered twice."
@@ -56,7 +56,7 @@ ONCE = "{ what: 'amend', order: 'ONCE', price: %d, volumes: [[1, 10]] }"
 
 
 async def check_two_tabs(page, counts):
-    """What another tab of the participant does in the meantime is told before it is lost."""
+    """An entry of another tab of the participant in the meantime is reported before it is lost."""
     await click(page, '[aria-label="Amend ONCE"]')
     await page.evaluate("look()")
     counts.check("an order that stays as it is isn't overtaken", await text_of(page, "overtaken") == "")
@@ -92,7 +92,7 @@ async def check_two_tabs(page, counts):
     await check_silence(page, counts)
 
 
-# Answers no more, until it is told to.
+# Answers no more, until a call lets it.
 HELD = """{ window.real = fetch; fetch = async (path, how) => { await new Promise((done, fail) => { (window.release ??= []).push(done);
   how?.signal?.addEventListener('abort', () => fail(how.signal.reason)); }); return real(path, how); }; }"""
 

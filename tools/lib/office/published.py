@@ -1,4 +1,4 @@
-"""The published files of a day, as participants may see them: until the journal is published, a statement tells nothing of others'
+"""The published files of a day, as participants may see them: until the journal is published, a statement says nothing of others'
 orders."""
 
 import hashlib
