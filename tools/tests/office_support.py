@@ -20,7 +20,7 @@ try:
     import aiohttp
     import jinja2
     from lib.seal import sealing, signing
-    from lib.office import folder, day_writer, observed, programs, publishing, setup
+    from lib.office import day_writer, folder, observed, programs, publishing, setup
     from lib.office.desk import Desk, Ended
 except ImportError:  # without python3-aiohttp and the like
     aiohttp = None

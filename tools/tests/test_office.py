@@ -23,7 +23,7 @@ from lib.tool import command
 
 try:
     from lib.seal import sealing
-    from lib.office import folder, day_writer, observed, published, web
+    from lib.office import day_writer, folder, observed, published, refusals, web
     from lib.office.desk import Desk, Ended
 except ImportError:  # without python3-aiohttp and the like, whose tests are skipped
     pass
@@ -42,7 +42,7 @@ class Crashes(Office):
             try:
                 given = held[0]
                 entries = await asyncio.wait_for(asyncio.shield(given.submit(who, first, commands(*many))), 5)
-            except (day_writer.Refused, asyncio.TimeoutError) as fault:
+            except (refusals.Refused, asyncio.TimeoutError) as fault:
                 self.assertNotIn(getattr(fault, "fault", None), ("NumberUsed", "NumberAhead", "Malformed"))
                 self.assertIsNone(given.fault)
                 await asyncio.sleep(0.001)
@@ -72,8 +72,7 @@ class Crashes(Office):
                 else:  # the office ends, in the middle of anything
                     tasks[-1].cancel()
                     await asyncio.gather(tasks[-1], return_exceptions=True)
-                    for one in [*held[0].waiting, *(one for _, one in held[0].entering)]:
-                        day_writer.fail_future(one.done, day_writer.Refused("Unreached", "no answer came"))
+                    held[0].queue.refuse_all("Unreached", "no answer came")
                     held[0] = self.writer()
                     tasks.append(asyncio.create_task(held[0].run()))
             sent = dict(zip(NAMES, await asyncio.wait_for(asyncio.gather(*clients), SECONDS)))
@@ -119,7 +118,7 @@ class Crashes(Office):
                 await given.submit("GAS", 1, commands("cancel,GAS,A,,,,,,"))
                 waiting = given.submit("GAS", 2, commands("cancel,GAS,B,,,,,,"), lambda: rights[0])
                 rights[0] = False
-                with self.assertRaises(day_writer.Refused) as caught:
+                with self.assertRaises(refusals.Refused) as caught:
                     await waiting
                 self.assertEqual(caught.exception.fault, "Token")
                 self.assertEqual(await given.submit("GAS", 1, commands("cancel,GAS,A,,,,,,"), lambda: rights[0]), [1])
@@ -141,7 +140,7 @@ class Crashes(Office):
             behind = given.submit("A", 1, commands("cancel,A,A,,,,,,"))
             given.begin_close()
             for one in waiting:
-                with self.assertRaises(day_writer.Refused) as caught:
+                with self.assertRaises(refusals.Refused) as caught:
                     await one
                 self.assertEqual((caught.exception.fault, await behind), ("Unavailable", [1]))
             await task
@@ -206,13 +205,13 @@ class Crashes(Office):
                 await given.submit("GAS", 1, commands("cancel,GAS,A,,,,,,", "cancel,GAS,B,,,,,,"))
                 disk.records.pop()
                 disk.ends.append((0, 0))
-                with self.assertRaises(day_writer.Refused) as caught:
+                with self.assertRaises(refusals.Refused) as caught:
                     await given.submit("GAS", 3, commands("cancel,GAS,C,,,,,,"))
                 self.assertEqual(caught.exception.fault, "Unavailable")
                 self.assertIn("doesn't begin with the 2 entries", given.fault)
                 self.assertEqual(given.state, "stopped")
                 self.assertFalse(given.is_ready.is_set())
-                with self.assertRaises(day_writer.Refused):
+                with self.assertRaises(refusals.Refused):
                     given.submit("GAS", 3, commands("cancel,GAS,C,,,,,,"))
 
     async def test_an_idle_desk_that_ends_is_opened_again(self):
@@ -244,7 +243,7 @@ class Crashes(Office):
             disk.ends = [(0, 0)] * day_writer.MOST_ENDS
             with opener(disk), mock.patch.object(folder.DayFolder, "require_room", need_room):
                 async with self.running(self.writer()) as given:
-                    with self.assertRaises(day_writer.Refused):
+                    with self.assertRaises(refusals.Refused):
                         await given.submit("GAS", 1, commands("cancel,GAS,A,,,,,,"))
                     await given.is_ready.wait()
                     await asyncio.sleep(0.02)
@@ -262,7 +261,7 @@ class Crashes(Office):
         disk.ends = [(0, 0)] * day_writer.MOST_ENDS
         with opener(disk):
             async with self.running(self.writer()) as given:
-                with self.assertRaises(day_writer.Refused) as caught:
+                with self.assertRaises(refusals.Refused) as caught:
                     await given.submit("GAS", 1, commands("cancel,GAS,A,,,,,,"))
                 self.assertEqual(caught.exception.fault, "Unavailable")
                 await given.submit("GAS", 1, commands("cancel,GAS,A,,,,,,"))
@@ -282,7 +281,7 @@ class Crashes(Office):
                 task = asyncio.create_task(given.run())
                 await given.is_ready.wait()
                 first = given.submit("GAS", 1, commands(records[0]))
-                while not given.entering:
+                while not given.queue.batch:
                     await asyncio.sleep(0)
                 second = given.submit("GAS", 2, commands(records[1]))
                 given.begin_close()

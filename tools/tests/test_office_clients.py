@@ -25,7 +25,7 @@ from lib.journal import journal
 from lib.seal import heads
 
 try:
-    from lib.office import folder, day_writer, guards, observed, published, requests, serve
+    from lib.office import folder, guards, observed, published, refusals, requests, serve
     from lib.office import tables as reader
 except ImportError:  # without python3-aiohttp and the like, whose tests are skipped
     pass
@@ -165,7 +165,7 @@ class Requests(unittest.TestCase):
         with self.assertRaisesRegex(requests.BadRequest, "1 command of other"):
             read(table.replace(b"GAS", b"OIL") % 8)
         words = "can't be read within 0.001 s: it is too large, or the office is busy$"
-        with mock.patch.object(reader, "MOST_SECONDS", 0.001), self.assertRaisesRegex(day_writer.Refused, words):
+        with mock.patch.object(reader, "MOST_SECONDS", 0.001), self.assertRaisesRegex(refusals.Refused, words):
             read(table % 8)
         with tempfile.TemporaryDirectory() as room:
             shutil.copytree(TOOLS / "lib", Path(room, "lib"), ignore=shutil.ignore_patterns("__pycache__"))
@@ -174,7 +174,7 @@ class Requests(unittest.TestCase):
             head, _, row = (table % 8).replace(b"block", b"hour").partition(b"\n")
             long = head + b"\n" + row.replace(b",A,", b",A%d,") * 4_000 % tuple(range(4_000))
             self.assertEqual(len(read(long)[0]), 4_000)
-            with mock.patch.object(reader, "__file__", str(path)), self.assertRaisesRegex(day_writer.Refused, "can't be read"):
+            with mock.patch.object(reader, "__file__", str(path)), self.assertRaisesRegex(refusals.Refused, "can't be read"):
                 read(long)
 
     def test_until_the_journal_is_published_reasons_tell_of_own_orders_alone(self):

@@ -17,7 +17,7 @@ from lib.seal import heads
 from lib.tool import command
 
 try:
-    from lib.office import folder, day_writer, observed, operate, published, publishing, web
+    from lib.office import day_writer, folder, observed, operate, published, publishing, refusals, web
 except ImportError:  # without python3-aiohttp and the like, whose tests are skipped
     pass
 
@@ -36,11 +36,11 @@ class Closing(Office):
             await given.is_ready.wait()
             waiting = [given.submit(who, 1, commands(f"cancel,{who},A,,,,,,")) for who in NAMES]
             self.now = 5_000
-            with self.assertRaises(day_writer.Refused) as caught:
+            with self.assertRaises(refusals.Refused) as caught:
                 given.submit("GAS", 2, commands("cancel,GAS,B,,,,,,"))
             self.assertEqual(caught.exception.fault, "Closed")
             self.now = 4_000  # set back: it doesn't open again
-            with self.assertRaises(day_writer.Refused):
+            with self.assertRaises(refusals.Refused):
                 given.submit("GAS", 2, commands("cancel,GAS,B,,,,,,"))
             self.assertEqual(await asyncio.gather(*waiting), [[1], [2], [3]])
             await task
@@ -50,7 +50,7 @@ class Closing(Office):
         with opener(disk):  # and not after a start with a clock that is set back either
             given = self.writer(self.clock(4_000))
             await given.run()
-            with self.assertRaises(day_writer.Refused) as caught:
+            with self.assertRaises(refusals.Refused) as caught:
                 given.submit("GAS", 2, commands("cancel,GAS,B,,,,,,"))
             self.assertEqual(caught.exception.fault, "Closed")
         self.assertEqual(disk.records.count("close,,,,,,,,"), 1)
@@ -61,7 +61,7 @@ class Closing(Office):
         disk.ends = [(0, 0), (1, 0)]  # the desk ends before the close, and after it is on the disk
         with opener(disk):
             given = self.writer()
-            with self.assertRaises(day_writer.Refused):
+            with self.assertRaises(refusals.Refused):
                 given.submit("GAS", 1, commands("cancel,GAS,A,,,,,,"))
             await given.run()
         self.assertEqual((disk.records, given.state), (["close,,,,,,,,"], "results"))
@@ -87,7 +87,7 @@ class Closing(Office):
         request, served = SimpleNamespace(path=f"/days/{DAY}/results"), SimpleNamespace(require_writer=lambda request: again)
         served.require_unstopped = functools.partial(web.Web.require_unstopped, served)
         for answer in (web.Web.answer_prices, web.Web.answer_published):
-            with self.assertRaises(day_writer.Refused) as caught:
+            with self.assertRaises(refusals.Refused) as caught:
                 await answer(served, request)
             self.assertEqual(caught.exception.fault, "Unavailable")
 
@@ -149,7 +149,7 @@ class Closing(Office):
             task = asyncio.create_task(again.run())
             await asyncio.to_thread(begins.wait)
             self.assertEqual((again.is_known.is_set(), again.ledger.size), (False, 0))  # no part of the journal is seen
-            with self.assertRaises(day_writer.Refused) as caught:
+            with self.assertRaises(refusals.Refused) as caught:
                 web.Web.require_known(None, again)
             self.assertEqual(caught.exception.fault, "Unavailable")
             ends.set()

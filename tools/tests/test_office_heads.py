@@ -14,7 +14,7 @@ from lib.tool import command
 
 try:
     from lib.seal import signing
-    from lib.office import folder, day_writer, newest, observed, operate
+    from lib.office import day_writer, folder, newest, observed, operate, refusals
     from lib.office.ledger import Contradiction, Ledger
 except ImportError:  # without python3-aiohttp and the like, whose tests are skipped
     pass
@@ -40,7 +40,7 @@ class SignedHeads(Office):
             task = asyncio.create_task(given.run())
             await self.until(lambda: given.fault or given.is_ready.is_set())
             if given.fault:
-                with self.assertRaises(day_writer.Refused):
+                with self.assertRaises(refusals.Refused):
                     given.submit("GAS", 9, commands("cancel,GAS,Z,,,,,,"))
             task.cancel()
             await asyncio.gather(task, return_exceptions=True)
@@ -102,7 +102,7 @@ class SignedHeads(Office):
                 with full:
                     await given.submit("GAS", 1, commands("cancel,GAS,A,,,,,,"))
                     await self.until(lambda: not given.is_healthy)
-                    with self.assertRaises(day_writer.Refused) as caught:
+                    with self.assertRaises(refusals.Refused) as caught:
                         given.submit("GAS", 2, commands("cancel,GAS,B,,,,,,"))
                     self.assertEqual(caught.exception.fault, "Unavailable")
                     self.assertEqual(await given.submit("GAS", 1, commands("cancel,GAS,A,,,,,,")), [1])  # which is entered
@@ -222,7 +222,7 @@ class SignedHeads(Office):
 
 class Numbers(Office):
     async def refused(self, given, who, first, *records):
-        with self.assertRaises(day_writer.Refused) as caught:
+        with self.assertRaises(refusals.Refused) as caught:
             await given.submit(who, first, commands(*records))
         return caught.exception.fault, caught.exception.more
 
@@ -241,7 +241,7 @@ class Numbers(Office):
                 self.assertEqual(await self.refused(given, "GAS", 1, first, third), ("NumberUsed", {"number": 2, "next": 4}))
                 self.assertEqual(await self.refused(given, "GAS", 2, second, first, third), ("NumberUsed", {"number": 3, "next": 4}))
                 self.assertEqual(await self.refused(given, "GAS", 4, first, first, first), ("ShareUsed", {"next": 4}))
-                with self.assertRaisesRegex(day_writer.Refused, "^you may enter 5 commands on this day, and have entered 3$"):
+                with self.assertRaisesRegex(refusals.Refused, "^you may enter 5 commands on this day, and have entered 3$"):
                     await given.submit("GAS", 4, commands(first, first, first))
                 self.assertEqual((await self.refused(given, "OTHER", 1, "cancel,OTHER,A,,,,,,"))[0], "ShareUsed")
                 self.assertEqual(await given.submit("A", 1, commands("cancel,A,A,,,,,,")), [4])

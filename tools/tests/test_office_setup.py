@@ -24,7 +24,7 @@ from lib.tool import command, modules
 
 try:
     from lib.seal import signing
-    from lib.office import budgets, demo, desk, folder, day_writer, guards, newest, observed, operate, programs, setup, tokens, web
+    from lib.office import budgets, demo, desk, folder, guards, newest, observed, operate, programs, refusals, setup, tokens, web
     from lib.office import serve as serving
 except ImportError:  # without python3-aiohttp and the like, whose tests are skipped
     pass
@@ -286,7 +286,7 @@ class Setup(Office):
         """Before the orders are in that are its own."""
         for seconds in ("0", "-1", "86401", "1.5", "x"):
             self.assertEqual(run_tool("office", "demo", "--no-browser", "--seconds", seconds)[0], command.COMMAND_LINE, seconds)
-        told = mock.Mock(is_ready=mock.Mock(wait=mock.AsyncMock()), submit=mock.AsyncMock(side_effect=day_writer.Refused("Closed", "closed")))
+        told = mock.Mock(is_ready=mock.Mock(wait=mock.AsyncMock()), submit=mock.AsyncMock(side_effect=refusals.Refused("Closed", "closed")))
         with self.assertRaisesRegex(command.Stop, r"^the demo's own orders weren't entered \(closed\): give more --seconds$") as raised:
             asyncio.run(demo.enter_orders(told))
         self.assertEqual(raised.exception.status, command.COMMAND_LINE)
@@ -527,7 +527,7 @@ class Setup(Office):
                 path.unlink(missing_ok=True)
                 if damage is not None:
                     path.write_bytes(damage)
-                with self.subTest(damage=damage), self.assertRaises(day_writer.Refused) as caught:
+                with self.subTest(damage=damage), self.assertRaises(refusals.Refused) as caught:
                     answers.require_authorized(asked)
                 self.assertEqual(caught.exception.fault, "Unavailable")
                 await self.until(lambda: not served.is_healthy)

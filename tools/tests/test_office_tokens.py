@@ -18,7 +18,7 @@ from support import TOOLS
 from lib.tool import command
 
 try:
-    from lib.office import budgets, day_writer, folder, guards, observed, programs, tokens, web
+    from lib.office import budgets, folder, guards, observed, programs, refusals, tokens, web
     from lib.office import serve as serving
     from lib.office import tables as reader
 except ImportError:  # without python3-aiohttp and the like, whose tests are skipped
@@ -151,14 +151,14 @@ class Tokens(Office):
 
         found = []
         for number in range(budgets.MOST_GUESSES + 5):
-            with self.assertRaises(day_writer.Refused) as caught:
+            with self.assertRaises(refusals.Refused) as caught:
                 made.require_authorized(asked(number, {"who": "GAS"}))
             found.append(caught.exception.fault)
         self.assertEqual((found[0], found[-1]), ("Token", "TooFast"))
         made.budgets.looks = guards.Buckets(0.001, 3, lambda: 0.0)
         for number in range(3):
             made.budgets.refuse_too_many_looks(asked(number, {}))
-        with self.assertRaises(day_writer.Refused):
+        with self.assertRaises(refusals.Refused):
             made.budgets.refuse_too_many_looks(asked(4, {}))
 
     async def test_an_expectation_passes_no_limit(self):

@@ -13,7 +13,8 @@ It may import: base, journal, lint, receipts, report, results, runs, seal, sheet
 | `desk` | the child process that keeps the journal |
 | `ledger` | the entries of a day in memory: numbers, orders, receipts |
 | `newest` | the newest signed head in a file, with which a start compares the journal |
-| `day_writer` | the one writer of a day: batches, the close, the time |
+| `day_writer`, `submissions` | the one writer of a day: batches, the close, the time; the requests that wait for it |
+| `refusals` | why a request is refused |
 | `programs` | the programs that an office runs |
 | `publishing`, `published` | making the files that are published; what participants see of them |
 | `requests`, `web` | commands in a request; the routes |

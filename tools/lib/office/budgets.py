@@ -2,8 +2,8 @@
 
 import time
 
-from .day_writer import Refused
 from .guards import Buckets, address_or_network
+from .refusals import Refused
 
 COMMANDS_A_SECOND, MOST_COMMANDS = 200, 2_000  # of a participant; many bytes count as several
 BYTES_OF_COMMAND = 100

@@ -2,29 +2,20 @@
 
 import asyncio
 import contextlib
-import dataclasses
 import functools
 import time
 
+from ..journal.journal import Close, command_line
 from . import folder, newest, published, publishing
 from .desk import Desk, Ended
-from ..journal.journal import Close, command_line
 from .ledger import Contradiction, Ledger
+from .refusals import CLOSED_WORDS, STOPPED_WORDS, Refused
+from .submissions import Submission, SubmissionQueue, answer_entered
 
-MOST_BATCH = 1_000  # records that the desk gets at once
 TICK = 0.1  # seconds between two looks at the clock
 FIRST_PAUSE, LONGEST_PAUSE = 0.1, 2.0  # seconds before a desk is started again
 ROOM_PAUSE = 1.0  # seconds between two looks whether a full disk has room
-STOPPED_WORDS = "the day is stopped: ask the operator"
 MOST_ENDS = 5  # of the desk at one batch, without an entry of it
-
-
-class Refused(Exception):
-    """A request that enters nothing: the fault's name, the words for it, and further members of the answer."""
-
-    def __init__(self, fault, words, **more):
-        super().__init__(words)
-        self.fault, self.more = fault, more
 
 
 class Clock:
@@ -38,18 +29,6 @@ class Clock:
         return self.latest
 
 
-@dataclasses.dataclass(eq=False)
-class Waiting:
-    """Commands of one request. `first` is the number that the participant gave the first one. `is_authorized` tells whether its token is
-    still the participant's. The close has no participant."""
-
-    who: str
-    first: int
-    commands: list
-    done: asyncio.Future
-    is_authorized: object = lambda: True
-
-
 class DayWriter:
     """A day that takes commands. `run` is its only task that writes."""
 
@@ -59,8 +38,7 @@ class DayWriter:
         self.ledger = self.make_ledger()
         self.is_known = asyncio.Event()  # the ledger has the journal's entries: before, nothing can be said of any
         self.programs, self.clock, self.log, self.counts = programs, clock, log, counts
-        self.waiting, self.wake = [], asyncio.Event()
-        self.entering = []  # the batch at the desk
+        self.queue = SubmissionQueue()
         self.answering = set()  # the tasks that answer batches
         self.desk, self.watching = None, None  # the desk, and the task that watches it
         self.fault = None  # the fault that stops the day
@@ -95,106 +73,47 @@ class DayWriter:
 
     def submit(self, who, first, commands, is_authorized=lambda: True):
         """The future numbers of the entries of commands. It is called once the whole request is here, and its time counts."""
-        if (held := self.answered_if_entered(who, first, commands)) is not None:
-            return held
+        submission = Submission(who, first, commands, is_authorized)
+        if submission.last <= self.ledger.count(who):
+            answer_entered(self.ledger, submission)
+            return submission.done
         if self.fault:
             raise Refused("Unavailable", STOPPED_WORDS)
         if not self.is_open():
-            raise Refused("Closed", "the day is closed, and this command isn't in its journal")
+            raise Refused("Closed", CLOSED_WORDS)
         if self.newest.is_failing:  # a start wouldn't miss entries that are acknowledged now
             raise Refused("Unavailable", "the office's disk can't be written: send the same command again later", seconds=1)
         share, count = self.ledger.share(who), self.ledger.count(who)
-        if first + len(commands) - 1 > share:
+        if submission.last > share:
             raise Refused("ShareUsed", f"you may enter {share} commands on this day, and have entered {count}", next=count + 1)
-        return self.enqueue(Waiting(who, first, commands, asyncio.get_running_loop().create_future(), is_authorized))
+        self.queue.add(submission)
+        return submission.done
 
-    def enqueue(self, waiting):
-        self.waiting.append(waiting)
-        self.wake.set()
-        return waiting.done
+    # --- the batches
 
-    def answered_if_entered(self, who, first, commands):
-        """The finished future of commands that are all in the journal already; None if some aren't."""
-        if first + len(commands) - 1 > self.ledger.count(who):
-            return None
-        done = asyncio.get_running_loop().create_future()
-        self.answer_entered(Waiting(who, first, commands, done))
-        return done
-
-    def conflict_refusal(self, who, first, commands):
-        """The fault of a request of which a number is used for another command, or comes too early; None if it has none."""
-        count = self.ledger.count(who)
-        for number, command in enumerate(commands[: max(0, count - first + 1)], first):
-            entry, found, _ = self.ledger.entry(who, number)
-            if found != command_line(command):
-                words = f"your command {number} is entry {entry}, and another command"
-                return Refused("NumberUsed", words, number=number, next=count + 1)
-        if first > count + 1:
-            return Refused("NumberAhead", f"your next command has the number {count + 1}", next=count + 1)
-        return None
-
-    # --- the writer
-
-    def take_batch(self):
-        """Takes the next batch from those that wait: pairs of a command and its request. A request whose numbers the batch has already
-        waits until the batch is entered, and the close until all others are."""
-        found, later, taken = [], [], {}
-        queue, self.waiting = self.waiting, []
-        for place, one in enumerate(queue):
-            if one.who is None:
-                if not found and not later and place == len(queue) - 1 and not self.ledger.is_closed:
-                    found.append((one.commands[0], one))
-                elif not self.ledger.is_closed:
-                    later.append(one)
-                continue
-            last = taken.get(one.who, self.ledger.count(one.who))
-            if len(found) >= MOST_BATCH or one.who in taken and one.first != last + 1:
-                later.append(one)
-                continue
-            if one.who not in taken and (fault := self.conflict_refusal(one.who, one.first, one.commands)):
-                fail_future(one.done, fault)
-                continue
-            new = one.commands[last - one.first + 1 :]
-            if not new:
-                self.answer_entered(one)
-                continue
-            if fault := token_refusal(one):
-                fail_future(one.done, fault)
-                continue
-            found += [(command, one) for command in new]
-            taken[one.who] = last + len(new)
-        self.waiting = later + self.waiting
-        return found
-
-    def answer_entered(self, one):
-        """Answers a request whose commands are all entered."""
-        if fault := self.conflict_refusal(one.who, one.first, one.commands):
-            fail_future(one.done, fault)
-        elif not one.done.done():
-            one.done.set_result(self.ledger.own[one.who][one.first - 1 : one.first - 1 + len(one.commands)])
-
-    async def enter_batch(self, batch):
-        """Enters a batch. Its requests are answered once all of it is on the disk."""
-        begin, records = self.ledger.size, [command_line(command) for command, _ in batch]
-        entries = zip((command for command, _ in batch), records)
+    async def enter_batch(self):
+        """Enters the batch of the queue. Its submissions are answered once all of it is on the disk."""
+        commands, begin = [command for command, _ in self.queue.batch], self.ledger.size
+        records = list(map(command_line, commands))
+        entries = zip(commands, records)
         async for reply in self.desk.enter(records):
             self.ledger.enter(*next(entries), reply)
             self.counts.add("entries_total")
         self.counts.add("batches_total")
         self.trouble = None
-        answering = asyncio.create_task(self.answer_batch(begin, self.ledger.size, list(dict.fromkeys(one for _, one in batch))))
+        answering = asyncio.create_task(self.answer_batch(begin, self.ledger.size, self.queue.pop_batch()))
         self.answering.add(answering)
         answering.add_done_callback(self.answering.discard)
 
     async def answer_batch(self, begin, end, entered):
-        """Answers the requests of a batch, with the heads of their receipts signed."""
+        """Answers the submissions of a batch, with the heads of their receipts signed."""
         await self.ledger.sign_ahead(begin, end)
         self.newest.note_head(self.ledger.head(end))
         for one in entered:
             if one.who is None:
                 one.done.cancel()
             else:
-                self.answer_entered(one)
+                answer_entered(self.ledger, one)
 
     async def run(self):
         """Keeps the day until it is published. It ends earlier only if the journal contradicts the ledger or its head."""
@@ -230,8 +149,7 @@ class DayWriter:
         self.log_event("stopped", fault=fault)
         with contextlib.suppress(OSError):
             folder.write_synced(self.files.path_of(folder.STOPPED_DAY), f"{fault}\n".encode())
-        for one in [*self.waiting, *(one for _, one in self.entering)]:
-            fail_future(one.done, Refused("Unavailable", STOPPED_WORDS))
+        self.queue.refuse_all("Unavailable", STOPPED_WORDS)
 
     async def keep_desk(self):
         """Opens the desk, and again whenever it ends, and enters all that comes, until the close is entered."""
@@ -242,30 +160,30 @@ class DayWriter:
                 await self.open_desk()
                 while not self.ledger.is_closed:
                     await self.wait_for_commands()
-                    self.entering = self.take_batch()
-                    if self.entering:
-                        await self.enter_batch(self.entering)
+                    self.queue.take_batch(self.ledger)
+                    if self.queue.batch:
+                        await self.enter_batch()
                         pause, ends = FIRST_PAUSE, 0
-                    self.entering = []
             except (Ended, OSError, asyncio.TimeoutError) as fault:
                 self.is_ready.clear()
                 words = str(fault) or type(fault).__name__
-                self.trouble = words if self.entering else self.trouble
+                self.trouble = words if self.queue.batch else self.trouble
                 await self.end_desk()
                 self.counts.add("desk_ends_total")
                 self.log_event("desk ended", fault=words, **({"entries": self.ledger.size} if self.is_known.is_set() else {}))
                 ends = ends + 1 if self.ledger.size == size else 0
-                self.wait_again(ends)
+                if ends >= MOST_ENDS:
+                    self.queue.refuse_batch("Unavailable", "the desk isn't running: send the same command again later")
+                self.queue.put_back_batch()
                 await asyncio.sleep(pause)
                 pause = min(2 * pause, LONGEST_PAUSE)
-        for one in self.waiting:
-            fail_future(one.done, Refused("Closed", "the day is closed, and this command isn't in its journal"))
+        self.queue.refuse_all("Closed", CLOSED_WORDS)
 
     async def wait_for_commands(self):
         """Waits until a command waits. Ends as the desk does if it ends, also while none waits."""
-        while not (self.waiting or self.watching.done()):
-            self.wake.clear()
-            await self.wake.wait()
+        while not (self.queue.waiting or self.watching.done()):
+            self.queue.wake.clear()
+            await self.queue.wake.wait()
         if self.watching.done():
             self.watching.result()
             raise await self.desk.wait_for_fault()
@@ -278,24 +196,14 @@ class DayWriter:
                 await asyncio.wait_for(desk.wait_for_end(), ROOM_PAUSE if self.trouble else None)
                 break
             except asyncio.TimeoutError:
-                if not (self.waiting or self.entering):
+                if not (self.queue.waiting or self.queue.batch):
                     await self.look_for_room()
-        self.wake.set()
+        self.queue.wake.set()
 
     async def look_for_room(self):
         with contextlib.suppress(OSError):
             await asyncio.to_thread(self.files.require_room)
             self.trouble = None
-
-    def wait_again(self, ends):
-        """The requests at which the desk ended wait again: at its next opening the desk shows which commands it entered. If it ends each
-        time, they are answered that nobody knows yet."""
-        again, self.entering = list(dict.fromkeys(one for _, one in self.entering)), []
-        if ends >= MOST_ENDS:
-            for one in (one for one in again if one.who is not None):
-                fail_future(one.done, Refused("Unavailable", "the desk isn't running: send the same command again later"))
-            again = [one for one in again if one.who is None]
-        self.waiting = again + self.waiting
 
     async def open_desk(self):
         began = time.monotonic()
@@ -342,23 +250,4 @@ class DayWriter:
         if not self.is_closing:
             self.is_closing = True
             self.log_event("closing", entries=self.ledger.size)
-            self.enqueue(Waiting(None, 0, [Close()], asyncio.get_running_loop().create_future()))
-
-
-def token_refusal(one):
-    """The fault of a request whose token isn't its participant's now; None if it is."""
-    try:
-        return None if one.is_authorized() else Refused("Token", "the token isn't of this participant any more")
-    except folder.UNREADABLE:  # the requests behind this one, and the close, mustn't be lost
-        return unread_tokens_refusal()
-
-
-def unread_tokens_refusal():
-    """The fault of a request while the file of the tokens can't be read."""
-    return Refused("Unavailable", "the office can't read its tokens: send the same command again", seconds=1)
-
-
-def fail_future(done, fault):
-    if not done.done():
-        done.set_exception(fault)
-        done.exception()  # nobody may be waiting for it any more
+            self.queue.add(Submission(None, 0, [Close()]))

@@ -9,7 +9,7 @@ import webbrowser
 from ..seal import heads
 from ..tool import command, file_io
 from . import folder, observed, setup, tokens
-from .day_writer import Refused
+from .refusals import Refused
 from .serve import Office, serve
 
 DAY_AFTER = datetime.timedelta(days=1)

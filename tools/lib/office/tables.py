@@ -12,7 +12,7 @@ if not __package__:  # the program: an isolated Python leaves the tools out
     sys.path.insert(0, str(Path(__file__).resolve().parents[2]))
 
 from lib.office import programs, requests
-from lib.office.day_writer import Refused
+from lib.office.refusals import Refused
 
 MOST_SECONDS = 20  # for a table
 MOST_MEMORY = 1 << 29  # bytes of addresses; a workbook of 1 MiB takes a tenth

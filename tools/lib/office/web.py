@@ -17,7 +17,7 @@ from ..journal import book
 from ..report import style
 from ..seal import heads
 from . import budgets, folder, requests, tables
-from .day_writer import STOPPED_WORDS, Refused, unread_tokens_refusal
+from .refusals import STOPPED_WORDS, Refused, unread_tokens_refusal
 
 MOST_BODY = 1 << 20  # bytes
 BODY_SECONDS = 15  # for a body to come
@@ -421,7 +421,7 @@ class Web:
         gauges = [("right", int(self.office.is_healthy))]
         for name, writer in self.office.writers.items():
             label = f'{{day="{name}"}}'
-            gauges += [(f"entries{label}", writer.ledger.size), (f"waiting{label}", len(writer.waiting))]
+            gauges += [(f"entries{label}", writer.ledger.size), (f"waiting{label}", len(writer.queue.waiting))]
             gauges += [(f"ready{label}", int(writer.is_healthy)), (f"open{label}", int(writer.state == folder.OPEN))]
         return web.Response(text=self.counts.prometheus_text(gauges), content_type="text/plain")
 
