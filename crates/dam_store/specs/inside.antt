@@ -1,3 +1,4 @@
 -- Only contracts inside this crate cite these, and the invariants of its types.
+pub mod Reading
 pub mod Shape
 pub mod Synced

@@ -1,7 +1,8 @@
-ghost use Rattle.std.specs.Prelude.{◌≡◌, ◌⊎◌, ◌<◌, ◌≤◌, ℕ, List, true, false, not, length, IsTrue, IfOk, IfErr, OnOk, OnErr};
-ghost use Rattle.sqlite_disk.specs.Disk.{Torn, Holds, Follows, CountsFault, MoreFaults};
+ghost use Rattle.std.specs.Prelude.{◌≡◌, ◌⊎◌, ◌<◌, ◌≤◌, true, not, length, IsTrue, IfOk, IfErr, OnOk, OnErr};
+ghost use Rattle.sqlite_disk.specs.Disk.{Torn, Holds, Follows, CountsFault};
 ghost use Rattle.dam_store.specs.Limits.{most_file_bytes};
-ghost use Rattle.dam_store.specs.Faults.{is_failed_read, is_failed_sync, is_failed_write, is_failure, is_refused_file, IsRefused};
+ghost use Rattle.dam_store.specs.Faults.{is_failed_read, is_failed_sync, is_failed_write, is_failure, is_refused_file};
+ghost use Rattle.dam_store.specs.inside.Reading.{OnlyReads};
 ghost use Rattle.dam_store.specs.inside.Synced.{IsReadWhole, IsSynced};
 ghost use Rattle.dam_store.specs.declared.fault.StoreFault.TheVariants.{Memory};
 
@@ -43,18 +44,7 @@ pub(crate) fn read_file<D: Disk>(alloc: Global, disk: &mut D) -> Result<Vec<u8>,
     requires synced { IsSynced D.Disk disk.old }
     ensures read { IfOk result (λ bytes. IsReadWhole D.Disk disk.new bytes.items) }
     ensures short { IfOk result (λ bytes. length bytes.items ≤ most_file_bytes) }
-    ensures seen { D.Disk.seen disk.new ≡ D.Disk.seen disk.old }
-    ensures clean { IsTrue (D.Disk.is_clean disk.new) → IsTrue (D.Disk.is_clean disk.old) }
-    ensures crash { (file : List ℕ) → D.Disk.may_leave disk.new file
-        → D.Disk.may_leave disk.old file }
-    ensures faults { OnOk result (D.Disk.faults disk.new ≡ D.Disk.faults disk.old) }
-    ensures failure { IfErr result (λ fault. is_failure fault ≡ true
-        → MoreFaults (D.Disk.faults disk.old) (D.Disk.faults disk.new)) }
-    ensures no_failure { IfErr result (λ fault. is_failure fault ≡ false
-        → D.Disk.faults disk.new ≡ D.Disk.faults disk.old) }
-    ensures refusal { IfErr result (λ fault. is_refused_file fault ≡ true
-        → IsTrue (D.Disk.is_clean disk.new)
-        → IsRefused (D.Disk.seen disk.old) fault) }
+    ensures reads { OnlyReads D.Disk disk.old disk.new result }
     ensures no_other { IfErr result (λ fault. (is_failed_read fault ≡ true)
         ⊎ (is_refused_file fault ≡ true) ⊎ (fault ≡ Memory)) }
     ensures usable { OnErr result (IsTrue (D.Disk.is_usable disk.new)) }

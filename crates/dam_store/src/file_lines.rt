@@ -1,10 +1,9 @@
 //! The lines of a store as a text, read from the bytes of its file, or from its disk.
-ghost use Rattle.std.specs.Prelude.{◌≡◌, ◌⊎◌, ◌≤◌, ℕ, List, true, false, not, length, drop, IsTrue, IfOk, IfErr, OnOk};
-ghost use Rattle.sqlite_disk.specs.Disk.{MoreFaults};
+ghost use Rattle.std.specs.Prelude.{◌≡◌, ◌⊎◌, ◌≤◌, ℕ, List, true, not, length, drop, IsTrue, IfOk, IfErr, OnOk};
 ghost use Rattle.dam_store.specs.Limits.{most_file_bytes};
 ghost use Rattle.dam_store.specs.FileLines.{text_of, StandsFor};
-ghost use Rattle.dam_store.specs.Store.{IsUntouched};
-ghost use Rattle.dam_store.specs.Faults.{is_failed_read, is_failed_sync, is_failure, is_refused_file, IsRefused};
+ghost use Rattle.dam_store.specs.Faults.{is_failed_read, is_failed_sync, is_refused_file, IsRefused};
+ghost use Rattle.dam_store.specs.inside.Reading.{OnlyReads};
 ghost use Rattle.dam_store.specs.inside.Shape.{IsEnd, rest_of};
 ghost use Rattle.dam_store.specs.inside.Synced.{IsRest, IsSynced};
 ghost use Rattle.dam_store.specs.declared.fault.StoreFault.TheVariants.{Memory};
@@ -98,16 +97,7 @@ pub(crate) fn sync_and_read<D: Disk>(
     ensures text { IfOk result (λ found. IsTrue (D.Disk.is_clean disk.new)
         → (lines : List (List ℕ)) × StandsFor lines (D.Disk.seen disk.old)
         × (found.1.text.items ≡ text_of lines)) }
-    ensures untouched { IsUntouched D.Disk disk.old disk.new }
-    ensures clean { IsTrue (D.Disk.is_clean disk.new) → IsTrue (D.Disk.is_clean disk.old) }
-    ensures faults { OnOk result (D.Disk.faults disk.new ≡ D.Disk.faults disk.old) }
-    ensures failure { IfErr result (λ fault. is_failure fault ≡ true
-        → MoreFaults (D.Disk.faults disk.old) (D.Disk.faults disk.new)) }
-    ensures no_failure { IfErr result (λ fault. is_failure fault ≡ false
-        → D.Disk.faults disk.new ≡ D.Disk.faults disk.old) }
-    ensures refusal { IfErr result (λ fault. is_refused_file fault ≡ true
-        → IsTrue (D.Disk.is_clean disk.new)
-        → IsRefused (D.Disk.seen disk.old) fault) }
+    ensures reads { OnlyReads D.Disk disk.old disk.new result }
     ensures no_other { IfErr result (λ fault. (is_failed_read fault ≡ true)
         ⊎ (is_failed_sync fault ≡ true) ⊎ (is_refused_file fault ≡ true) ⊎ (fault ≡ Memory)) }
     ensures usable { IfErr result
