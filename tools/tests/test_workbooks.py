@@ -13,7 +13,8 @@ from unittest import mock
 
 from support import AUCTION, run_tool
 
-import workbooks as made
+import costly_workbooks as costly
+import drawn_workbooks as made
 from lib.runs import errors
 from lib.sheets import cell_values, order_table, sheets
 from lib.tool import command
@@ -138,13 +139,13 @@ class Faults(Read):
 
     def test_a_workbook_takes_little_memory(self):
         """Of its shared strings none is kept twice, and of its faults only those that are printed."""
-        cells = b"<row>" + b"<c t='str'><v>%s</v></c>" % (made.WIDE * 45) * 9 + b"</row>"
+        cells = b"<row>" + b"<c t='str'><v>%s</v></c>" % (costly.WIDE * 45) * 9 + b"</row>"
         shared = [b"<row>%s</row>" % b"".join(b"<c t='s'><v>%d</v></c>" % at for at in range(row, row + 30)) for row in range(0, 60_000, 30)]
-        strings = {made.SHARED: made.wide_strings(60_000, made.WIDE * 6 + b"%d")}
+        strings = {made.SHARED: costly.wide_strings(60_000, costly.WIDE * 6 + b"%d")}
         periods = b"".join(order(at, f"K{at}").replace(b"<v>8</v>", b"<v>1-100</v>") for at in range(2, 2_002))
-        formats = {"xl/styles.xml": made.one_format(30_000)}
+        formats = {"xl/styles.xml": costly.styles_of_one_format(30_000)}
         for data, most, more in (
-            (made.workbook_of_sheet(made.OPEN, made.numbers(made.spelled, 60_000), made.CLOSE, **formats), 9, "\nand 19,980 more\n"),
+            (made.workbook_of_sheet(made.OPEN, costly.rows_of_numbers(costly.spelled_style, 60_000), made.CLOSE, **formats), 9, "\nand 19,980 more\n"),
             (made.workbook_of_sheet(made.OPEN, *[cells] * 1_000, made.CLOSE), 9, "\nand 8,980 more\n"),
             (made.workbook_of_sheet(made.OPEN, *shared, made.CLOSE, **strings), 12, "\nand 19,980 more\n"),
             (made.workbook_of_sheet(made.OPEN, periods, made.CLOSE), 8, "\nand 1,956 more\n"),

@@ -1,0 +1,251 @@
+"""The ways in which a random workbook is broken: each changes a drawn one, or returns its bytes, and returns the words that the fault must
+have."""
+
+import re
+import zipfile
+
+from drawn_workbooks import SHEET, Cell, archive_bytes, column_letters
+
+
+def breaking_rows(words):
+    """Makes a break of a change to the list of rows, with the words of its fault."""
+
+    def breaking(change):
+        def break_rows(drawn):
+            drawn.has_places = True
+            drawn.rows = change(drawn.rng, list(drawn.rows))
+            return words
+
+        break_rows.__name__ = change.__name__
+        return break_rows
+
+    return breaking
+
+
+@breaking_rows("should increase")
+def swap_rows(rng, rows):
+    at = rng.randrange(1, len(rows))
+    rows[at - 1], rows[at] = rows[at], rows[at - 1]
+    return rows
+
+
+@breaking_rows("occurs twice")
+def repeat_row(rng, rows):
+    at = rng.randrange(1, len(rows))
+    rows[at] = rows[at - 1][0], rows[at][1]
+    return rows
+
+
+@breaking_rows("they go from 1 to 1048576")
+def add_row_far_away(rng, rows):
+    return [*rows, (rng.choice([1_048_577, 5_000_000, 999_999_999]), rows[0][1])]
+
+
+def breaking_cells(words):
+    """Makes a break of a change to the cells of one row, with the words of its fault."""
+
+    def breaking(change):
+        def change_row(rng, rows):
+            at = rng.randrange(len(rows))
+            number, cells = rows[at]
+            rows[at] = number, change(rng, list(cells))
+            return rows
+
+        change_row.__name__ = change.__name__
+        return breaking_rows(words)(change_row)
+
+    return breaking
+
+
+@breaking_cells("should increase")
+def swap_cells(rng, cells):
+    at = rng.randrange(1, len(cells))
+    cells[at - 1], cells[at] = cells[at], cells[at - 1]
+    return cells
+
+
+@breaking_cells("occurs twice")
+def repeat_cell(rng, cells):
+    at = rng.randrange(1, len(cells))
+    cells[at] = cells[at - 1][0], cells[at][1]
+    return cells
+
+
+@breaking_cells("")
+def add_cell_far_away(rng, cells):
+    return [*cells, (rng.choice([16_385, 20_000, 500_000]), cells[0][1])]
+
+
+@breaking_cells("")
+def replace_cell_by_no_kind(rng, cells):
+    wrong = ['t="x"|<v>1</v>', 't="b"|<v>2</v>', "|<v>NaN</v>", "|<v>1e999</v>", "|<v>1 2</v>", 't="s"|<v>9999</v>', 't="s"|<v>-1</v>']
+    wrong += ["|<v>1</v><v>2</v>", "|<is><t>1</t></is>", 't="inlineStr"|<v>1</v>', "|<w>1</w>", "|<v>1<t>2</t></v>", 's="99"|<v>1</v>']
+    wrong += ['s="x"|<v>1</v>', 's="1"|<v>-5</v>', "|<f>1</f><f>2</f><v>1</v>", f't="str"|<v>{"x" * 40_000}</v>', 't="d"|<v>May</v>']
+    at = rng.randrange(len(cells))
+    attributes, content = rng.choice(wrong).split("|")
+    cells[at] = cells[at][0], Cell(attributes, content, "")
+    return cells
+
+
+def merge_cells(drawn):
+    if len(drawn.expected_rows()) < 2:
+        return repeat_cell(drawn)
+    (first, _), *_, (last, cells) = drawn.expected_rows()
+    drawn.after = f'<mergeCells><mergeCell ref="A{first}:{column_letters(len(cells))}{last}"/></mergeCells>'
+    return "are merged"
+
+
+def add_second_table(drawn):
+    drawn.after = '<sheetData><row r="9999"/></sheetData>'
+    return "two elements 'sheetData'"
+
+
+def changing_sheet(change):
+    """Makes a break of a change to the text of the sheet, which returns the words of its fault too."""
+
+    def break_sheet(drawn):
+        content = drawn.draw_sheet_text()
+        changed, words = change(drawn.rng, content)
+        drawn.changes[SHEET] = drawn.qualified_part(changed).encode()
+        return words
+
+    break_sheet.__name__ = change.__name__
+    return break_sheet
+
+
+def draw_place(rng, content, marks):
+    """A place in a text before one of these marks."""
+    mark = rng.choice([mark for mark in marks if mark in content])
+    places = [found.start() for found in re.finditer(rf"(?<!CDATA\[){re.escape(mark)}", content)]
+    return rng.choice(places)
+
+
+@changing_sheet
+def wrap_row_or_cell(rng, content):
+    """Puts a row or a cell into an element that is left out, or into another one."""
+    name = rng.choice(["row", "c"])
+    begin = re.search(rf"<{name}[ >]", content).start()
+    end = content.index(f"</{name}>", begin) + len(f"</{name}>")
+    around = rng.choice(["extLst", "rPh", "rPr", "sheetData", "x", "cols"])
+    return f"{content[:begin]}<{around}>{content[begin:end]}</{around}>{content[end:]}", "stands in"
+
+
+@changing_sheet
+def add_row_behind_the_cells(rng, content):
+    """Adds a row behind the table of cells, or next to it."""
+    row = '<row r="1048576"><c r="A1048576"><v>1</v></c></row>'
+    around = rng.choice(["", "sheetPr", "x", "extLst", "sheetData"])
+    row = f"<{around}>{row}</{around}>" if around else row
+    end = content.index("</sheetData>") + len("</sheetData>")
+    return f"{content[:end]}{row}{content[end:]}", ""
+
+
+@changing_sheet
+def insert_text_in_wrong_place(rng, content):
+    marks = ["<sheetData", "</row>", "</sheetData>", "<c ", "<v>", "<f>", "</c>", "<is>", "</is>", "<mergeCell", "<t>"]
+    at = draw_place(rng, content, marks)
+    text = rng.choice(["PAIR", "&#160;", "0", "<![CDATA[<row>]]>"])
+    return f"{content[:at]}{text}{content[at:]}", "stands in"
+
+
+def merge_cells_backwards(drawn):
+    """Merges the cells from the last one to the first one, or further."""
+    if len(drawn.expected_rows()) < 2:
+        return repeat_cell(drawn)
+    (first, _), *_, (last, cells) = drawn.expected_rows()
+    ends = [f"A{last + drawn.rng.choice([0, 9])}", f"{column_letters(len(cells) + drawn.rng.choice([0, 9]))}{first}"]
+    if drawn.rng.random() < 0.5:
+        ends = [f"{column_letters(len(cells))}{last + drawn.rng.choice([0, 9])}", f"A{first}"]
+    drawn.after = f'<mergeCells><mergeCell ref="{":".join(ends)}"/></mergeCells>'
+    return "are merged"
+
+
+def place_cell_in_another_row(drawn):
+    number, cells = drawn.rows[0]
+    drawn.has_places = True
+    letters = column_letters(cells[0][0])
+    content = drawn.qualified_part(drawn.draw_sheet_text()).replace(f'r="{letters}{number}"', f'r="{letters}{number + 1}"')
+    drawn.changes[SHEET] = content.encode()
+    return "a cell of this row has the place"
+
+
+def add_cell_of_another_namespace(drawn):
+    """Adds a cell of another namespace, which Excel wouldn't show."""
+    content = drawn.qualified_part(drawn.draw_sheet_text())
+    at = content.index(f"</{drawn.prefix}row>")
+    drawn.changes[SHEET] = f'{content[:at]}<o:c xmlns:o="other"><o:v>1</o:v></o:c>{content[at:]}'.encode()
+    return "stands in 'row'"
+
+
+def add_document_type(drawn):
+    content = drawn.qualified_part(drawn.draw_sheet_text())
+    drawn.changes[SHEET] = f'<!DOCTYPE a [<!ENTITY e "1">]>{content}'.encode()
+    return "document type"
+
+
+def leave_out_part(drawn):
+    name = drawn.rng.choice(["_rels/.rels", "xl/workbook.xml", "xl/_rels/workbook.xml.rels", SHEET, "xl/styles.xml"])
+    return archive_bytes({each: content for each, content in drawn.draw_parts().items() if each != name})
+
+
+def repeat_part(drawn):
+    parts = drawn.draw_parts()
+    name = drawn.rng.choice(list(parts))
+    return archive_bytes({**parts, name.swapcase(): parts[name]})
+
+
+def cut_part(drawn):
+    parts = drawn.draw_parts()
+    name = drawn.rng.choice([each for each in parts if each.startswith("xl/w")][:2])
+    return archive_bytes({**parts, name: parts[name].rstrip()[:-1]})
+
+
+def change_byte_of_part(drawn):
+    """Changes one byte of a part, which isn't compressed."""
+    data = bytearray(archive_bytes(drawn.draw_parts(), zipfile.ZIP_STORED))
+    data[data.index(SHEET.encode()) + len(SHEET) + 200] ^= 1
+    return bytes(data)
+
+
+def change_size(drawn):
+    """Lets the directory state another size of a part."""
+    data = bytearray(drawn.draw_bytes())
+    at = data.rindex(SHEET.encode()) - 46
+    data[at + 24] ^= 1
+    return bytes(data)
+
+
+def compress_otherwise(drawn):
+    return archive_bytes(drawn.draw_parts(), drawn.rng.choice([zipfile.ZIP_BZIP2, zipfile.ZIP_LZMA]))
+
+
+def cut_archive(drawn):
+    data = drawn.draw_bytes()
+    return data[: drawn.rng.randrange(4, len(data) - 22)]
+
+
+BREAKS = [
+    swap_rows,
+    repeat_row,
+    add_row_far_away,
+    swap_cells,
+    repeat_cell,
+    add_cell_far_away,
+    replace_cell_by_no_kind,
+    merge_cells,
+    add_second_table,
+    wrap_row_or_cell,
+    add_row_behind_the_cells,
+    insert_text_in_wrong_place,
+    merge_cells_backwards,
+    place_cell_in_another_row,
+    add_cell_of_another_namespace,
+    add_document_type,
+    leave_out_part,
+    repeat_part,
+    cut_part,
+    change_byte_of_part,
+    change_size,
+    compress_otherwise,
+    cut_archive,
+]

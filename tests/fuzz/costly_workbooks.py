@@ -1,0 +1,147 @@
+"""Workbooks and texts of at most 5 MB that are made to take memory and time."""
+
+from drawn_workbooks import CLOSE, HEADS, MAIN, OFFICE, OPEN, RELATIONS, ROOT, SHARED, STYLES, archive_bytes, workbook_of_sheet
+from lib.sheets import order_table
+
+TEXT = ";".join(order_table.ORDER).encode() + b"\n"
+WIDE = "\U0001f600".encode()
+LONG_NAME = "the name of an element has more than"
+
+
+def table_workbook(*pieces, **parts):
+    """A workbook of a table of orders, with these pieces behind its first row; other parts by name."""
+    return workbook_of_sheet(OPEN, *pieces, CLOSE, **parts)
+
+
+def order_row(number, row=""):
+    cells = "".join(f"<c t='inlineStr'><is><t>{cell}</t></is></c>" for cell in ("A", f"H{number}", "hour", "buy", 1, 8, 5))
+    return f"<row{row}>{cells}</row>".encode()
+
+
+def shared_strings(count, length):
+    yield f'<sst xmlns="{MAIN[0]}">'.encode()
+    yield from (b"<si><t>%d%s</t></si>" % (number, b"x" * length) for number in range(count))
+    yield b"</sst>"
+
+
+def wide_strings(count, form):
+    yield f'<sst xmlns="{MAIN[0]}">'.encode()
+    yield from (b"<si><t>%s</t></si>" % (form % number if b"%" in form else form) for number in range(count))
+    yield b"</sst>"
+
+
+def styles_of_formats(count, code):
+    yield f'<styleSheet xmlns="{MAIN[0]}"><numFmts>'.encode()
+    yield from (b'<numFmt numFmtId="%d" formatCode="%s"/>' % (number, code) for number in range(200, 200 + count))
+    yield b'</numFmts><cellXfs><xf numFmtId="200"/></cellXfs></styleSheet>'
+
+
+def styles_of_one_format(count):
+    cells = '<xf numFmtId="2"/>' * count
+    return f'<styleSheet xmlns="{MAIN[0]}"><cellXfs>{cells}</cellXfs></styleSheet>'.encode()
+
+
+def rows_of_numbers(style, count=299_000):
+    """Rows of numbers of 11 digits, each with a style by its place."""
+    cell = b"<c s='%s'><v>%d</v></c>"
+    return (b"<row>%s</row>" % b"".join(cell % (style(at), 10**10 + at) for at in range(row, row + 30)) for row in range(0, count, 30))
+
+
+def spelled_style(at):
+    """The number of one of 30,000 formats, with zeros before it: no two are alike."""
+    return b"%s%05d" % (b"0" * (at // 30_000), at % 30_000)
+
+
+def namespace_declarations(count):
+    return b"".join(b' xmlns:p%d="u"' % number for number in range(count))
+
+
+def workbook_of_long_names(form):
+    """A workbook with elements of this form, each with a long name in it."""
+    elements = (form % (b"a" * 60_000 + b"%d" % number) for number in range(1_500))
+    return workbook_of_sheet(ROOT, b"<cols>", elements, CLOSE)
+
+
+def workbook_of_sheets(sheets):
+    """A workbook whose sheets have these rows, none of which is named as the one that is preferred; the last one is a table of orders."""
+    sheets = [*sheets, [b"<row>", HEADS, b"</row>", order_row(1)]]
+    relation = '<Relationship Id="r{0}" Type="{1}/worksheet" Target="worksheets/{0}.xml"/>'
+    listed = "".join(f'<sheet name="S{at}" sheetId="{at + 1}" r:id="r{at}"/>' for at in range(len(sheets)))
+    rels = f'<Relationships xmlns="{RELATIONS}">{{}}</Relationships>'
+    told = rels.format("".join(relation.format(at, OFFICE[0]) for at in range(len(sheets))))
+    texts = {
+        "_rels/.rels": rels.format(f'<Relationship Id="r1" Type="{OFFICE[0]}/officeDocument" Target="xl/workbook.xml"/>'),
+        "xl/workbook.xml": f'<workbook xmlns="{MAIN[0]}" xmlns:r="{OFFICE[0]}"><sheets>{listed}</sheets></workbook>',
+        "xl/_rels/workbook.xml.rels": told,
+    }
+    cells = {f"xl/worksheets/{at}.xml": [ROOT, b"<sheetData>", *rows, CLOSE] for at, rows in enumerate(sheets)}
+    return archive_bytes({**{name: content.encode() for name, content in texts.items()}, **cells})
+
+
+# The few, and all: each with the words of its fault, None for a table that is read, and "" for either.
+FEW = {
+    "a row far away": ("the number '5000000'", lambda: table_workbook(order_row(1, ' r="5000000"'))),
+    "the last row": (None, lambda: table_workbook(order_row(1, ' r="1048576"'))),
+    "200,000 orders": ("at most 10,000 rows", lambda: table_workbook(map(order_row, range(200_000)))),
+    "a million empty rows": (None, lambda: table_workbook((b"<row/>" * 1_000 for _ in range(1_000)), order_row(1))),
+    "a cell of 16 MB": ("more than 32,767 characters", lambda: table_workbook(b"<row><c><v>", b"1" * 2**24, b"</v></c></row>")),
+    "a tag of 16 MB": ("a tag has more than", lambda: table_workbook(b"<row a='", (b"1" * 2**16 for _ in range(256)), b"'/>")),
+    "elements in one another": ("in one another", lambda: workbook_of_sheet(ROOT, b"<extLst>", b"<a>" * 2**20, CLOSE)),
+    "names": ("names of elements", lambda: workbook_of_sheet(ROOT, b"<cols>", (b"<a%d/>" % number for number in range(10**6)), CLOSE)),
+    "namespaces": ("namespaces", lambda: table_workbook((b"<row%s/>" % namespace_declarations(4_000) for _ in range(50)))),
+    "long names": (LONG_NAME, lambda: workbook_of_long_names(b"<%s/>")),
+    "long names of attributes": (LONG_NAME, lambda: workbook_of_long_names(b"<a %s=''/>")),
+    "long namespaces": (LONG_NAME, lambda: workbook_of_long_names(b"<a xmlns='%s'/>")),
+    "first rows": (None, lambda: workbook_of_sheets([[b"<row>", b"<c t='str'><v>%s</v></c>" % (b"x" * 32_000) * 124, b"</row>"]] * 23)),
+    "parts": ("more than 2,000 parts", lambda: archive_bytes({str(number): b"" for number in range(12_000)})),
+    "a text of empty lines": ("at most 1,048,576 lines", lambda: TEXT + b"\n" * 4_900_000),
+    "a text of short cells": ("more than 300,000 cells", lambda: TEXT + (b"ab;" * 16_000 + b"\n") * 100),
+}
+LARGE = {
+    "1 GB of spaces": ("MiB in its parts", lambda: table_workbook((b" " * 2**20 for _ in range(2**10)))),
+    "lines": ("", lambda: table_workbook((b"\n" * 2**20 for _ in range(95)))),
+    "formatted rows": (None, lambda: table_workbook((b'<row ht="15" customHeight="1" spans="1:9" s="0"/>' for _ in range(10**6)))),
+    "three million cells": ("elements", lambda: table_workbook((b"<row>" + b"<c/>" * 10_000 + b"</row>" for _ in range(300)))),
+    "attributes": ("", lambda: table_workbook(
+        (b"<row%s/>" % b"".join(b' a%d=""' % number for number in range(3_000)) for _ in range(3_800)))),
+    "wide rows": ("cells before this one", lambda: table_workbook(
+        (b"<row>" + b"<c><v>1</v></c>" * 16_000 + b"</row>" for _ in range(40)))),
+    "far cells": ("cells before this one", lambda: table_workbook(
+        (b'<row r="%d"><c r="XFD%d"><v>1</v></c></row>' % (at, at) for at in range(2, 9_000)))),
+    "many cells": ("", lambda: table_workbook((
+        b"<row>%s</row>" % b"".join(b"<c t='str'><v>%d.%d</v></c>" % (row, at) for at in range(30)) for row in range(9_990)))),
+    "wide characters": ("", lambda: table_workbook(
+        (b"<row><c t='str'><v>" + b"\xf0\x9f\x98\x80" * 400 + b"</v></c></row>" for _ in range(10_000)))),
+    "formats": (None, lambda: table_workbook(order_row(1), **{STYLES: styles_of_formats(5_000, b"[" * 20)})),
+    "much text of formats": ("characters in its number formats", lambda: table_workbook(
+        order_row(1), **{STYLES: styles_of_formats(5_000, b"[" * 255)})),
+    "formats, and many cells": ("", lambda: table_workbook(
+        rows_of_numbers(lambda at: b"0"), **{STYLES: styles_of_formats(5_000, b"0" * 20)})),
+    "long formats": ("a format has more than", lambda: table_workbook(**{STYLES: styles_of_formats(1_500, b"[" * 60_000)})),
+    "many formats": ("number formats", lambda: table_workbook(**{STYLES: styles_of_formats(10**6, b"[")})),
+    "unused strings": (None, lambda: table_workbook(b"<row><c t='s'><v>5</v></c></row>", **{SHARED: shared_strings(700_000, 3)})),
+    "strings of first rows": ("in the first rows of its sheets", lambda: workbook_of_sheets(
+        [[b"<row>", *(b"<c t='s'><v>%d</v></c>" % (2**14 * sheet + at) for at in range(2**14)), b"</row>"] for sheet in range(40)])),
+    "used strings": ("bytes of text in its cells", lambda: table_workbook(
+        (b"<row><c t='s'><v>%d</v></c></row>" % row for row in range(9_999)), **{SHARED: shared_strings(10_000, 500)})),
+    "formatted cells": ("", lambda: table_workbook((
+        b"<row>%s</row>" % b"".join(b"<c s='3'><v>%d.%d</v></c>" % (row, at) for at in range(30)) for row in range(9_990)))),
+    "numbers with one format": ("", lambda: table_workbook(rows_of_numbers(lambda at: b"0"), **{STYLES: styles_of_one_format(1)})),
+    "formats in many spellings": ("", lambda: table_workbook(rows_of_numbers(spelled_style), **{STYLES: styles_of_one_format(30_000)})),
+    "these, and many parts": ("", lambda: table_workbook(
+        rows_of_numbers(spelled_style), **{STYLES: styles_of_one_format(30_000), **{str(at): b"" for at in range(1_980)}})),
+    "a text of empty cells": ("a row has at most 16384 cells", lambda: TEXT + (b";" * 10**6 + b"\n") * 3 + b";" * 10**6 + b"a"),
+    "a text of wide characters": ("bytes of text up to this line", lambda: TEXT + (b"\xf0\x9f\x98\x80" * 30_000 + b";\n") * 41),
+    "a text of spaces": ("line 2", lambda: TEXT + (b"A;K;block;buy;1;7:00%sx;5\n" % (b" " * 30_000)) * 130),
+    "wide cells": ("bytes of text before this cell", lambda: table_workbook(
+        (b"<row>" + b"<c t='str'><v>%s</v></c>" % (WIDE * 45) * 9 + b"</row>" for _ in range(10_000)))),
+    **{f"{count} wide strings": ("", lambda count=count, form=form: table_workbook(
+        (b"<row>" + b"".join(b"<c t='s'><v>%d</v></c>" % at for at in range(row, min(row + 30, count))) + b"</row>"
+         for row in range(0, count, 30)), **{SHARED: wide_strings(count, form)}))
+       for count, form in ((299_900, WIDE * 6 + b"%d"), (210_000, WIDE * 4), (299_900, b"%d"), (210_000, WIDE + b"%d"))},
+    "blocks of many periods": ("BlocksFull", lambda: table_workbook((
+        b"<row>%s</row>" % b"".join(b"<c t='str'><v>%b</v></c>" % cell for cell in (b"A,K%d,block,sell,1,1-100,5" % at).split(b","))
+        for at in range(9_999)))),
+    "one string often": ("bytes of text before this cell", lambda: table_workbook(
+        (b"<row>" + b"<c t='s'><v>0</v></c>" * 9 + b"</row>" for _ in range(9_999)), **{SHARED: shared_strings(1, 32_000)})),
+}  # fmt: skip
