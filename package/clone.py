@@ -78,7 +78,7 @@ def refuse_changes():
 def refuse_old():
     """Ends the tool if something that was built is missing, or not of the present sources."""
     for name, crate in BUILT.items():
-        fault = sources.read_build_fault(TOP / name, crate)
+        fault = sources.read_stale_words(TOP / name, crate)
         if fault:
             raise command.Stop(f"{fault}: run {MADE_BY[name]}")
 

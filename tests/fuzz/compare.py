@@ -120,7 +120,7 @@ def right_results(read):
         return None
     found, _ = best.enumerate_all(problem)
     text = results.results_text(problem, found.accepted, selection.outcome(problem, found.accepted)).encode()
-    _, wrong = check.results_and_differences(problem, text)
+    _, wrong = check.results_and_faults(problem, text)
     if wrong:
         raise AssertionError(f"the audit refuses its own results: {wrong[0]}")
     return Printed(0, text, b"")

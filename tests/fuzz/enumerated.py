@@ -111,7 +111,7 @@ def run_for_faults(program, data, jobs):
     got = program.run_for_output(["clear"], data)
     if got.status:
         return f"the program ends with {got.stderr.decode().strip() or f'status {got.status}'}", None
-    said, wrong = check.results_and_differences(problem, got.stdout)
+    said, wrong = check.results_and_faults(problem, got.stdout)
     if wrong:
         return wrong[0], None
     above = best_above(problem, said, jobs)
@@ -123,7 +123,7 @@ def run_for_faults(program, data, jobs):
         return None, None
     kind = "of less welfare" if altered[1] < said.welfare else "of the same welfare"
     text = results.results_text(problem, altered[0], selection.outcome(problem, altered[0])).encode()
-    published, wrong = check.results_and_differences(problem, text)
+    published, wrong = check.results_and_faults(problem, text)
     if wrong:
         return f"altered to {sorted(altered[0])} it isn't as the rules say: {wrong[0]}", kind
     above = best_above(problem, published, jobs)

@@ -200,7 +200,7 @@ def run_for_faults_of_results(program, data, held, least):
     if ended and (ended.status, ended.stdout, ended.stderr) != (3, b"", b"unfinished: piece %d after 1 nodes\n" % least):
         yield f"clear {' '.join(ONE_NODE)}: {ended.stderr.decode().strip() or f'status {ended.status}'}"
     if not printed[0].status:
-        _, wrong = check.results_and_differences(selection.Problem(held), printed[0].stdout)
+        _, wrong = check.results_and_faults(selection.Problem(held), printed[0].stdout)
         yield from wrong[:1]
 
 

@@ -136,7 +136,7 @@ class ProveTests(RepositoryCase):
     def run_for_fault(self, name="dam_cli"):
         """Returns the answer of tools/lib/crates/sources.py about a program."""
         path = f"{self.at.top}/crates/{name}/out/{name}"
-        asked = f"from lib.crates import sources; print(sources.read_build_fault({path!r}, {name!r}) or '')"
+        asked = f"from lib.crates import sources; print(sources.read_stale_words({path!r}, {name!r}) or '')"
         with FORKING:
             process = subprocess.Popen([sys.executable, "-Bc", asked], cwd=f"{self.at.top}/tools", stdout=subprocess.PIPE, universal_newlines=True)
         return process.communicate()[0].rstrip("\n") or None

@@ -31,7 +31,7 @@ NUMBER = re.compile(rb"(?<=,)-?\d+(?=[,\n])")
 
 
 def differences(data, text):
-    return check.results_and_differences(problem(data), text)[1]
+    return check.results_and_faults(problem(data), text)[1]
 
 
 def changed_numbers(text):
@@ -54,8 +54,8 @@ class Results(unittest.TestCase):
         for name, data, text in cleared_cases():
             day = problem(data)
             for other, line in changed_numbers(text):
-                with self.subTest(name, line=line), unittest.mock.patch.object(check.sums, "differences", return_value=()):
-                    self.assertRegex("\n".join(check.results_and_differences(day, other)[1]), rf"results line {line}\b")
+                with self.subTest(name, line=line), unittest.mock.patch.object(check.sums, "sum_faults", return_value=()):
+                    self.assertRegex("\n".join(check.results_and_faults(day, other)[1]), rf"results line {line}\b")
                 refused += 1
         self.assertGreater(refused, 1_000)
 
@@ -73,7 +73,7 @@ class Results(unittest.TestCase):
                 (front, _, first), (back, _, last) = right[one].rpartition(","), right[other].rpartition(",")
                 if first != last:
                     wrong = [*right[:one], f"{front},{last}", f"{back},{first}", *right[other + 1 :]]
-                    found = check.results_and_differences(day, "".join(f"{line}\n" for line in wrong).encode())[1]
+                    found = check.results_and_faults(day, "".join(f"{line}\n" for line in wrong).encode())[1]
                     self.assertLessEqual({one + 1, other + 1}, {fault.line for fault in found}, right[one])
                     swapped += 1
             self.assertGreater(swapped, 20)

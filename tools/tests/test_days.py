@@ -383,7 +383,7 @@ class Days(unittest.TestCase):
 
     def test_days_with_many_faults(self):
         """The faults of all days aren't in memory together. The record is the same as if they were."""
-        wrong = [faults.of_line("stray", line, None, "'hour,A,NAME,1' doesn't belong here").record() for line in range(3_000)]
+        wrong = [faults.line_fault("stray", line, None, "'hour,A,NAME,1' doesn't belong here").record() for line in range(3_000)]
         made = {**record.unread_record(verdict.WRONG, command.DIFFERS, None), "faults": wrong}
         out = json.dumps(made, indent=1).encode() + b"\n"
         pairs = [days.Pair(f"{number}\udcff", Path("a.csv"), None, "x" if number == 3 else None) for number in range(8)]

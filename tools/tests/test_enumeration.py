@@ -136,7 +136,7 @@ class Enumeration(unittest.TestCase):
             found["ties"] += welfares.count(welfares[0]) > 1
             places = range(len(day.blocks))
             every = [frozenset(part) for count in range(len(places) + 1) for part in itertools.combinations(places, count)]
-            linked = [selection.outcome(day, part).welfare for part in every if not any(selection.link_faults(day, part))]
+            linked = [selection.outcome(day, part).welfare for part in every if not any(selection.link_breaches(day, part))]
             found["unbalanced"] += None in linked
             found["losses"] += any(welfare is not None and welfare > welfares[0] for welfare in linked)
         self.assertGreater(min(found.values()), 5, found)
@@ -199,7 +199,7 @@ class Enumeration(unittest.TestCase):
             for number in range(2 ** len(day.blocks)):
                 accepted = every.accepted(number)
                 outcome = selection.outcome(day, accepted)
-                if any(selection.link_faults(day, accepted)) or outcome.welfare is None:
+                if any(selection.link_breaches(day, accepted)) or outcome.welfare is None:
                     continue
                 wanted = set(selection.losses_of(day, accepted, outcome.surpluses))
                 numbers = numpy.array([number])

@@ -57,7 +57,7 @@ class Walk:
     def outcome(self, without=(), plus=()):
         """What the selection with some blocks left out and some others would lead to, and the blocks that would lose."""
         chosen = self.accepted - {self.names[name] for name in without} | {self.names[name] for name in plus}
-        self.assertEqual(list(selection.link_faults(self.problem, chosen)), [])
+        self.assertEqual(list(selection.link_breaches(self.problem, chosen)), [])
         found = selection.outcome(self.problem, chosen)
         losing = selection.losses_of(self.problem, chosen, found.surpluses)
         return found, {self.problem.blocks[place].name: loss for place, loss in losing.items()}

@@ -296,7 +296,7 @@ class Drawn(unittest.TestCase):
                 yield rng, read, [sent.Sent(at, entry) for at, entry in enumerate(commands, 1)]
 
     def differences(self, read, own):
-        return sent.difference_lines(own, sent.published_of(read, book.run_commands(read)[1], "A"))
+        return sent.difference_faults(own, sent.published_of(read, book.run_commands(read)[1], "A"))
 
     def test_what_was_sent_is_there_with_its_replies(self):
         tried = 0
@@ -341,12 +341,12 @@ class Drawn(unittest.TestCase):
         cancels = [sent.Sent(at, journal.Cancel("A", f"N{at % 3}")) for at in range(1, 9_000)]
         others = [sent.Published(at, journal.Cancel("A", f"M{at}"), None) for at in range(2, 9_000)]
         published = [sent.Published(one.record + 1, one.command, "UnknownOrder") for one in cancels]
-        self.assertEqual(sent.difference_lines(cancels, published), [])
-        self.assertEqual(len(sent.difference_lines(cancels[:4_000] + cancels[4_001:], published)), 1)
-        self.assertEqual(len(sent.difference_lines(cancels, others)), len(cancels) + len(others))
+        self.assertEqual(sent.difference_faults(cancels, published), [])
+        self.assertEqual(len(sent.difference_faults(cancels[:4_000] + cancels[4_001:], published)), 1)
+        self.assertEqual(len(sent.difference_faults(cancels, others)), len(cancels) + len(others))
         # One half is missing, and the other half is there.
         halved = [entry for entry in published if entry.record % 2]
-        self.assertEqual(len(sent.difference_lines(cancels, halved)), len(cancels) - len(halved))
+        self.assertEqual(len(sent.difference_faults(cancels, halved)), len(cancels) - len(halved))
 
     def test_another_order_of_as_many_commands_as_a_journal_has(self):
         """It takes a few seconds at most, whatever the commands are."""
@@ -362,12 +362,12 @@ class Drawn(unittest.TestCase):
             ([few, rng.sample(few, count)], count),
         ):
             began = time.process_time()
-            found = sent.difference_lines([sent.Sent(at, entry) for at, entry in enumerate(own[0], 1)],
+            found = sent.difference_faults([sent.Sent(at, entry) for at, entry in enumerate(own[0], 1)],
                                      [sent.Published(at, entry, None) for at, entry in enumerate(own[1], 2)])
             self.assertLess(time.process_time() - began, 10)
             self.assertEqual({fault.kind for fault in found}, {"moved"})
             self.assertLessEqual(len(found), most)
-        self.assertEqual(len(sent.difference_lines([sent.Sent(1, one), sent.Sent(2, other)], [sent.Published(2, other, None)])), 1)
+        self.assertEqual(len(sent.difference_faults([sent.Sent(1, one), sent.Sent(2, other)], [sent.Published(2, other, None)])), 1)
 
     def test_the_time_that_the_comparison_may_take(self):
         words = ["--seconds", "0", "--json"]

@@ -35,14 +35,14 @@ def of(found):
 def doctored(**changes):
     """The sums that are wrong in the results of the family, if these parts of them are others."""
     day, said = read(FAMILY, ACCEPTED)
-    return of(sums.differences(day, said._replace(**changes)))
+    return of(sums.sum_faults(day, said._replace(**changes)))
 
 
 class Sums(unittest.TestCase):
     def test_worked_results(self):
         for name, data, text in cleared_cases():
             with self.subTest(name):
-                self.assertEqual(of(sums.differences(*read(data, text))), [])
+                self.assertEqual(of(sums.sum_faults(*read(data, text))), [])
 
     def test_the_family(self):
         day, said = read(FAMILY, ACCEPTED)
@@ -78,7 +78,7 @@ class Sums(unittest.TestCase):
         alone = results_of(FAMILY, frozenset())
         day, said = read(FAMILY, alone)
         self.assertEqual((said.accepted, said.surpluses), (set(), [95_000, 250_000]))
-        self.assertEqual(of(sums.differences(day, said._replace(surpluses=[-1, 7]))), [])
+        self.assertEqual(of(sums.sum_faults(day, said._replace(surpluses=[-1, 7]))), [])
 
     def test_an_hourly_order_that_loses(self):
         # At 61 EUR TOWN's order of period 1 wouldn't buy.
@@ -111,7 +111,7 @@ class Sums(unittest.TestCase):
                 if said is None or wrong or is_price or kind == "block" and fields[2] == "rejected":
                     continue
                 with self.subTest(name, line=line):
-                    self.assertNotEqual(of(sums.differences(day, said)), [])
+                    self.assertNotEqual(of(sums.sum_faults(day, said)), [])
                 refused += 1
         self.assertGreater(refused, 1_000)
 

@@ -215,8 +215,8 @@ class Audit(Audited):
         finding = receipts.Finding("f", 1, receipts.RIGHT, "", seal.receipt(1, seal.head()))
         read = journal.parse_journal(b"day,24,,,,,,,\n" + b"cancel,A,B,,,,,,\n" * count)
         signed = under_head.UnderHead(None, seal.head(), seal.salts, read, book.run_commands(read)[1], [finding] * count)
-        with mock.patch.object(signed, "receipt_fault", side_effect=AssertionError):
-            proofs = {signed.proof(one) for one in read.commands}
+        with mock.patch.object(signed, "lacked_entry_words", side_effect=AssertionError):
+            proofs = {signed.proof_words(one) for one in read.commands}
         self.assertEqual(proofs, {"; no receipt proves that the operator had it"})
 
     def test_the_audit_of_other_heads(self):

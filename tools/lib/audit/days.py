@@ -92,7 +92,7 @@ def require_listed_pairs(path, notes):
         pairs, lines = [], {}
         for line, row in rows_within_limit(path, rows):
             cells = {name: without_outer_spaces(path.parent, cell) for name, cell in zip(heads, row)}
-            pairs.append(listed_pair(path.parent, cells, extra_cells_fault(line, row, heads)))
+            pairs.append(listed_pair(path.parent, cells, extra_cells_words(line, row, heads)))
             if cells.get(NAME):
                 lines[len(pairs) - 1] = line
         pairs = name_apart(pairs, lines)
@@ -120,7 +120,7 @@ def refuse_heads(path, heads):
             raise command.Stop(f"{command.shown(path)} isn't a table of days: its first line names the column {name} twice")
 
 
-def extra_cells_fault(line, row, heads):
+def extra_cells_words(line, row, heads):
     """Why a row of a manifest can't be read, if it has cells in no named column. A name with a comma that isn't quoted is two cells."""
     if len(row) > len(heads):
         return f"line {line} of the table has {len(row)} cells, but the header has {len(heads)}"
@@ -133,7 +133,7 @@ def listed_pair(folder, cells, extra):
     journal, published = (folder / cells.get(name, "") for name in COLUMNS)
     has_results = bool(cells.get("results"))
     missing = None if has_results else f"its row names no results, and {command.shown(journal)} has no line 'results'"
-    unread = extra or unread_row_fault(cells) or file_io.unread_reason(journal)
+    unread = extra or unread_row_words(cells) or file_io.unread_reason(journal)
     unread = unread or (file_io.unread_reason(published) if has_results else None)
     return Pair(cells.get(NAME) or journal.stem, journal, published if has_results else None, unread, missing)
 
@@ -157,7 +157,7 @@ def without_outer_spaces(folder, cell):
     return cell if "\0" not in cell and os.path.lexists(folder / cell) else cell.strip()
 
 
-def unread_row_fault(cells):
+def unread_row_words(cells):
     """Why a row of a manifest names no files, if it names none."""
     if not cells.get("journal"):
         return "its row names no journal"

@@ -73,7 +73,7 @@ class Audit:
             self.is_signed, self.wrong, self.last = False, [Fault(str(fault), "head")], f"{WRONG}: {fault}"
             return
         if options.sent is not None:
-            self.check_sent(read, reasons, closed, signed.proof if options.receipts is not None else sent.no_proof_words)
+            self.check_sent(read, reasons, closed, signed.proof_words if options.receipts is not None else sent.no_proof_words)
         if signed is not None:
             self.check_head(signed)
         if options.replies:
@@ -153,7 +153,7 @@ class Audit:
             self.wrong.append(Fault("no command closes the book, so it has no results", "journal"))
             return
         problem = selection.Problem(closed)
-        said, wrong = check.results_and_differences(problem, data)
+        said, wrong = check.results_and_faults(problem, data)
         self.wrong += wrong
         self.checked += ["sums"] if said is not None else []
         self.day.update(day_figures(problem, said))
@@ -188,9 +188,9 @@ class Audit:
             self.search["better"] = [str(problem.blocks[place]) for place in sorted(found.accepted)]
         return how
 
-    def check_sent(self, read, reasons, closed, proof):
-        """Compares a participant's sent commands with the journal. If the journal lacks a command, `proof` says what
-        receipts show."""
+    def check_sent(self, read, reasons, closed, proof_words):
+        """Compares a participant's sent commands with the journal. If the journal lacks a command, `proof_words` says what receipts
+        show."""
         options = self.options
         self.checked.append("commands sent")
         published = sent.published_of(read, reasons, options.participant)
@@ -205,7 +205,7 @@ class Audit:
         self.progress = Progress("audit", self.seconds, options.quiet)
         words = f"the commands of {options.participant} aren't compared yet"
         try:
-            wrong, right = sent.compare_sent(own, published, closed, options.participant, lambda: self.progress.check_time(words), proof)
+            wrong, right = sent.compare_sent(own, published, closed, options.participant, lambda: self.progress.check_time(words), proof_words)
         except TimeoutError as fault:
             raise command.Stop(str(fault), command.UNDECIDED) from None
         finally:
@@ -236,11 +236,12 @@ class Audit:
         """Compares the journal and its replies with the head that the operator signed, with earlier heads, and with receipts."""
         options = self.options
         self.checked += ["head", "receipts"] if options.receipts is not None else ["head"]
-        earlier = [fault for path in options.earlier for fault in signed.earlier_faults(path, self.read_input("earlier", path))]
-        wrong = [*signed.head_faults(), *earlier, *signed.receipt_faults()]
+        for path in options.earlier:
+            signed.add_earlier_head(path, self.read_input("earlier", path))
+        wrong = [*signed.head_faults(), *signed.earlier_faults(), *signed.receipt_faults()]
         right = f"as signed: {signed.head}"
         if signed.earlier:
-            right += f", which begins with {text.counted(signed.earlier, 'earlier head')}"
+            right += f", which begins with {text.counted(len(signed.earlier), 'earlier head')}"
         if options.receipts is not None:
             right += f"; {text.counted(len(signed.findings), 'receipt')} of its entries"
         self.wrong += wrong
@@ -285,7 +286,7 @@ class Audit:
 
 def reply_faults(periods, reasons, data):
     """The lines of a replies text that differ from the book's replies."""
-    (wanted, _), (found, more) = (results.lines_and_fault(part) for part in (book.replies_of(periods, reasons).encode(), data))
+    (wanted, _), (found, more) = (results.lines_and_faults(part) for part in (book.replies_of(periods, reasons).encode(), data))
     numbers = [[line.split(b",")[0] for line in part] for part in (wanted, found)]
     wrong, last = more if data else [Fault("the replies are empty", "form")], 0
     for at, place in matched_places(*numbers):

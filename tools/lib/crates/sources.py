@@ -112,7 +112,7 @@ def read_record(path):
     return told if isinstance(told, dict) and {"sha256", "kit", "sources"} <= told.keys() else None
 
 
-def read_build_fault(path, crate):
+def read_stale_words(path, crate):
     """Returns why a file was not built of the present sources, or None if it is."""
     name = os.path.relpath(path, TOP)
     if not os.path.isfile(path):
@@ -127,13 +127,13 @@ def read_build_fault(path, crate):
     return f"{name} was built of other sources: {', '.join(others)} changed since" if others else None
 
 
-def print_build_fault_or_date(path, crate):
+def print_stale_words_or_date(path, crate):
     """Prints why a file was not built of the present sources, and returns 1. Otherwise gives the file the date before they were read, so
     that it is newer than its sources, and returns 0."""
     began = time.time_ns()
-    found = read_build_fault(path, crate)
-    if found:
-        print(found)
+    words = read_stale_words(path, crate)
+    if words:
+        print(words)
         return 1
     try:
         os.utime(path, ns=(began, began))
@@ -149,7 +149,7 @@ def main(words):
         return 0
     crate, before, *paths = words
     if before == "--fault":
-        return print_build_fault_or_date(paths[0], crate)
+        return print_stale_words_or_date(paths[0], crate)
     with open(before, encoding="utf-8") as file:
         return 0 if write_record(crate, json.load(file), *paths) else 1
 

@@ -135,15 +135,15 @@ def no_proof_words(_):
     return ""
 
 
-def compare_sent(own, published, closed, who, look, proof=no_proof_words):
+def compare_sent(own, published, closed, who, look, proof_words=no_proof_words):
     """The faults of a participant's commands in a journal, and lines about the right ones. A table of orders may have the commands, or
     the orders at the end: of both, the one with fewer differences is meant. `look` is called now and then, and may end the comparison. Of a
-    command that isn't in the journal as it was sent, `proof` says whether the operator had it."""
+    command that isn't in the journal as it was sent, `proof_words` says whether the operator had it."""
     commands, reasons = own.commands, [entry.reason for entry in published]
-    wrong = difference_lines(commands, published, look=look, proof=proof)
+    wrong = difference_faults(commands, published, look=look, proof_words=proof_words)
     others = f" ({own.others} of others left out)" if own.others else ""
     if wrong and own.is_table:
-        at_the_end = difference_lines(commands, held_of(closed, who), BOOK, look)
+        at_the_end = difference_faults(commands, held_of(closed, who), BOOK, look)
         if not at_the_end:
             count = f"{text.counted(len(commands), 'order')} of {who}"
             by = f"{text.counted(len(published), 'command')} of {who}{refused_words(reasons)}"
@@ -166,8 +166,8 @@ def held_of(closed, who):
     return [Held(number, submit) for number, submit in enumerate(own, 1)]
 
 
-def difference_lines(sent, published, where=JOURNAL, look=lambda: None, proof=no_proof_words):
-    """The faults of the published commands, or of the book's, a line each, by their records."""
+def difference_faults(sent, published, where=JOURNAL, look=lambda: None, proof_words=no_proof_words):
+    """The faults of the published commands, or of the book's, by their records."""
     pairs = subsequence.longest_pairs(*([entry.command for entry in entries] for entries in (sent, published)), look)
     there, here = ({place[side] for place in pairs} for side in (0, 1))
     left = [entry for at, entry in enumerate(sent) if at not in there]
@@ -175,12 +175,12 @@ def difference_lines(sent, published, where=JOURNAL, look=lambda: None, proof=no
     moved, left, more = paired(left, more, lambda command: command)
     changed, left, more = paired(left, more, lambda command: (type(command), command.name))
     sent_times = Counter(entry.command for entry in sent)
-    lines = [(other.record, moved_line(one, other)) for one, other in moved]
-    lines += [(other.record, changed_line(one, other, proof(one.command))) for one, other in changed]
+    faults = [(other.record, moved_fault(one, other)) for one, other in moved]
+    faults += [(other.record, changed_fault(one, other, proof_words(one.command))) for one, other in changed]
     found = [(sent[at].record, published[place].record) for at, place in pairs]
-    lines += [(record_before(one, found), missing_line(one, where, proof(one.command))) for one in left]
-    lines += [(other.record, more_line(other, sent_times[other.command])) for other in more]
-    return [line for _, line in sorted(lines, key=lambda line: line[0])]
+    faults += [(record_before(one, found), missing_fault(one, where, proof_words(one.command))) for one in left]
+    faults += [(other.record, more_fault(other, sent_times[other.command])) for other in more]
+    return [fault for _, fault in sorted(faults, key=lambda placed: placed[0])]
 
 
 def subject_of(entry):
@@ -188,25 +188,25 @@ def subject_of(entry):
     return f"order {entry.command.who},{entry.command.name}"
 
 
-def moved_line(one, other):
+def moved_fault(one, other):
     shown = journal.command_line(one.command)
     words = f"sent record {one.record} is moved: {other.place} is out of its order: {shown}"
     return Fault(words, "moved", other.line, subject_of(one))
 
 
-def changed_line(one, other, proof):
+def changed_fault(one, other, proof):
     was, now = journal.command_line(one.command), journal.command_line(other.command)
     words = f"sent record {one.record} is changed: it was '{was}', and {other.place} is '{now}'{proof}"
     return Fault(words, "changed", other.line, subject_of(one))
 
 
-def missing_line(one, where, proof):
+def missing_fault(one, where, proof):
     words = f"sent record {one.record} is missing in {where}: {journal.command_line(one.command)}{proof}"
     return Fault(words, "missing", None, subject_of(one))
 
 
-def more_line(other, times):
-    """The message about a record that wasn't sent; its command was sent `count` times."""
+def more_fault(other, times):
+    """The fault of a record that wasn't sent, or not as often; its command was sent this many times."""
     shown = journal.command_line(other.command)
     if not times:
         return Fault(f"{other.place} was not sent: {shown}", "unsent", other.line, subject_of(other))

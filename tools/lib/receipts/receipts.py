@@ -93,13 +93,8 @@ class Links:
         self.key, self.signed = key, Signed()
         later = defaultdict(set)  # of each head, those that begin with it
         for path in paths:
-            if (extension := self.read_value(path, heads.parse_extension, "an extension", findings)) is None:
-                continue
-            if not all([self.add_head(path, end, findings, EXTENSION) for end in (extension.old, extension.new)]):
-                continue
-            if fault := self.heads_fault(extension) or self.path_fault(path, extension):
-                findings.append(Finding(path, None, UNDECIDED, f"it doesn't connect its heads: {fault}", about=EXTENSION))
-            else:
+            extension = self.read_value(path, heads.parse_extension, "an extension", findings)
+            if extension is not None and self.add_extension(path, extension, findings):
                 later[unsigned(extension.old)].add(unsigned(extension.new))
         self.earlier = longest_beginnings(later)
 
@@ -111,7 +106,20 @@ class Links:
             findings.append(unread_finding(path, fault))
             return None
 
-    def heads_fault(self, extension):
+    def add_extension(self, path, extension, findings):
+        """Whether an extension connects its heads. If it doesn't, `findings` gets that. Anyone can make another path, so a wrong one is
+        nobody's fault."""
+        if not all([self.add_head(path, end, findings, EXTENSION) for end in (extension.old, extension.new)]):
+            return False
+        words = self.unlike_heads_words(extension)
+        if words is None:
+            self.signed.add_extension(extension, Place(path), signing.signer_name(self.key, extension.old))
+            words = None if extension.is_valid() else "its path doesn't lead from the earlier one to the later one"
+        if words is not None:
+            findings.append(Finding(path, None, UNDECIDED, f"it doesn't connect its heads: {words}", about=EXTENSION))
+        return words is None
+
+    def unlike_heads_words(self, extension):
         """Why no extension connects two signed heads; None if one may."""
         old, new = extension.old, extension.new
         one, other = (signing.signer_name(self.key, end) for end in (old, new))
@@ -124,11 +132,6 @@ class Links:
         if old.size > new.size:
             return f"the first one has {text.counted(old.size, 'entry', 'entries')}, and the second one {new.size}"
         return None
-
-    def path_fault(self, path, extension):
-        """Why the path of an extension doesn't connect its heads; None if it does. Anyone can make another path, so it is nobody's fault."""
-        self.signed.add_extension(extension, Place(path), signing.signer_name(self.key, extension.old))
-        return None if extension.is_valid() else "its path doesn't lead from the earlier one to the later one"
 
     def add_head(self, path, head, findings, about=HEAD):
         """Whether a key signed a head. If none did, `findings` gets that."""
@@ -214,8 +217,8 @@ def verdict_and_words(receipt, head, key, links, place=Place("the receipt")):
     shown = f"{entry}: {receipt.record}, {receipt.reply}"
     if head is None:
         return RIGHT, shown
-    if fault := reply_fault(receipt):
-        return IMPOSSIBLE, f"{shown}; {fault}"
+    if words := impossible_reply_words(receipt):
+        return IMPOSSIBLE, f"{shown}; {words}"
     found, words = links.verdict_on_two(receipt.head, head)
     if found == WRONG:
         return CONTRARY, f"{shown}; the published head contradicts it: {words}"
@@ -224,7 +227,7 @@ def verdict_and_words(receipt, head, key, links, place=Place("the receipt")):
     return found, shown if found == RIGHT else f"{shown}; {words}"
 
 
-def reply_fault(receipt):
+def impossible_reply_words(receipt):
     """Why no book gives this reply; None if one may. Only the periods are looked at: of the rest, the entries before it decide."""
     found = heads.command_of(receipt.record)
     last = max((period for period, _ in getattr(getattr(found, "order", found), "volumes", ())), default=0)
@@ -298,7 +301,7 @@ def differences(path, commands, findings, who):
     own, others = (RIGHT, ENCODING, UNDECIDED), (CONTRARY, IMPOSSIBLE)
     is_contrary = any(finding.verdict in others for finding in findings)
     each = [received_commands(findings, who, verdicts) for verdicts in ((own, others, own + others) if is_contrary else (own,))]
-    found = min((sent.difference_lines(commands, one, "the receipts") for one in each), key=len)
+    found = min((sent.difference_faults(commands, one, "the receipts") for one in each), key=len)
     return [Finding(path, None, WRONG, str(fault)) for fault in found]
 
 

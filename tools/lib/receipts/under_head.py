@@ -20,7 +20,7 @@ class UnderHead:
 
     def __init__(self, key, head, salts, read, reasons, findings):
         self.key, self.head, self.salts = key, head, salts
-        self.earlier = 0  # how many earlier heads were compared
+        self.earlier = []  # the earlier heads that are compared, each with the name of its file
         self.findings = [finding for finding in findings if self.is_own(finding)]
         self.foreign = [self.foreign_fault(finding) for finding in findings if not self.is_own(finding)]
         self.odd = [finding for finding in self.findings if finding.verdict == receipts.ENCODING]
@@ -35,7 +35,7 @@ class UnderHead:
         self.is_of_head = (self.periods, len(self.tree), self.tree.root()) == (head.periods, head.size, head.root)
         self.lacked = {}  # of each record that the journal lacks as it was signed, the first receipt; one that proves a fault is preferred
         for finding in sorted(self.findings, key=lambda finding: not self.proves(finding.receipt)):
-            if self.receipt_fault(finding.receipt):
+            if self.lacked_entry_words(finding.receipt):
                 self.lacked.setdefault(finding.receipt.record, finding.receipt)
 
     def proves(self, receipt):
@@ -43,11 +43,11 @@ class UnderHead:
         operator signed two."""
         return self.is_of_head and receipt.number <= self.head.size
 
-    def proved(self, receipt):
+    def proved_words(self, receipt):
         """The end of a line about a receipt whose entry the journal lacks."""
         return PROVED if self.proves(receipt) else ""
 
-    def beginning_fault(self, head):
+    def other_beginning_words(self, head):
         """Why the journal doesn't begin with a head's entries; None if it does."""
         if head.periods != self.periods:
             return f"the journal's day has {self.periods} periods, and the head's {head.periods}{PROVED if self.is_of_head else ''}"
@@ -55,10 +55,10 @@ class UnderHead:
             count = text.counted(len(self.tree), "entry", "entries")
             return f"the journal has {count}, and the operator signed {head.size}"
         if self.tree.root(head.size) != head.root:
-            return self.root_fault(head)
+            return self.other_root_words(head)
         return None
 
-    def root_fault(self, head):
+    def other_root_words(self, head):
         """Why the root of the journal's beginning isn't a head's. The salts aren't signed: a receipt under the head decides whether it has
         its salt from them."""
         words = f"the first {text.counted(head.size, 'entry', 'entries')} of the journal, with the book's replies"
@@ -79,11 +79,11 @@ class UnderHead:
 
     def head_faults(self):
         """The differences of the journal from its head."""
-        fault = self.beginning_fault(self.head)
-        if fault is None and self.head.size < len(self.tree):
+        words = self.other_beginning_words(self.head)
+        if words is None and self.head.size < len(self.tree):
             more = text.counted(len(self.tree) - self.head.size, "entry", "entries")
-            fault = f"the journal has {more} after the {self.head.size} that the operator signed"
-        return [Fault(f"{self.head}: {fault}", "head")] if fault else []
+            words = f"the journal has {more} after the {self.head.size} that the operator signed"
+        return [Fault(f"{self.head}: {words}", "head")] if words else []
 
     def is_own(self, finding):
         """Whether the operator signed a receipt, for this day."""
@@ -100,27 +100,29 @@ class UnderHead:
 
     def foreign_fault(self, finding):
         """Why a receipt isn't compared with the journal."""
-        words = f"{NOT_OWN}: {finding.words}" if finding.verdict == receipts.WRONG else self.of_another_day(finding.receipt.head)
+        words = f"{NOT_OWN}: {finding.words}" if finding.verdict == receipts.WRONG else self.another_day_words(finding.receipt.head)
         return Fault(f"{receipts.Place(finding.file, finding.line)}: {words}", "foreign")
 
-    def of_another_day(self, head):
+    def another_day_words(self, head):
         return f"it is of {head.day}, and the journal's head of {self.head.day}"
 
-    def earlier_faults(self, path, data):
-        """The differences of the journal's beginning from an earlier head, by the bytes of its file."""
+    def add_earlier_head(self, path, data):
+        """Adds an earlier head, by the bytes of its file. One that isn't the operator's, or is of another day, isn't compared."""
         odd = []
         head = receipts.parse_value(path, data, heads.parse_head, "a head", odd)
         is_own, name = signing.is_signed(self.key, head), command.shown(path)
         if not is_own or head.day != self.head.day:
-            words = self.of_another_day(head) if is_own else f"{NOT_OWN}: it {receipts.NOT_SIGNED}"
+            words = self.another_day_words(head) if is_own else f"{NOT_OWN}: it {receipts.NOT_SIGNED}"
             self.foreign.append(Fault(f"{name}: {words}", "foreign"))
-            return []
+            return
         self.odd += odd
-        self.earlier += 1
-        fault = self.beginning_fault(head)
-        return [Fault(f"{name}: {head}: {fault}", "head")] if fault else []
+        self.earlier.append((name, head))
 
-    def receipt_fault(self, receipt):
+    def earlier_faults(self):
+        """The differences of the journal's beginning from the earlier heads."""
+        return self.beginning_faults(self.earlier)
+
+    def lacked_entry_words(self, receipt):
         """How the journal differs from a receipt that the operator signed; None if it has the entry."""
         at, signed = receipt.number - 1, (receipt.record, receipt.reply)
         words = f"the operator signed entry {receipt.number} as {', '.join(signed)}"
@@ -130,24 +132,28 @@ class UnderHead:
             return f"{words}; the journal has {self.records[at]}, {self.replies[at]}"
         return None
 
-    def proof(self, command):
+    def proof_words(self, command):
         """Whether a receipt proves that the operator had a command that the journal lacks, in words. The fault is the operator's only if
         it signed this very journal too: anyone can leave an entry out of a copy, and a later head may have more."""
         receipt = self.lacked.get(journal.command_line(command))
         if receipt is None:
             return "; no receipt proves that the operator had it"
         words = f"; the operator signed it as entry {receipt.number} of {receipt.head}"
-        return words + self.proved(receipt)
+        return words + self.proved_words(receipt)
 
     def receipt_faults(self):
         """The faults of receipts, and of the heads that they are under."""
         for finding in self.findings:
             receipt, name = finding.receipt, receipts.Place(finding.file, finding.line)
-            if fault := self.receipt_fault(receipt):
-                yield Fault(f"{name}: {fault}{self.proved(receipt)}", "receipt", receipt.number + 1)
-        for head, name in self.under.items():
-            if head != receipts.unsigned(self.head) and (fault := self.beginning_fault(head)):
-                yield Fault(f"{name}: {head}: {fault}", "head")
+            if words := self.lacked_entry_words(receipt):
+                yield Fault(f"{name}: {words}{self.proved_words(receipt)}", "receipt", receipt.number + 1)
+        yield from self.beginning_faults((name, head) for head, name in self.under.items() if head != receipts.unsigned(self.head))
+
+    def beginning_faults(self, named_heads):
+        """A fault for each of some heads, as pairs of a name and a head, with whose entries the journal doesn't begin."""
+        for name, head in named_heads:
+            if words := self.other_beginning_words(head):
+                yield Fault(f"{name}: {head}: {words}", "head")
 
 
 def list_receipt_files(folder):

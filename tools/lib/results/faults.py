@@ -44,9 +44,14 @@ class Fault(str):
         return {"kind": self.kind, "line": self.line, "about": self.about, "words": str(self)}
 
 
-def of_line(kind, line, about, words):
+def line_fault(kind, line, about, words):
     """The fault of a line of results."""
     return Fault(f"results line {line}: {words}", kind, line, about)
+
+
+def subject_fault(said, kind, about, words):
+    """The fault of the line about something, of results that were read."""
+    return line_fault(kind, said.lines[about], about, words)
 
 
 def moved_pairs(wanted, found, pairs):

@@ -4,7 +4,7 @@ import re
 from typing import NamedTuple
 
 from ..base import text
-from .faults import Fault, matched_places, moved_pairs, of_line
+from .faults import Fault, matched_places, moved_pairs, line_fault
 
 ANOTHER = "these seem to be the results of another journal"
 
@@ -120,8 +120,8 @@ def is_text(data, encoding):
         return False
 
 
-def foreign_fault(wanted, beginnings):
-    """Says so if most lines of orders are of none of this journal's."""
+def unknown_orders_faults(wanted, beginnings):
+    """A fault if most lines of orders are of none of this journal's; else none."""
     orders = [begin for begin in beginnings if begin[0] in (b"hour", b"block")]
     others = len(orders) - sum(map(set(wanted).__contains__, orders))
     if 2 * others <= len(orders):
@@ -129,8 +129,8 @@ def foreign_fault(wanted, beginnings):
     return [Fault(f"{ANOTHER}: {others} of their {len(orders)} lines of orders are of orders that this journal doesn't have", "journal")]
 
 
-def foreign_message(line, wanted):
-    """The message about results of which no line is one of this journal's."""
+def foreign_results_fault(line, wanted):
+    """The fault of results of which no line is one of this journal's."""
     for comma, name in ((b";", "semicolons"), (b"\t", "tabs")):
         if comma in line and known_beginning(line.replace(comma, b",")) in wanted:
             words = f"the fields of the results are separated by {name} instead of commas: the first line is {text.quoted(line)}"
@@ -143,41 +143,41 @@ def parse_results(problem, data):
     wrong, lines, values = [], {}, []
     if not data.endswith(b"\n"):
         wrong.append(Fault("the last line of the results has no line end", "form"))
-    found, more = lines_and_fault(data)
+    found, more = lines_and_faults(data)
     wrong += more
     expected = list(expected_lines(problem))
     last = 0  # the last line that was found
     wanted = [tuple(field.encode() for field in known) for _, known, _ in expected]
     beginnings = [known_beginning(line) for line in found]
     if set(wanted).isdisjoint(beginnings):
-        return None, [foreign_message(found[0], wanted) if data else Fault("the results are empty", "form")]
+        return None, [foreign_results_fault(found[0], wanted) if data else Fault("the results are empty", "form")]
     pairs = matched_places(wanted, beginnings)
     away = moved_pairs(wanted, beginnings, pairs)
     elsewhere = set(away.values())
     for at, place in pairs:
         last = last if place is None else place + 1
         if place in away:
-            wrong.append(of_line("moved", last, expected[away[place]][0], moved_line(expected, away[place])))
+            wrong.append(line_fault("moved", last, expected[away[place]][0], moved_line_words(expected, away[place])))
         elif at is None:
-            wrong.append(of_line("stray", last, None, stray_line(found[place])))
+            wrong.append(line_fault("stray", last, None, stray_line_words(found[place])))
         if at is None or at in elsewhere:
             continue
         about, known, behind = expected[at]
         if place is None or place in away:
-            wrong.append(missing_line(last + (place is None), len(found), about))
+            wrong.append(missing_line_fault(last + (place is None), len(found), about))
             continue
         read = line_values(found[place], known, behind) if beginnings[place] == wanted[at] else None
         lines[about] = last
         if read is None:
-            wrong.append(of_line("form", last, about, form_words(about, found[place], known, behind)))
+            wrong.append(line_fault("form", last, about, form_words(about, found[place], known, behind)))
         values.append(read)
     if wrong:
-        return None, foreign_fault(wanted, beginnings) + wrong
+        return None, unknown_orders_faults(wanted, beginnings) + wrong
     return results_of_values(problem, values, lines), wrong
 
 
-def lines_and_fault(data):
-    """The lines of a text that are looked at, and a fault if there are more."""
+def lines_and_faults(data):
+    """The lines of a text that are looked at, and a fault if there are more, in a list."""
     found = data.removesuffix(b"\n").split(b"\n", MOST_LINES)
     if len(found) <= MOST_LINES:
         return found, []
@@ -186,8 +186,8 @@ def lines_and_fault(data):
     return found, [Fault(words, "stray", MOST_LINES + 1)]
 
 
-def missing_line(line, lines, about):
-    """The message about a line that is missing before another, or at the end."""
+def missing_line_fault(line, lines, about):
+    """The fault of a line that is missing before another, or at the end."""
     where = f"before results line {line}" if line <= lines else f"at the end of the results, as line {line}"
     return Fault(f"the line for {about} is missing {where}", "missing", line, about)
 
@@ -203,13 +203,13 @@ def form_words(about, line, known, behind):
     return f"{about} should be '{form}' and is {text.quoted(line)}"
 
 
-def moved_line(expected, at):
+def moved_line_words(expected, at):
     """The message about a line that stands in another place than its own."""
     after = f"after that for {expected[at - 1][0]}" if at else "before all others"
     return f"the line for {expected[at][0]} stands here and belongs {after}"
 
 
-def stray_line(line):
+def stray_line_words(line):
     return f"{text.quoted(line)} doesn't belong here" if line else "the line is empty, and should not be there"
 
 

@@ -67,9 +67,8 @@ def net_volumes(order):
     return [(number, volume if order.side == "sell" else -volume) for number, volume in order.volumes]
 
 
-def link_faults(problem, accepted):
-    """Why links and groups forbid these places to be accepted together, each with the place of a block and the kind of fault; nothing if
-    they don't."""
+def link_breaches(problem, accepted):
+    """Each breach of a link or a group if these places are accepted together: the place of a block, the kind of fault and the words."""
     for place in sorted(accepted):
         parent = problem.parents[place]
         if parent is not None and parent not in accepted:
@@ -149,7 +148,7 @@ def losses_of(problem, accepted, surpluses):
 
 def eligible_welfare(problem, accepted):
     """The welfare of an eligible selection; None for any other."""
-    if any(link_faults(problem, accepted)):
+    if any(link_breaches(problem, accepted)):
         return None
     found = outcome(problem, accepted)
     if found.welfare is None or losses_of(problem, accepted, found.surpluses):

@@ -6,7 +6,7 @@ those of the book."""
 from typing import NamedTuple
 
 from . import trades
-from .faults import of_line
+from .faults import subject_fault
 
 
 class Published(NamedTuple):
@@ -16,38 +16,34 @@ class Published(NamedTuple):
     said: object
 
 
-def differences(problem, said):
-    """Each sum that isn't as the laws say, as a line with its place."""
+def sum_faults(problem, said):
+    """A fault for each sum that isn't as the laws say."""
     day = Published(problem, said)
     gains = list(trades.surpluses_of_rows(day))
-    yield from volume_differences(day)
-    yield from losing_hourly_orders(day, gains)
-    yield from losing_participants(day, gains)
-    yield from welfare_difference(day, gains)
+    yield from volume_faults(day)
+    yield from hourly_loss_faults(day, gains)
+    yield from participant_loss_faults(day, gains)
+    yield from welfare_sum_faults(day, gains)
 
 
-def sum_fault(day, kind, about, words):
-    return of_line(kind, day.said.lines[about], about, words)
-
-
-def volume_differences(day):
+def volume_faults(day):
     """In each period, the bought volume is the sold one, and the period's volume; so at its one price payments are receipts."""
     for number, parts in trades.volume_shares(day).items():
         bought, sold = (sum(parts[kind, side] for kind in ("hour", "block")) for side in ("buy", "sell"))
         volume = day.said.volumes[number - 1]
         if not bought == sold == volume:
             words = f"period {number}: the orders buy {bought} and sell {sold}, and the volume is {volume}"
-            yield sum_fault(day, "money", f"period {number}", words)
+            yield subject_fault(day.said, "money", f"period {number}", words)
 
 
-def losing_hourly_orders(day, gains):
+def hourly_loss_faults(day, gains):
     for row, gain in gains:
         if row.order.kind == "hour" and gain < 0:
             about = f"hour {row}"
-            yield sum_fault(day, "loss", about, f"{about}: at the price it loses {-gain} with its executed volume")
+            yield subject_fault(day.said, "loss", about, f"{about}: at the price it loses {-gain} with its executed volume")
 
 
-def losing_participants(day, gains):
+def participant_loss_faults(day, gains):
     """The participants whose surpluses add up to less than 0, each at the line of the order that loses most."""
     own = {}
     for row, gain in gains:
@@ -57,13 +53,13 @@ def losing_participants(day, gains):
         if total < 0:
             _, row = min(pairs, key=lambda pair: pair[0])
             about = f"{row.order.kind} {row}"
-            yield sum_fault(day, "loss", about, f"{about}: {who} loses {-total} with all its orders, and most with this one")
+            yield subject_fault(day.said, "loss", about, f"{about}: {who} loses {-total} with all its orders, and most with this one")
 
 
-def welfare_difference(day, gains):
+def welfare_sum_faults(day, gains):
     total = sum(gain for _, gain in gains)
     if day.said.welfare != total:
-        yield sum_fault(day, "sum", "the welfare", f"the welfare is {day.said.welfare}, and the surpluses add up to {total}")
+        yield subject_fault(day.said, "sum", "the welfare", f"the welfare is {day.said.welfare}, and the surpluses add up to {total}")
 
 
 class Sums(NamedTuple):

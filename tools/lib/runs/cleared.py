@@ -115,7 +115,7 @@ def refuse_wrong(held, orders, printed, name):
     accepted = {place for place, block in enumerate(problem.blocks) if orders[block.who, block.name]}
     if printed == results_of_selection(problem, accepted):  # the usual case, and far quicker to see
         return
-    said, wrong = check.results_and_differences(problem, printed)
+    said, wrong = check.results_and_faults(problem, printed)
     if said is None:
         raise Fault(f"{NO_RESULTS}: {wrong[0]}")
     raise Wrong(f"the program's results of {name} break the rules ({wrong[0]})")
@@ -124,7 +124,7 @@ def refuse_wrong(held, orders, printed, name):
 def results_of_selection(problem, accepted):
     """The results of the selection that accepts these places; None if it isn't eligible."""
     outcome = selection.outcome(problem, accepted)
-    if any(selection.link_faults(problem, accepted)) or outcome.welfare is None:
+    if any(selection.link_breaches(problem, accepted)) or outcome.welfare is None:
         return None
     return None if selection.losses_of(problem, accepted, outcome.surpluses) else results.results_text(problem, accepted, outcome).encode()
 

@@ -97,7 +97,7 @@ class Cluster:
             found = self.client.sync(self.client.scheduler.identity, callback_timeout=SECONDS)["workers"]
             reports = {str(address): worker["last_seen"] for address, worker in found.items() if worker["status"] == "running"}
         except Exception:  # also of an answer that isn't a scheduler's
-            raise self.lost_fault() from None
+            raise self.lost_error() from None
         now = time.monotonic()
         self.heard = {address: self.heard.get(address, now) if self.reports.get(address) == seen else now for address, seen in reports.items()}
         self.reports, self.had = reports, now if reports else self.had
@@ -107,14 +107,14 @@ class Cluster:
             raise Lost(said)
         return len(reports)
 
-    def lost_fault(self):
+    def lost_error(self):
         return Lost(f"{self.name} doesn't answer any more")
 
     def submit(self, call, *words):
         try:
             return Awaited(self, self.executor.submit(call, *words))
         except Exception:  # of a client that is closed
-            raise self.lost_fault() from None
+            raise self.lost_error() from None
 
 
 def hanging_words(heard, now, name):
@@ -140,7 +140,7 @@ class Awaited:
             try:
                 return self.future.result(PAUSE)
             except concurrent.futures.CancelledError:
-                raise self.cluster.lost_fault() from None
+                raise self.cluster.lost_error() from None
             except concurrent.futures.TimeoutError:
                 if self.future.done():
                     return self.future.result()

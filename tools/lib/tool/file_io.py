@@ -112,7 +112,7 @@ def write_or_stop(path, call, *words, advice=None):
         return call(*words)
     except OSError as fault:
         if advice and isinstance(fault, FileExistsError):
-            raise taken_fault(path, advice) from None
+            raise taken_error(path, advice) from None
         raise command.Stop(f"{command.shown(path)} can't be written: {fault.strerror}") from None
 
 
@@ -127,11 +127,11 @@ def is_same(path, other):
 def refuse_to_replace(path, advice):
     """Ends the tool if there is a file that nobody asked to replace."""
     if os.path.lexists(path):
-        raise taken_fault(path, advice)
+        raise taken_error(path, advice)
 
 
-def taken_fault(path, advice):
-    """The fault of a file that nobody asked to replace."""
+def taken_error(path, advice):
+    """The error about a file that nobody asked to replace."""
     return command.Stop(f"{command.shown(path)} is there already{advice}", command.COMMAND_LINE)
 
 

@@ -208,10 +208,12 @@ def run_for_rejected(day, who=None, is_asked=True):
     never because of the time that it would take."""
     places = [place for place, block in enumerate(day.problem.blocks) if place not in day.said.accepted and who in (None, block.who)]
     if not places or day.wrong or not is_asked:
-        return dict.fromkeys(places, not_computed("the results break the rules" if day.wrong else "the page was made without limits"))
+        return dict.fromkeys(places, not_computed_words("the results break the rules" if day.wrong else "the page was made without limits"))
     own = engine.result_or_raise(engine.run_clear(book_text(day.book.rows, day.problem.periods)))
-    if why := run_for_fault(day, own):
-        return dict.fromkeys(places, not_computed(why))
+    if words := uncomputable_words(day, own):
+        why, more = words
+        command.print_note("report", f"the limits that rejected blocks needed weren't computed: {why}: {more}")
+        return dict.fromkeys(places, not_computed_words(why))
     bar = StepBar("report", len(places), "limits of rejected blocks")
     with engine.running_team(engine.count_processors()) as (team, running):
         was = Cleared.of_day(day)  # which the program has too
@@ -227,24 +229,23 @@ def step_and_return(words, bar):
     return words
 
 
-def not_computed(why):
+def not_computed_words(why):
     return f"Its limit wasn't computed: {why}."
 
 
-def run_for_fault(day, own):
-    """Why no limit can be computed, if the program fails on a day or has other results; None if it has the same."""
+def uncomputable_words(day, own):
+    """Why no limit can be computed, in few words and in more, if the program failed on a day or printed other results than its own; None if
+    it printed the same."""
     try:
         if isinstance(own, Fault):
             raise own
         if Cleared.of_text(day.book.rows, day.problem.periods, own).orders == Cleared.of_day(day).orders:
             return None
-        why, more = "the program has other results", f"{day_files.SEE_AUDIT} --best"
+        return "the program has other results", f"{day_files.SEE_AUDIT} --best"
     except Wrong as fault:
-        why, more = BROKEN, str(fault)
+        return BROKEN, str(fault)
     except Fault as fault:
-        why, more = "the program couldn't clear the day", str(fault)
-    command.print_note("report", f"the limits that rejected blocks needed weren't computed: {why}: {more}")
-    return why
+        return "the program couldn't clear the day", str(fault)
 
 
 def run_for_sentence(held, block, own, was, running):
@@ -256,7 +257,7 @@ def run_for_sentence(held, block, own, was, running):
         return short(search)
     except Fault as fault:
         command.print_note("report", f"the limit of {' '.join(search.key)} wasn't computed: {fault}")
-        return not_computed(BROKEN if isinstance(fault, Wrong) else "a run of the program failed")
+        return not_computed_words(BROKEN if isinstance(fault, Wrong) else "a run of the program failed")
 
 
 def columns(rows):
