@@ -16,7 +16,7 @@ from support import AUCTION, run_tool
 import costly_workbooks as costly
 import drawn_workbooks as made
 from lib.runs import errors
-from lib.sheets import cell_values, order_table, sheets
+from lib.sheets import cell_values, command_table, order_table, sheets
 from lib.tool import command
 from lib.whatif import changes, scenarios
 from lib.journal.book import Book
@@ -418,6 +418,26 @@ class Unlike(unittest.TestCase):
         with self.assertRaisesRegex(order_table.BadOrders, "^line 1, column 9: '=A1' is a formula that was saved without its value"):
             order_table.parse_tables([("", made.workbook_of_sheet(heads, order(2, "K1"), made.CLOSE))], 24)
 
+    def test_a_heading_and_a_command_with_a_format(self):
+        """Excel may show the price's column with the name of the volumes, and a cancel as an amend."""
+        styles = '<numFmts><numFmt numFmtId="164" formatCode=";;;&quot;volume_mw&quot;"/></numFmts><cellXfs><xf/><xf numFmtId="164"/></cellXfs>'
+        parts = {"xl/styles.xml": f'<styleSheet xmlns="{made.MAIN[0]}">{styles}</styleSheet>'.encode()}
+        heading = b"<c t='inlineStr'><is><t>price_eur_mwh</t></is></c>"
+        heads = made.OPEN.replace(heading, heading.replace(b"<c ", b"<c s='1' "))
+        self.assertNotEqual(heads, made.OPEN)
+        said = "(?m)^line 1, column 5: 'price_eur_mwh' is a text with a format: make the cell one of text$"
+        with self.assertRaisesRegex(order_table.BadOrders, said):
+            order_table.parse_tables([("", made.workbook_of_sheet(heads, order(2, "K1"), made.CLOSE, **parts))], 24)
+        heads = b"<worksheet xmlns='%s'><sheetData>" % made.MAIN[0].encode() + row(1, ("A1", "participant"), ("B1", "order"), ("C1", "what"))
+        cancel = row(2, ("A2", "A"), ("B2", "K1"), ("C2", "cancel"))
+        for cell, fault in ((b'<c r="C2" t', None), (b'<c r="C2" s="1" t', "'cancel' is a text with a format: make the cell one of text")):
+            found = order_table.parse_cells(made.workbook_of_sheet(heads, cancel.replace(b'<c r="C2" t', cell), made.CLOSE, **parts))
+            if fault:
+                with self.assertRaisesRegex(order_table.BadOrders, f"^line 2, column what: {fault}$"):
+                    command_table.parse_commands(found, 24)
+            else:
+                self.assertEqual(len(list(command_table.parse_commands(found, 24)[0])), 1)
+
     def test_names_that_excel_shows_in_another_way(self):
         """A name such as 8-20 becomes a date, 007 may be a 7 with a format, and TRUE is another word in another language."""
         texts = {letter: name for letter, name in self.COLUMNS.items() if name in order_table.NAMES}
@@ -474,7 +494,7 @@ class Unlike(unittest.TestCase):
             ("0.0.0", "5"), ("0).0", "5"), ("0&quot;x&quot;.0", "5"), ("0&quot; MW&quot;,", "5"), ("0*x,", "5"),
             ("0.00;[Red]0.00", None), ("0.00;(0.00)", None), ("0.00E-00", None), ("#\\ ##0.0", None), ("0.00&quot; EUR-MWh&quot;", None),
             ("#,##0.00", None), ("0.00;[Red]-0.00", None), ("0;-0;;@", None), ("0.0&quot; EUR/MWh&quot;", None), ("[$€-407] 0.00", None),
-            ("0.00E+00", None), ("# ?/?", None), ("General&quot; MW&quot;", None), ("0;&quot;7&quot;", None), ("0;-0;", None),
+            ("0.00E+00", None), ("# ?/?", None), ("General&quot; EUR&quot;", None), ("0;&quot;7&quot;", None), ("0;-0;", None),
             ("???0", None), ("&quot;MAX -EUR &quot;0", "5"),
         ):  # fmt: skip
             styles = f'<numFmts><numFmt numFmtId="164" formatCode="{code}"/></numFmts><cellXfs><xf/><xf numFmtId="164"/></cellXfs>'
@@ -486,31 +506,59 @@ class Unlike(unittest.TestCase):
         found, said = self.read(B="<c><v>-0.0</v></c>")
         self.assertEqual((found.name, said), ("0", None))
 
-    def shown(self, code, number, attributes="/>"):
-        """The order with a price of a format, or its fault."""
+    def shown(self, code, number, attributes="/>", letter="E"):
+        """The order with a price of a format, or with a number in another column, or its fault."""
         styles = f'<numFmts><numFmt numFmtId="164" formatCode="{code}"/></numFmts><cellXfs><xf/><xf numFmtId="164"{attributes}</cellXfs>'
         styles = {"xl/styles.xml": f'<styleSheet xmlns="{made.MAIN[0]}">{styles}</styleSheet>'.encode()}
-        return self.read(styles, E=f'<c s="1"><v>{number}</v></c>')
+        return self.read(styles, **{letter: f'<c s="1"><v>{number}</v></c>'})
 
     def test_formats_that_add_words(self):
-        """They may say another unit, or a multiple of one; those of orders are harmless, and so are accounts in EUR."""
+        """They may say another unit, or a multiple of one; accounts in EUR are harmless."""
         said = "line 2, column price_eur_mwh: '5' is a number whose format adds '{}': give its cell the format General"
         for code, words in (
             ('0" kW"', " kW"), ("[$kW] 0", "kW"), ('0" GW"', " GW"), ('0"k"', "k"), ('0" thousand"', " thousand"), ('0" Mio"', " Mio"),
             ('0" percent"', " percent"), ("0\\%", "%"), ('0"%"', "%"), ("0‰", "‰"), ('"minus "0', "minus "), ("$0", "$"),
             ('_("$"* #,##0.00_);_("$"* \\(#,##0.00\\);_("$"* "-"??_);_(@_)', "$"), ('[>3]0" kW";0', " kW"), ('0\\ "k"\\W', " kW"),
             ("0k", "k"), ('0" EUR/kWh"', " EUR/kWh"), ('"A - B "0', "A - B "), ("0*k", "k"), ("0~", "~"), ('"EUR "0" ct"', " ct"),
+            ('0" MWh"', " MWh"), ('"EUR "0" MW"', " MW"), ("0\\ [$CHF]", " CHF"), ("[$£-809]0", "£"), ('[>3]0" MW";0" EUR"', " EUR"),
         ):  # fmt: skip
             found, fault = self.shown(code.replace('"', "&quot;").replace(">", "&gt;"), 5)
             self.assertEqual((fault, found), (said.format(words), None), code)
         for code in (
-            '0.0" MW"', '0" MWh"', '0"mw"', '0" EUR/MWh"', "0.00\\ €", "#,##0.00\\ [$€-407];[RED]-#,##0.00\\ [$€-407]", "[$EUR] 0.00",
+            '0" EUR/MWh"', "0.00\\ €", '0"/MWh"', "#,##0.00\\ [$€-407];[RED]-#,##0.00\\ [$€-407]", "[$EUR] 0.00",
             '_-* #,##0.00\\ "€"_-;\\-* #,##0.00\\ "€"_-;_-* "-"??\\ "€"_-;_-@_-', "_(* #,##0.00_);_(* \\(#,##0.00\\);_(* \"-\"??_);_(@_)",
             '"EUR "0"/MWh"', '0" €/MWh"', '0;-0" kW"', "#\\ ##0.00", "0.00E+00", "# ?/?", '"€"#,##0.00;-"€"#,##0.00', '0" Euro per MWh"',
         ):  # fmt: skip
             self.assertEqual(self.shown(code.replace('"', "&quot;"), 5)[1], None, code)
         _, fault = self.shown("0;-0&quot; kW&quot;", -5)
         self.assertEqual(fault, said.format(" kW").replace("5", "-5"))
+
+    def test_formats_with_a_unit_of_another_column(self):
+        """A column of prices has numbers in EUR or EUR/MWh, one of volumes in MW, and one of periods in no unit."""
+        of_prices = "0[$€-407]", '"EUR "0', '0" EUR/MWh"', '0" €/MWh"', '0" Euro per MWh"', '[>9]0" EUR";0', '"EUR "0"/MWh"'
+        of_volumes = '0" MW"', '0"mw"', "0\\ [$MW]", '0" (MW)"', '[>9]0" MW";0'
+        for codes, unit, right in ((of_prices, "EUR/MWh", "E"), (of_volumes, "MW", "G")):
+            for code in (each.replace('"', "&quot;").replace(">", "&gt;") for each in codes):
+                for letter, column in (("E", "is in EUR/MWh"), ("G", "is in MW"), ("F", "has no unit")):
+                    found, fault = self.shown(code, 8, letter=letter)
+                    words = f"'8' is a number whose format says {unit}, but the column {column}: check it, and give its cell the format General"
+                    said = None if letter == right else f"line 2, column {self.COLUMNS[letter]}: {words}"
+                    self.assertEqual((fault, found is None), (said, said is not None), code)
+                self.assertIsNone(self.shown(code, 8, letter="J")[1], code)
+
+    def test_formats_of_the_currency_of_each_system(self):
+        """Excel shows the same cell in EUR on one computer and in USD on another one, unless the workbook has the format itself."""
+        numbers = 5, 6, 7, 8, 23, 24, 25, 26, 42, 44, 63, 64, 65, 66
+        cells = "".join(f'<xf numFmtId="{number}"/>' for number in numbers)
+        own = '<numFmts><numFmt numFmtId="{}" formatCode="0.00 [$€]"/></numFmts>'
+        for letter in "EFG":
+            words = f"line 2, column {self.COLUMNS[letter]}: '8' is a number that Excel shows with the currency of each system"
+            for style, number in enumerate(numbers):
+                for formats, said in (("", f"{words}: give its cell the format General"), (own.format(number) if letter == "E" else None, None)):
+                    if formats is not None:
+                        styles = f'<styleSheet xmlns="{made.MAIN[0]}">{formats}<cellXfs>{cells}</cellXfs></styleSheet>'
+                        _, fault = self.read({"xl/styles.xml": styles.encode()}, **{letter: f'<c s="{style}"><v>8</v></c>'})
+                        self.assertEqual(fault, said, number)
 
     def test_repeated_characters(self):
         """One that fills a cell may be a digit, or look like a sign; and a cell may be filled with its number."""
@@ -545,7 +593,8 @@ class Unlike(unittest.TestCase):
         plain = [f"&quot;{words}&quot;0" for words in ("(EUR) ", "EUR-MWh ", "+")]
         plain += [f"0&quot;{words}&quot;" for words in ("", " (MW)", "-MW", " EUR-MWh")]
         for code in plain:
-            self.assertEqual(self.shown(code, 5)[1], None, code)
+            letter = "G" if "MW&" in code or "MW)" in code else "E"
+            self.assertEqual(self.shown(code, 5, letter=letter)[1], None, code)
             self.assertEqual(self.shown(f"0.0;{code}", 5)[1], None, code)
             for codes in (f"0.0;{code}", f"0.0;[Red]{code};0"):
                 _, said = self.shown(codes, -5)
@@ -570,7 +619,7 @@ class Unlike(unittest.TestCase):
             ("0.00;[Red]-0.00", "-1.25", None), ("# ?/?", "0.4", None), ("# ??/??", "12.34", None), ("0.00E+00", "1230", None), ("General", "12.34", None),
             ("##0.0E+0", "1200", None), ("0.00", "2900.1000000000004", None), ("0.??", "1.25", None), ("0.00&quot; EUR&quot;", "1.25", None),
             ("General&quot; EUR&quot;", "1.25", None), ("0.00;-0.0", "1.25", None), ("0.0000", "1.25", None), ("[$€-407] #,##0.00", "1234.5", None),
-            ("0.00\\ [$MW]", "1.25", None), ("@", "12.34", None), ("0;0.00", "0", None), ("0.00_);[Red]\\(0.00\\)", "-1.25", None),
+            ("0.00\\ [$EUR]", "1.25", None), ("@", "12.34", None), ("0;0.00", "0", None), ("0.00_);[Red]\\(0.00\\)", "-1.25", None),
         ):  # fmt: skip
             with self.subTest(code, number=number):
                 found, fault = self.shown(code, number)
@@ -581,10 +630,10 @@ class Unlike(unittest.TestCase):
 
     def test_own_formats_that_round(self):
         """Excel has formats of its own, by their numbers; and each column is read alike."""
-        numbers = 0, 1, 2, 3, 4, 7, 11, 12, 13, 37, 39, 43, 48
+        numbers = 0, 1, 2, 3, 4, 11, 12, 13, 37, 39, 43, 48
         cells = "".join(f'<xf numFmtId="{number}"/>' for number in numbers)
         styles = {"xl/styles.xml": f'<styleSheet xmlns="{made.MAIN[0]}"><cellXfs>{cells}</cellXfs></styleSheet>'.encode()}
-        shown = dict(zip(numbers, (None, "13", "12.57", "13", "12.57", "12.57", "12.6", "88/7", "88/7", "13", "12.57", "12.57", "12.6")))
+        shown = dict(zip(numbers, (None, "13", "12.57", "13", "12.57", "12.6", "88/7", "88/7", "13", "12.57", "12.57", "12.6")))
         for style, number in enumerate(numbers):
             for letter in "ABEFGHI":
                 _, fault = self.read(styles, **{letter: f'<c s="{style}"><v>12.571</v></c>'})

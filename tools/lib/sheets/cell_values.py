@@ -6,7 +6,7 @@ from fractions import Fraction
 
 from ..base import clock, rules, spans, text
 from ..journal import fields
-from ..workbooks.cells import Changed, Percentage, Styled, Uncomputed, Unlike
+from ..workbooks.cells import Changed, Percentage, Power, Price, Styled, Uncomputed, Unlike
 
 MOST_KEPT = 2**12  # cells whose values are kept, since those of a table are often alike
 MOST_LISTS = 2**8  # the same of cells with volumes, whose values take more
@@ -29,11 +29,15 @@ class BadOrders(Exception):
         self.more = more
 
 
-def refuse_unlike(cell, is_name):
-    """Refuses a cell of a workbook that isn't what Excel shows: a formula without its value, another number or text, or in a column of
-    names also a date."""
+def refuse_unlike(cell, is_name, unit=None):
+    """Refuses a cell of a workbook that isn't what Excel shows: a formula without its value, another number or text, a number with another
+    unit than its column has, or in a column of names also a date."""
     if isinstance(cell, (Uncomputed, Percentage, Changed, Styled)) or is_name and isinstance(cell, Unlike):
         raise BadOrders(cell.fault())
+    if isinstance(cell, (Price, Power)) and cell.unit != unit:
+        column = f"the column is in {unit}" if unit else "the column has no unit"
+        words = f"{text.quoted(cell)} is a number whose format says {cell.unit}, but {column}"
+        raise BadOrders(f"{words}: check it, and give its cell the format General")
 
 
 @functools.lru_cache(MOST_KEPT)

@@ -46,6 +46,10 @@ class Columns:
     def read(self, cells, periods):
         """The command that a row adds to a day, None if it adds none; and the faults of the row."""
         row, what = order_table.Row(cells, self.table, periods), self.cell(cells, WHAT).lower()
+        try:
+            cell_values.refuse_unlike(self.given(cells, WHAT), True)
+        except order_table.BadOrders as fault:
+            row.faults.append(f"column {WHAT}: {fault}")
         add_other_faults(row, what)
         return None if self.is_empty(cells) else parse_command(row, what), row.faults
 

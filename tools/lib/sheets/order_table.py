@@ -8,8 +8,8 @@ from typing import NamedTuple
 
 from ..base import rules, text
 from ..journal import book, fields, journal
-from ..workbooks.cells import Uncomputed
-from . import cell_values, kinds, sheets
+from ..workbooks.cells import Styled, Uncomputed
+from . import cell_values, kinds, shapes, sheets
 from .cell_values import BadOrders
 from .tables import ORDER, REPLY, RESULT
 
@@ -46,7 +46,7 @@ def find_columns(line, header, needed, further):
             wrong.append(f"line {line}, column {at}: {text.quoted(cell)} has a character that ends a line for some programs: remove it")
         elif name in places or name in further and names.index(name) < at - 1:
             wrong.append(f"line {line}, column {at}: the column {text.quoted(name)} appears twice")
-        elif isinstance(cell, Uncomputed):
+        elif isinstance(cell, (Styled, Uncomputed)):
             wrong.append(f"line {line}, column {at}: {cell.fault()}")
         elif name in ORDER + RESULT:
             places[name] = at - 1
@@ -97,7 +97,7 @@ class Row:
         if self.raises and name in NAMES and cell.isascii() and cell != cell.upper() == self.probable_name(name):
             self.raised[cell] = cell = cell.upper()
         try:
-            cell_values.refuse_unlike(self.given_cell(name), name in NAMES)
+            cell_values.refuse_unlike(self.given_cell(name), name in NAMES, shapes.unit_of(name))
             return reader(cell)
         except BadOrders as fault:
             self.faults.append(f"column {name}: {fault}")

@@ -32,6 +32,20 @@ class Formatted(Unlike):
     kind = "a number with a format"
 
 
+class Price(Formatted):
+    """A number of which a format says that it is in EUR, or EUR/MWh."""
+
+    __slots__ = ()
+    unit = "EUR/MWh"
+
+
+class Power(Formatted):
+    """A number of which a format says that it is in MW."""
+
+    __slots__ = ()
+    unit = "MW"
+
+
 class Percentage(Unlike):
     """A number of which Excel shows a hundred times as much."""
 
@@ -44,6 +58,11 @@ class Changed(Unlike):
 
     __slots__ = ()
     kind, remedy = "a number that Excel shows in another way", "give its cell the format General"
+
+
+class Currency(Changed):
+    __slots__ = ()
+    kind = "a number that Excel shows with the currency of each system"
 
 
 class Repeated(Changed):
@@ -143,7 +162,7 @@ class Kept:
 
 
 # The kinds of cells: before each cell of a packed row stands a half of a character, which no text has, and says its kind.
-NUMBERS_SHOWN = Formatted, Percentage, Changed, Repeated, Hidden, Rounded, Worded, Shortened
+NUMBERS_SHOWN = Formatted, Price, Power, Percentage, Changed, Currency, Repeated, Hidden, Rounded, Worded, Shortened
 CELLS = str, int, StyledString, Uncomputed, Date, *NUMBERS_SHOWN, Styled, Truth
 HALVES = {kind: chr(0xD800 + at) for at, kind in enumerate(CELLS)}
 PACKED = re.compile("([\ud800-\udfff])([^\ud800-\udfff]*)")

@@ -7,16 +7,17 @@ import unicodedata
 from fractions import Fraction
 
 from ..base import text
-from .cells import Changed, Date, Formatted, Percentage, Repeated, Rounded, Shortened, Worded
+from .cells import Changed, Currency, Date, Formatted, Percentage, Power, Price, Repeated, Rounded, Shortened, Worded
 from .limits import LONGEST_FORMAT, MOST_FORMATS, MOST_OF_FORMATS, MOST_OWN_FORMATS, broken, too_many
 from .part import ANY_OTHERS, BLANK, Part, unsigned
 
-# The numbers of Excel's own formats: of all digits, of dates and times, of percentages, and of some digits.
+# The numbers of Excel's own formats: of all digits, of dates and times, of percentages, of the currency of each system, and of some digits.
 GENERAL_FORMATS, GENERAL_CODES = (0, 49), ("general", "@")
 DATE_FORMATS = {*range(14, 23), *range(27, 37), *range(45, 48), *range(50, 59), *range(71, 82)}
 PERCENT_FORMATS = 9, 10, 67, 68
+CURRENCY_FORMATS = {*range(5, 9), *range(23, 27), 42, 44, *range(63, 67)}
 ROUNDING_FORMATS = {
-    "0": (1,), "#,##0": (3, 5, 6, 37, 38, 41, 42, 59, 61), "0.00": (2, 4, 7, 8, 39, 40, 43, 44, 60, 62),
+    "0": (1,), "#,##0": (3, 37, 38, 41, 59, 61), "0.00": (2, 4, 39, 40, 43, 60, 62),
     "0.00E+00": (11,), "# ?/?": (12, 69), "# ??/??": (13, 70), "##0.0E+0": (48,),
 }  # fmt: skip
 MOST_DIGITS = 11  # that Excel shows of a number in the format General
@@ -30,8 +31,14 @@ POINTS = ".,\u00b7\u066b\u066c\u3001\u3002"  # and commas, in one width, of all 
 MINUS = re.compile(r"\b(?:MINUS|HYPHEN|DASH)\b")  # in the name of a character
 OTHER_MINUSES = "\u25b2\u25b3\u2500"  # the triangles of Japanese tables, and a line that looks like a minus
 REVERSED = "\u202e"  # the characters after it are shown from right to left
-# The words that a format may add: signs, of which others decide, separators of thousands, and the units of orders.
-HARMLESS = re.compile(rf"[-()+*{SEPARATORS}]*(?:(?:EUR(?:OS?)?|\u20ac)?(?: ?(?:[-/.]|per) ?MWh)?|MWh?)[-()+*{SEPARATORS}]*", re.IGNORECASE)
+# The words that a format may add to a number of each kind: signs, of which others decide, separators of thousands, and a unit of orders.
+UNITS = {
+    Formatted: "",
+    Price: r"(?:EUR(?:OS?)?|\u20ac)?(?: ?(?:[-/.]|per) ?MWh)?",
+    Power: "(?:MW)?",
+}
+SIGNS = f"[-()+*{SEPARATORS}]*"
+WORDS = {kind: re.compile(f"{SIGNS}{unit}{SIGNS}", re.IGNORECASE) for kind, unit in UNITS.items()}
 LETTER, OTHER = r"[^\W\d_]", r"[\W\d_]"
 IN_BRACKETS = re.compile(r"\([^()]*\)")
 # A sign in words before or after a number: a bracket, or a minus that doesn't join words.
@@ -151,9 +158,19 @@ def hides_zero(pieces):
 
 
 def added_words(pieces):
-    """The words that a section of a format adds to a number, before and after digits, if they may be of another unit."""
+    """The words that a section of a format adds to a number, before and after digits."""
     words = (added(piece) or ("\0" if code_of(piece) in f"0#?.,/@{GENERAL}" or len(piece) > 1 else piece) for piece in pieces)
-    return [found for found in "".join(words).split("\0") if not HARMLESS.fullmatch("".join(map(sign, found)))]
+    return [found for found in "".join(words).split("\0") if found]
+
+
+def kind_of_words(words):
+    """The kind of a number to which a format adds words: by the unit that they say, or with one of them if orders don't have it."""
+    plain = {found: "".join(map(sign, found)) for found in words}
+    for kind, pattern in WORDS.items():
+        if all(map(pattern.fullmatch, plain.values())):
+            return kind
+    others = [found for found in words if not any(pattern.fullmatch(plain[found]) for pattern in WORDS.values())]
+    return lambda number: Worded(f"{number} {(others or words[-1:])[0]}")
 
 
 def changes(code):
@@ -172,20 +189,20 @@ def changes(code):
 def of_sections(code):
     """How a format shows a number. Of a name, 0 alone shows all characters."""
     positive, negative, zero = changes(code)
-    sections = [(rounding(pieces), added_words(pieces)) for pieces in sections_of(code)[:3]]
-    is_conditional = re.search(r"\[[<>=]", code)
+    sections = sections_of(code)[:3]
+    used = [sections if re.search(r"\[[<>=]", code) else sections[at : at + 1] or sections[:1] for at in range(3)]  # of each sign
+    roundings = [list(map(rounding, found)) for found in used]
+    kinds = [kind_of_words([words for pieces in found for words in added_words(pieces)]) for found in used]
 
     def shown(words):
         number = decimal.Decimal(words)
         if positive if number > 0 else negative if number < 0 else zero:
             return Changed(words)
         at = 0 if number > 0 else 1 if number < 0 else 2
-        for rounded, more in sections if is_conditional else sections[at : at + 1] or sections[:1]:
-            if more:
-                return Worded(f"{words} {more[0]}")
+        for rounded in roundings[at]:
             if (other := rounded(number)) != number:
                 return Rounded(f"{words} {other + 0}")
-        return (str if code.strip() == "0" else Formatted)(words)
+        return (str if code.strip() == "0" else kinds[at])(words)
 
     return shown
 
@@ -251,7 +268,7 @@ class Styles(Part):
     def __init__(self):
         super().__init__()
         self.codes = {}  # of the workbook's own formats, by their numbers
-        kinds = (GENERAL_FORMATS, general), (DATE_FORMATS, Date), (PERCENT_FORMATS, Percentage), *ROUNDING
+        kinds = (GENERAL_FORMATS, general), (DATE_FORMATS, Date), (PERCENT_FORMATS, Percentage), (CURRENCY_FORMATS, Currency), *ROUNDING
         self.shown = {number: shown for numbers, shown in kinds for number in numbers}
         self.formats, self.filled, self.own, self.characters = [], set(), 0, 0
         self.styled = set()  # the numbers of formats that show texts in another way
