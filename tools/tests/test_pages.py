@@ -77,6 +77,10 @@ SOURCES = {
 }
 # The table of a crate's files in its notes.
 FILES = re.compile(r"^\| File of `src/` \| Contents \|\n\|---\|---\|\n((?:\|.*\n)+)", re.MULTILINE)
+# The section of the facts in the notes on the tests, a row of its table, and the path and the names of some tests in a cell.
+TESTED = re.compile(r"^## How facts are tested\n(.*?)^## ", re.MULTILINE | re.DOTALL)
+ROW_OF_FACT = re.compile(r"^\| .*\| (.+) \| (.+) \|$", re.MULTILINE)
+TESTS = re.compile(r"`([^`]+)`(?:: ([^;]+))?")
 EXAMPLE = re.compile(r"^```text\n(day,24\nwelfare.*?)^```$", re.MULTILINE | re.DOTALL)
 
 
@@ -96,6 +100,13 @@ def sections(page):
     """The names that the section of each file has on the page of definitions."""
     found = re.findall(r"^## `(\w+)/specs/(\w+)\.antt`\n(.*?)(?=^## |\Z)", page, re.M | re.S)
     return {(crate, module): set(re.findall(r"^- `(\S+)`: .", body, re.M)) for crate, module, body in found}
+
+
+def files_of_tests(path):
+    """The files that a path of the notes on the tests is of: one in Rattle, a crate of tests, or a file or folder of the repository."""
+    rattle = TOP / "tests" / "rattle"
+    places = [rattle / "dam_tests" / "src" / f"{path}.rt.test", rattle / f"{path}.rt.test", rattle / path, TOP / path]
+    return [file for place in places for file in [place, *place.rglob("*")] if file.is_file()]
 
 
 def rows_of_words(page):
@@ -234,6 +245,24 @@ class Pages(unittest.TestCase):
             named = sorted(name for cell in re.findall(r"^\| (.*?) \|", rows, re.MULTILINE) for name in re.findall(r"`(\w+)`", cell))
             with self.subTest(path.parent.name):
                 self.assertEqual(named, sorted(file.stem for file in (path.parent / "src").glob("*.rt") if file.stem != "lib"))
+
+    def test_the_tests_of_facts_are_there(self):
+        """Each section of the page has rows. A name after a path is a function there, or a part of the tests."""
+        page = TOP / "docs" / "TESTED.md"
+        section = TESTED.search((TOP / "tests" / "NOTES.md").read_text())[1]
+        self.assertEqual(section.count(f"](../docs/{page.name}#"), page.read_text().count("\n## "))
+        rows = ROW_OF_FACT.findall(section)[1:]
+        self.assertGreater(len(rows), 60)
+        for fact, cell in rows:
+            with self.subTest(fact=fact):
+                self.assertTrue(TESTS.search(cell) or cell.startswith("by hand"))
+            for path, names in TESTS.findall(cell):
+                texts = [file.read_text(errors="replace") for file in files_of_tests(path)]
+                with self.subTest(fact=fact, path=path):
+                    self.assertGreater(len(texts), 0)
+                for name in re.findall(r"`(\w+)`", names):
+                    with self.subTest(fact=fact, path=path, name=name):
+                        self.assertRegex("\n".join(texts), rf'\b(fn|def) {name}\(|"{name}": \w')
 
     def test_the_first_example_is_printed(self):
         lines = read_results(SUNNY).decode().splitlines()
