@@ -3,6 +3,7 @@
 import re
 import subprocess
 
+from lib.base.place import with_installed_commands
 from lib.tool import command
 from manual import pages
 
@@ -37,20 +38,20 @@ def listed(found):
     return "".join(f"{row[0]}\n: {told(row)}\n\n" for row in rows)
 
 
-def words(page, installed):
+def words(page):
     """A page of the manual as go-md2man takes it: with installed commands, and without links."""
     text = pages.COMMENT.sub("", (TOP / page).read_text(encoding="utf-8")).partition("\n")[2]
     text = OF_CLONES.sub("", text)
-    text = TABLE.sub(listed, pages.indented(pages.LINK.sub(r"\1", installed(text))))
+    text = TABLE.sub(listed, pages.indented(pages.LINK.sub(r"\1", with_installed_commands(text))))
     text = re.sub(r"\[([^\]]*)\]\(#[^)\s]*\)", r"\1", text)
     return re.sub(r"^##(#*) (.*)$", lambda head: f"#{head[1]} {head[2] if head[1] else head[2].upper()}", text, flags=re.MULTILINE)
 
 
-def run_for_page(name, version, installed):
+def run_for_page(name, version):
     """A man page."""
     source, about, others = PAGES[name]
     see = ", ".join(f"**{other}**(1)" for other in others)
-    text = f"# {name}\n\n# NAME\n\n{name} - {about}\n\n# DESCRIPTION\n\n{words(source, installed)}\n# SEE ALSO\n\n{see}\n\n{MANUAL}\n"
+    text = f"# {name}\n\n# NAME\n\n{name} - {about}\n\n# DESCRIPTION\n\n{words(source)}\n# SEE ALSO\n\n{see}\n\n{MANUAL}\n"
     ran = subprocess.run(["go-md2man"], input=text.encode(), capture_output=True, env=environment())
     if ran.returncode:
         raise command.Stop(f"go-md2man failed: {ran.stderr.decode(errors='replace')}", command.FAILED)
@@ -58,6 +59,6 @@ def run_for_page(name, version, installed):
     return re.sub(r"^\.TH .*$", lambda _: head, ran.stdout.decode(), count=1, flags=re.MULTILINE).encode()
 
 
-def run_for_pages(version, installed):
+def run_for_pages(version):
     """Each man page with its name."""
-    return {name: run_for_page(name, version, installed) for name in PAGES}
+    return {name: run_for_page(name, version) for name in PAGES}

@@ -6,7 +6,7 @@ import re
 import subprocess
 from pathlib import Path
 
-from lib.base.place import TOOLS
+from lib.base.place import TOOLS, with_installed_commands
 from lib.crates.sources import read_file_sum
 
 from manual import site
@@ -45,7 +45,6 @@ PROGRAMS = ("bin/dam", "bin/dam-desk", *(f"{PYTHON}/{tool}" for tool in TOOLS))
 WITH_COMMANDS = ("AUDIT.md", "EXAMPLES.md", "GUIDE.md", "TABLES.md", "TRUST.md", "USING.md", "WHATIF.md")
 DEFINITIONS = "docs/DEFINITIONS.md"
 COMMANDS = re.compile(r"^```(?:sh|text)\n.*?^```$", re.MULTILINE | re.DOTALL)
-CLONED = re.compile(rf"(?<![\w./-])(?:\./dam\b|tools/(?=(?:{'|'.join(TOOLS)})\b))")
 
 
 def taken(clone):
@@ -63,16 +62,11 @@ def taken(clone):
     return found
 
 
-def installed(words):
-    """Words with the installed commands in place of those of a clone."""
-    return CLONED.sub(lambda found: "dam" if found[0] == "./dam" else "dam-", words)
-
-
 def page(data, target, held):
     """A page, with the words alone of each link to a file that the package doesn't have, and with installed commands."""
     text = with_held(data.decode(), target, held)
     if os.path.basename(target) in WITH_COMMANDS:
-        text = COMMANDS.sub(lambda block: installed(block[0]), text)
+        text = COMMANDS.sub(lambda block: with_installed_commands(block[0]), text)
     return text.encode()
 
 
@@ -149,7 +143,7 @@ def make(clone, folder, totals):
         write(folder / target, data)
     for name, data in pages.run_for_pages(helps, clone, room).items():
         write(folder / "share/man/man1" / f"{name}.1.gz", run_gzip(data))
-    for name, data in formats.run_for_pages(clone.version, installed).items():
+    for name, data in formats.run_for_pages(clone.version).items():
         write(folder / "share/man/man5" / f"{name}.5.gz", run_gzip(data))
     write_manual(folder, files)
     told = provenance(clone, folder, totals)

@@ -8,7 +8,7 @@ import sys
 from pathlib import Path
 from typing import NamedTuple
 
-from lib.base.place import CLONED
+from lib.base.place import with_installed_commands
 from lib.base.rules import VERSION
 from lib.tool import modules
 from scenes import CLONE, INSTALLED, PAGES
@@ -148,7 +148,7 @@ def runnable(kind, commands):
 
 def as_in(form, command):
     """A command of a sentence: of a clone, or with the installed names in place of these."""
-    return CLONED.sub(lambda found: "dam" if found[0] == "./dam" else "dam-", command) if form == INSTALLED else command
+    return with_installed_commands(command) if form == INSTALLED else command
 
 
 def with_status_test(command, status):

@@ -19,10 +19,11 @@ from support import TOOLS, TOP, run_tool
 
 sys.path.append(str(TOP))
 
+from lib.base.place import with_installed_commands
 from lib.crates.specs import Repository
 from lib.tool import modules
 from manual import navigation, pages, site
-from package import formats, tree
+from package import formats
 from shared.site import Site
 
 if modules.has_module("aiohttp"):
@@ -77,10 +78,10 @@ class Pages(unittest.TestCase):
 class ManPages(unittest.TestCase):
     def test_no_word_of_a_page_is_lost(self):
         """But for the heads of tables, most of which become lists."""
-        for name, made in formats.run_for_pages("1.0.0", tree.installed).items():
+        for name, made in formats.run_for_pages("1.0.0").items():
             text = (TOP / formats.PAGES[name][0]).read_text(encoding="utf-8").partition("\n")[2]
             text = formats.OF_CLONES.sub("", pages.LINK.sub(r"\1", re.sub(r"^\|.*\|\n(?=\|[-|]+\|$)", "", text, flags=re.MULTILINE)))
-            own = re.sub(r"\]\(#[^)]*\)|^```\w+$", "", tree.installed(text), flags=re.MULTILINE).upper()
+            own = re.sub(r"\]\(#[^)]*\)|^```\w+$", "", with_installed_commands(text), flags=re.MULTILINE).upper()
             shown = re.sub(r"\\(?:f[A-Z]|&|)", "", made.decode()).upper()
             lost = Counter(re.findall(r"\w+", own)) - Counter(re.findall(r"\w+", shown))
             self.assertEqual(lost, Counter(), name)
@@ -92,7 +93,7 @@ class ManPages(unittest.TestCase):
         self.assertEqual(formats.TABLE.sub(formats.listed, table), table)
         listed = f"`a`\n: one; What to do: {'two ' * 20}".rstrip() + f"\n\n`b`\n: {'three ' * 20}".rstrip() + "\n\n"
         self.assertEqual(formats.TABLE.sub(formats.listed, wide), listed)
-        for name, made in formats.run_for_pages("1.0.0", tree.installed).items():
+        for name, made in formats.run_for_pages("1.0.0").items():
             self.assertIn(f".SH NAME\n.PP\n{name} \\- ", made.decode().replace(" - ", " \\- "))
 
 

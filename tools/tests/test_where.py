@@ -105,10 +105,10 @@ class Names(unittest.TestCase):
             self.assertIn(f'\ndam-{tool} = "dam_tools.commands:{tool}"\n', text)
 
     def test_words_for_commands(self):
-        words = "./dam clear < a; tools/audit a tools/../x other/tools/b ./damn"
+        words = "./dam clear < a; tools/audit a tools/prove tools/../x other/tools/audit ./damn"
         self.assertEqual(place.with_commands_of_here(words), words)
         with unittest.mock.patch.object(place, "IS_INSTALLED", True):
-            self.assertEqual(place.with_commands_of_here(words), "dam clear < a; dam-audit a tools/../x other/tools/b ./damn")
+            self.assertEqual(place.with_commands_of_here(words), "dam clear < a; dam-audit a tools/prove tools/../x other/tools/audit ./damn")
             with contextlib.redirect_stderr(io.StringIO()) as said:
                 command.print_note("table", "no such file")
             self.assertEqual(said.getvalue(), "dam-table: no such file\n")

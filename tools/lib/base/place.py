@@ -8,7 +8,7 @@ TOOLS = ("audit", "compare", "lint", "office", "plot", "receipts", "report", "ta
 # The folder of the tools: tools/ in a clone, and the folder of dam_tools if they are installed.
 FOLDER = Path(__file__).resolve().parents[2]
 IS_INSTALLED = FOLDER.name == "dam_tools"
-CLONED = re.compile(r"(?<![\w./-])(?:\./dam\b|tools/(?=[a-z]))")
+COMMAND_OF_CLONE = re.compile(rf"(?<![\w./-])(?:\./dam\b|tools/(?=(?:{'|'.join(TOOLS)})\b))")
 
 
 def command_name(tool):
@@ -16,9 +16,15 @@ def command_name(tool):
     return f"dam-{tool.removeprefix('dam-')}" if IS_INSTALLED else tool
 
 
+def with_installed_commands(words):
+    """Words that name commands as in a clone, such as `./dam clear` and `tools/audit`, with the names that these have if they are
+    installed."""
+    return COMMAND_OF_CLONE.sub(lambda found: "dam" if found[0] == "./dam" else "dam-", words)
+
+
 def with_commands_of_here(words):
-    """Words that name commands as in a clone, such as `./dam clear` and `tools/audit`, with the names that these have here."""
-    return CLONED.sub(lambda found: "dam" if found[0] == "./dam" else "dam-", words) if IS_INSTALLED else words
+    """Words that name commands as in a clone, with the names that these have here."""
+    return with_installed_commands(words) if IS_INSTALLED else words
 
 
 def docstring(path, function=None):
