@@ -212,6 +212,20 @@ class Days(unittest.TestCase):
             said = f"audit: {self.folder / 'list'} isn't a table of days: its first line names the column {name} twice\n"
             self.assertEqual(self.audit(place=self.folder / "list"), (command.NO_INPUT, "", said))
 
+    def test_a_day_on_the_line_of_the_header(self):
+        """It would be lost."""
+        self.write(a=(DATA, TEXT))
+        row = "right,a.csv,a.txt"
+        for between in ("", " ", ",", "\v", "\u2028"):
+            (self.folder / "list").write_text(f"day,journal,results,note{between}{row}\n{row}\n", encoding="utf-8")
+            said = f"audit: {self.folder / 'list'} isn't a table of days: "
+            said += "line 1, column 4" if between and not between.isascii() or between == "\v" else "'a.csv' of its first line is no heading"
+            status, out, err = self.audit(place=self.folder / "list")
+            self.assertEqual((status, out, err[: len(said)]), (command.NO_INPUT, "", said))
+        (self.folder / "list").write_text(f"day,journal,results,note{',x' * 3}\n{row},note\v{row}\n")
+        said = f"audit: {self.folder / 'list'} isn't a table of days: line 2, column 4: 'note\\x0bright' has a character"
+        self.assertIn(said, self.audit(place=self.folder / "list")[2])
+
     def test_names_of_a_manifest_with_spaces_around_them(self):
         """They are left out, unless a file has them."""
         self.write(a=(DATA, TEXT))

@@ -12,7 +12,7 @@ from support import AUCTION, AUCTION_RESULTS, TOP, journal_of, read_results, res
 
 from lib.base import clock, rules, text
 from lib.journal import journal
-from lib.sheets import order_table, sheets
+from lib.sheets import command_table, order_table, sheets
 from lib.tool import command, modules
 
 HEADER = "participant,order,kind,side,price_eur_mwh,periods,volume_mw,parent,group"
@@ -91,6 +91,8 @@ class Columns(unittest.TestCase):
                 self.assertEqual(wrong(*rows, header=f"{header},group{between}GAS"), [f"line 1, column 8: 'group{said}"])
             self.assertIn("has a character that ends a line", wrong(header=f"{header}{between}{first}{between}")[0])
             self.assertIn("has a character that ends a line", wrong(self.ROW, header=f"{header}{between}")[0])
+            rows = [self.ROW, f"{self.ROW},x{between}{first},"]
+            self.assertEqual(wrong(*rows, header=f"{HEADER}{',note' * 9}"), [f"line 3, column 10: 'x{said}"])
         for between in (" ", ",", "", ",,"):
             (said,) = wrong(self.ROW, header=f"{header},note{between}{first}")
             self.assertRegex(said, f"^line 1, column (9|10|11|12): 'hour' {ends}$")
@@ -98,6 +100,24 @@ class Columns(unittest.TestCase):
             self.assertEqual(wrong(header=f"{header},{heading}"), [f"line 1, column 8: '{heading}' {ends}"])
         for headings in ("hour,2026", "2025,2026,2026-11-25", "block", "buy,sell", "hour of a day,buy price,1,2", "x\x1b", "price 2026"):
             self.assertEqual(len(made(self.ROW.removesuffix(",,"), header=f"{header},{headings}")[0]), 1)
+
+    def test_a_command_on_the_line_of_the_header(self):
+        """It would be lost. A cancel has no number, side or kind, and its word may end the last heading."""
+        ends = "is no heading, but may be of a command: write each command on a line of its own, and headings in words"
+        for heads, command in (
+            ("what,participant,order,note", "cancel,A,K1"),
+            ("what,participant,order,price_eur_mwh,periods,volume_mw,note", "amend,A,8-20,1,8,5"),
+            ("participant,order,what,note", "A,K1,Cancel"),
+            ("scenario,what,participant,order,note", "1,cancel,A,K1"),
+        ):
+            for between in ("", " ", ",", ",,"):
+                with self.subTest(command, between=between), self.assertRaises(order_table.BadOrders) as caught:
+                    command_table.parse_commands(order_table.parse_cells(f"{heads}{between}{command}\n{command}\n".encode()), 24)
+                self.assertRegex(str(caught.exception).splitlines()[0], f"^line 1, column [0-9]: '(note ?)?([Cc]ancel|amend)' {ends}$")
+        for heads in ("to cancel", "cancelled,by", "orders to cancel,with reason,date", "why amend,A1"):
+            data = f"what,participant,order,{heads}\ncancel,A,K1\n".encode()
+            found, _ = command_table.parse_commands(order_table.parse_cells(data), 24)
+            self.assertEqual(len(list(found)), 1, heads)
 
     def test_headers_of_tables_put_together(self):
         lines, notes = made(self.ROW, HEADER, self.ROW.replace("A,", "B,"))

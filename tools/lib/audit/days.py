@@ -87,8 +87,10 @@ def require_listed_pairs(path, notes):
         raise command.Stop(f"{command.shown(path)} is {kind}: save the table of days as CSV")
     try:
         rows = iter(sheets.text_rows(data, notes))
-        heads = [cell.strip().lower() for cell in next(rows, (0, []))[1]]
+        header = next(rows, (0, []))[1]
+        heads = [cell.strip().lower() for cell in header]
         refuse_heads(path, heads)
+        refuse_lost_day(path, header)
         pairs, lines = [], {}
         for line, row in rows_within_limit(path, rows):
             cells = {name: without_outer_spaces(path.parent, cell) for name, cell in zip(heads, row)}
@@ -118,6 +120,14 @@ def refuse_heads(path, heads):
     for name in (NAME, *COLUMNS):
         if heads.count(name) > 1:
             raise command.Stop(f"{command.shown(path)} isn't a table of days: its first line names the column {name} twice")
+
+
+def refuse_lost_day(path, header):
+    """Ends the audit if the header of a manifest goes on with the files of a day."""
+    for cell in header:
+        if split_suffix(cell.strip())[1] in (JOURNAL, RESULTS):
+            words = f"{text.quoted(cell)} of its first line is no heading, but may be of a day: write each day on a line of its own"
+            raise command.Stop(f"{command.shown(path)} isn't a table of days: {words}")
 
 
 def extra_cells_words(line, row, heads):

@@ -30,9 +30,9 @@ FULL = {
     "BlocksFull": f"a book holds at most {rules.MOST_BLOCKS} blocks",
 }
 DAYS = [str(periods) for periods in rules.DAYS]
-# What ends a line for some programs, and none of a text; and parts of an order that are no heading: words, and cells of digits.
-OTHER_ENDS = re.compile("[\v\f\x1c-\x1e\x85\u2028\u2029]")
+# Parts of an order or a command that are no heading: words, and cells of digits.
 KINDS, SIDES, DIGITS = ("hour", "block"), ("buy", "sell"), re.compile(r"[\W\d]*\d[\W\d]*")
+COMMAND_AT_END = re.compile("(?:submit|amend|cancel)$")  # of a cell
 
 
 def find_columns(line, header, needed, further):
@@ -42,9 +42,7 @@ def find_columns(line, header, needed, further):
     missing = [name for name in ORDER if name not in names]
     places, wrong, unused = {}, [], {}
     for at, (name, cell) in enumerate(zip(names, header), 1):
-        if OTHER_ENDS.search(cell):
-            wrong.append(f"line {line}, column {at}: {text.quoted(cell)} has a character that ends a line for some programs: remove it")
-        elif name in places or name in further and names.index(name) < at - 1:
+        if name in places or name in further and names.index(name) < at - 1:
             wrong.append(f"line {line}, column {at}: the column {text.quoted(name)} appears twice")
         elif isinstance(cell, (Styled, Uncomputed)):
             wrong.append(f"line {line}, column {at}: {cell.fault()}")
@@ -255,6 +253,7 @@ def require_order_table(name, found, needed=NEEDED, further=()):
     try:
         places, unused = find_columns(line, header, needed, further)
         refuse_lost_order(line, unused, found.rest())
+        refuse_lost_command(line, unused if WHAT in further else {})
         refuse_unnamed(header, found.rest())
     except BadOrders as fault:
         raise BadOrders("\n".join([str(fault), *read])) from None
@@ -271,9 +270,26 @@ def refuse_lost_order(line, unused, rows):
     words = [at for at, cell in unused.items() if cell.strip().lower() in KINDS + SIDES]
     numbers = [at for at, cell in unused.items() if DIGITS.fullmatch(cell)]
     if words and len(numbers) > 1 or (words or numbers) and next(iter(rows), None) is None:
-        at = min(words + numbers)
-        said = "is no heading, but may be of an order: write each order on a line of its own, and headings in words"
-        raise BadOrders(f"line {line}, column {at}: {text.quoted(unused[at])} {said}")
+        raise lost_row_fault(line, min(words + numbers), unused, "an", "order")
+
+
+def refuse_lost_command(line, unused):
+    """Refuses a header that goes on with a command: with its word, or with one that ends the last heading, and the names behind it."""
+    for at, cell in unused.items():
+        words = cell.strip().lower()
+        names = [unused.get(at + 1, ""), unused.get(at + 2, "")]
+        if COMMAND_AT_END.match(words) or COMMAND_AT_END.search(words) and all(map(is_name, names)):
+            raise lost_row_fault(line, at, unused, "a", "command")
+
+
+def is_name(cell):
+    """Whether a cell may be the name of an order or a participant."""
+    return fields.parse_field("order", cell.strip().upper())[1] is None
+
+
+def lost_row_fault(line, at, unused, article, thing):
+    words = f"is no heading, but may be of {article} {thing}: write each {thing} on a line of its own, and headings in words"
+    return BadOrders(f"line {line}, column {at}: {text.quoted(unused[at])} {words}")
 
 
 def refuse_unnamed(header, rows):

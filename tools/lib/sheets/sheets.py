@@ -8,6 +8,7 @@ import itertools
 import os
 import re
 
+from ..base import text
 from ..workbooks import limits, reading
 from ..workbooks.cells import escaped, trimmed
 from . import shapes
@@ -17,6 +18,7 @@ PART, LONGEST_ROW = 1 << 20, 1 << 20  # bytes that are decoded at once, and char
 MOST_LINES = limits.LAST_ROW  # of a text
 MANY = 10  # how many times the cells and the text of a workbook a text may have if its rows aren't limited
 WORD = re.compile(r"[^\s,;\"]")  # a character that no empty row has
+OTHER_ENDS = re.compile("[\v\f\x1c-\x1e\x85\u2028\u2029]")  # what ends a line for some programs, and none of a text
 PREFERRED = "orders"  # the sheet that is read if there are several
 # The marks by which a program takes a cell for a formula, also the wide ones. In some languages a comma, a semicolon or a tab in a cell
 # begins another one.
@@ -41,8 +43,8 @@ def parse_rows(data, needed=(), notes=None, most=None, is_long=False):
     text isn't in UTF-8. The rows of a workbook are kept packed, and of a text that may be long not at all."""
     notes = [] if notes is None else notes
     if not is_workbook(data):
-        text = Text(data, notes, most, MANY if is_long or most is None else 1)
-        return text if is_long else list(text), text.has_decimal_comma
+        found = Text(data, notes, most, MANY if is_long or most is None else 1)
+        return found if is_long else list(found), found.has_decimal_comma
     try:
         rows, note = reading.read_rows(data, PREFERRED, needed, most)
     except limits.BadWorkbook as fault:
@@ -103,6 +105,14 @@ class Lines:
         return self.line
 
 
+def refuse_other_ends(number, line, cells):
+    """Refuses a line that may be two: the second one could be lost in columns that aren't used."""
+    for column, cell in enumerate(cells if OTHER_ENDS.search(line) else [], 1):
+        if OTHER_ENDS.search(cell):
+            words = f"{text.quoted(cell)} has a character that ends a line for some programs: remove it"
+            raise BadTable(f"line {number}, column {column}: {words}")
+
+
 class Count:
     """The cells and the text of a table, which are limited as the ones of a workbook."""
 
@@ -157,6 +167,7 @@ class Text:
                     # more cells than the header, even empty ones: a number with a comma may be two of them
                     cells = whole if len(whole) > width else cells
                     if not self.is_counted:
+                        refuse_other_ends(lines.number, lines.line, cells)
                         count.add(lines.number, cells)
                     found += 1
                     yield lines.number, cells
