@@ -206,7 +206,7 @@ class Setup(Office):
             ("participant\nGAS,10\n", "line 2: it has 2 cells, but the header has 1"),
             (
                 "participant,commands\nGAS,10\vOIL,5\n",
-                f"line 2: it has 3 cells, but the header has 2\n  line 2, column commands: '10\\x0bOIL' {number}",
+                "line 2, column 2: '10\\x0bOIL' has a character that ends a line for some programs: remove it",
             ),
             ("participant,commands\nGAS,1.5\n", f"line 2, column commands: '1.5' {number}"),
             (

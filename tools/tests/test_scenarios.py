@@ -354,7 +354,7 @@ class Tool(unittest.TestCase):
 
     def test_characters_that_no_name_has(self):
         """No line of a text, or no cell of a workbook, could hold them."""
-        for character in "\x1b", "\t", "\x7f", "\x85", "\ufffe":
+        for character in "\x1b", "\t", "\x7f", "\x9b", "\ufffe":
             self.table.write_text(f"{COMMANDS}a,,,,,,,,,,\na{character}b,,,,,,,,,,\n")
             said = f"whatif: {self.table}: line 3, column scenario: 'a{text.escaped(character)}b' has a control character: remove it\n"
             found = run_tool("whatif", "scenarios", "--program", "/bin/true", self.journal, self.table)
