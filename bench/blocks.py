@@ -13,7 +13,7 @@ of a few milliseconds."""
 
 import make_blocks
 import make_family
-from clearing import MOST_OF_BEFORE, MOST_OF_DEEP, BooksTogether, kinds_asked_or_exit, write_book
+from clearing import MOST_OF_BEFORE, MOST_OF_DEEP, BooksTogether, parse_kinds_or_exit, write_book
 from running import TWIN, prepare_enumeration
 
 DEFAULT = ["2", "3"]  # the default plan: workers, and how many of the first blocks are cut
@@ -32,9 +32,10 @@ def measure_book(drawn):
 
 def main():
     drawn = [*make_blocks.BOOKS, *make_family.BOOKS]
-    kinds = kinds_asked_or_exit(drawn)
+    kinds = parse_kinds_or_exit(drawn)
     books = [measure_book(each) for each in drawn if each.kind in kinds]
     BooksTogether("deep books", books).record_sums(MOST_OF_DEEP, MOST_TOGETHER)
 
 
-main()
+if __name__ == "__main__":
+    main()

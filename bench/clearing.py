@@ -22,7 +22,7 @@ LEAST_OF_PEER = 20  # times as long as `dam clear`
 OTHERS = {"alone": "the same without blocks", "before": "the program before", "enumeration": "the enumeration"}
 
 
-def kinds_asked_or_exit(books):
+def parse_kinds_or_exit(books):
     """The kinds of books that the command line names, or else all of these books."""
     known = list(dict.fromkeys(drawn.kind for drawn in books))
     kinds = sys.argv[1:] or known

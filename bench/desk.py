@@ -32,7 +32,7 @@ TARGETS = {1: 0.8, 64: 2, 1_000: 2}  # times as many records as sqlite3, by the 
 TABLE = "CREATE TABLE journal (number INTEGER PRIMARY KEY, record TEXT NOT NULL)"
 
 
-def empty_for_desk_file(folder):
+def empty_folder_for_desk(folder):
     """The path of a file in a folder, which is emptied."""
     for path in Path(folder).iterdir():
         path.unlink()
@@ -51,14 +51,14 @@ def run_with_replay(desk):
 
 
 def record_writing(folder):
-    desk, replay = run_with_replay(lambda _: run_or_exit([DESK, empty_for_desk_file(folder)], JOURNAL))
+    desk, replay = run_with_replay(lambda _: run_or_exit([DESK, empty_folder_for_desk(folder)], JOURNAL))
     if desk[0].text != replay[0].text:
         sys.exit("the desk and dam replay print different texts")
     record_times("dam replay compared with a desk in memory, 10,000 records", replay, desk, least=0.5)
 
 
 def record_opening(folder, medium):
-    file = empty_for_desk_file(folder)
+    file = empty_folder_for_desk(folder)
     run_or_exit([DESK, file], JOURNAL)
     record_times(f"opening 10,000 records {medium} compared with dam replay", *run_with_replay(lambda _: run_or_exit([DESK, file])), 2)
 
@@ -78,7 +78,7 @@ def time_desk(folder, batches):
     in_packets = max(map(len, batches)) <= device.PACKET
     ours, theirs = os.pipe2(os.O_CLOEXEC | (os.O_DIRECT if in_packets else 0))
     fcntl.fcntl(theirs, fcntl.F_SETPIPE_SZ, device.ROOM)
-    with subprocess.Popen([DESK, empty_for_desk_file(folder)], stdin=ours, stdout=subprocess.PIPE) as desk, ThreadPoolExecutor(1) as reader:
+    with subprocess.Popen([DESK, empty_folder_for_desk(folder)], stdin=ours, stdout=subprocess.PIPE) as desk, ThreadPoolExecutor(1) as reader:
         os.close(ours)
 
         def enter(given):
@@ -109,7 +109,7 @@ def read_answers_or_exit(desk, batches):
 def time_sqlite(folder, size):
     """The seconds in which sqlite3 keeps the journal."""
     records = Path(JOURNAL).read_text().splitlines()
-    with contextlib.closing(sqlite3.connect(empty_for_desk_file(folder), isolation_level=None)) as database:
+    with contextlib.closing(sqlite3.connect(empty_folder_for_desk(folder), isolation_level=None)) as database:
         for words in ("PRAGMA journal_mode=WAL", "PRAGMA synchronous=FULL", TABLE):
             database.execute(words)
         begun = time.perf_counter()
@@ -124,7 +124,7 @@ def record_memory(folder):
     run_to_file(BLOCKS, "./make_journal.py", "blocks")
     for about, journal in [("10,000 records", JOURNAL), ("10,000 blocks of 100 volumes", BLOCKS)]:
         replay = run_for_peak_memory([DAM, "replay"], journal)
-        file = empty_for_desk_file(folder)
+        file = empty_folder_for_desk(folder)
         for what, given in [("a desk", journal), ("an opening", os.devnull)]:
             more = run_for_peak_memory([DESK, file], given) - replay
             record_at_most(f"memory of {what} above dam replay's, {about}", more, 10, shown=MIB, detail=f"dam replay has {MIB(replay)}")
@@ -141,4 +141,5 @@ def main():
         record_rates(folder)
 
 
-main()
+if __name__ == "__main__":
+    main()

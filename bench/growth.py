@@ -31,12 +31,11 @@ def run_twin_for_nodes(family, periods, blocks):
 
 
 def record_nodes(family, periods, counts):
-    """Prints the nodes of a family's greatest book, and returns those of each of its books."""
+    """Prints the nodes of a family's books: those of the greatest, and in the details the others."""
     *smaller, most = ("?" if nodes is None else f"{nodes:,}" for nodes in counts)
     holds = counts[-1] is not None and counts[-1] <= MOST
     detail = "; ".join(f"{nodes} with {blocks}" for blocks, nodes in zip(BLOCKS, smaller))
     record_figure(f"{family}, {periods} periods: nodes with {BLOCKS[-1]} blocks", most, f"at most {MOST:,}", holds, detail)
-    return counts
 
 
 def write_picture(nodes):
@@ -64,5 +63,14 @@ def write_picture(nodes):
     figure.savefig(PICTURE, metadata={"Date": None, "Title": "Nodes of each family by the number of blocks"})
 
 
-days = [(family, periods) for family in FAMILIES for periods in PERIODS]
-write_picture({day: record_nodes(*day, [run_twin_for_nodes(*day, blocks) for blocks in BLOCKS]) for day in days})
+def main():
+    nodes = {}
+    for family in FAMILIES:
+        for periods in PERIODS:
+            nodes[family, periods] = [run_twin_for_nodes(family, periods, blocks) for blocks in BLOCKS]
+            record_nodes(family, periods, nodes[family, periods])
+    write_picture(nodes)
+
+
+if __name__ == "__main__":
+    main()

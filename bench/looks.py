@@ -19,10 +19,23 @@ def time_measures_and_plain(words, repeats, book, most):
     return ([one.reported_seconds(words[0]) / repeats for one in runs[name]] for name in ("one", "other"))
 
 
-for others in (0, 1, 3):
-    found = time_measures_and_plain(["looks", str(others), str(LOOKS)], LOOKS, "out/hourly.csv", most=9)
-    record_ratio(f"a look compared with a plain one, while {others} threads call and look", *found, 3)
-for orders in (100, 1_000, 4_000):
-    book = run_to_file(f"out/hourly-{orders}.csv", "./make_family.py", "market", str(orders), "0")
-    one, other = map(statistics.median, time_measures_and_plain(["calls", str(CALLS)], CALLS, book, most=5))
-    record_at_most(f"a call, {orders:,} orders held", one, 150e-6, detail=f"a plain one {seconds_text(other)}")
+def record_looks():
+    for others in (0, 1, 3):
+        found = time_measures_and_plain(["looks", str(others), str(LOOKS)], LOOKS, "out/hourly.csv", most=9)
+        record_ratio(f"a look compared with a plain one, while {others} threads call and look", *found, 3)
+
+
+def record_calls():
+    for orders in (100, 1_000, 4_000):
+        book = run_to_file(f"out/hourly-{orders}.csv", "./make_family.py", "market", str(orders), "0")
+        one, other = map(statistics.median, time_measures_and_plain(["calls", str(CALLS)], CALLS, book, most=5))
+        record_at_most(f"a call, {orders:,} orders held", one, 150e-6, detail=f"a plain one {seconds_text(other)}")
+
+
+def main():
+    record_looks()
+    record_calls()
+
+
+if __name__ == "__main__":
+    main()

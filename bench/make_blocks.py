@@ -23,7 +23,7 @@ import math
 import random
 import sys
 
-from make_family import BLOCKS, HOURS, MOST_HOURLY, DayMarket, DrawnBook, number_or_exit
+from make_family import BLOCKS, HOURS, MOST_HOURLY, DayMarket, DrawnBook, parse_number_or_exit
 from make_journal import CLOSE, PARTICIPANTS, Order
 
 HOURLY, MOST_THIN = 3_800, 1_500  # the usual number of hourly orders, and the greatest of a thin market
@@ -194,9 +194,9 @@ def main():
     if not 3 <= len(words) <= 7 or words[0] not in KINDS:
         sys.exit(__doc__)
     kind, spread, seed, parts, count, orders, bonds = [*words, *["1", str(BLOCKS), str(HOURLY), FREE][len(words) - 3 :]]
-    spread, seed = number_or_exit("SPREAD", spread, range(MOST_SPREAD + 1)), number_or_exit("SEED", seed, range(MOST_SEED + 1))
-    parts, count = number_or_exit("PARTS", parts, (1, 4), "1 or 4"), number_or_exit("BLOCKS", count, range(BLOCKS + 1))
-    orders = number_or_exit("HOURLY", orders, range(MOST_HOURLY + 1))
+    spread, seed = parse_number_or_exit("SPREAD", spread, range(MOST_SPREAD + 1)), parse_number_or_exit("SEED", seed, range(MOST_SEED + 1))
+    parts, count = parse_number_or_exit("PARTS", parts, (1, 4), "1 or 4"), parse_number_or_exit("BLOCKS", count, range(BLOCKS + 1))
+    orders = parse_number_or_exit("HOURLY", orders, range(MOST_HOURLY + 1))
     if bonds not in BONDS:
         sys.exit(f"make_blocks.py: BONDS is '{bonds}' and should be one of {' '.join(BONDS)}")
     drawn = f"{kind} {spread} {seed} {parts}"

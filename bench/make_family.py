@@ -140,7 +140,7 @@ BOOKS = [book_of_family(family, hourly, parts) for family in FAMILIES for hourly
 THIN = [book_of_family(family, MOST_THIN, parts) for family in ("links", "groups") for parts in (1, 4)]
 
 
-def number_or_exit(name, word, allowed, of=""):
+def parse_number_or_exit(name, word, allowed, of=""):
     """A number on the command line, one of the allowed ones."""
     if not (word.isascii() and word.isdecimal()) or int(word) not in allowed:
         program, of = sys.argv[0].rpartition("/")[2], of or f"a number from 0 to {allowed[-1]}"
@@ -152,9 +152,9 @@ def main():
     words = sys.argv[1:]
     if not 2 <= len(words) <= 4 or words[0] not in FAMILIES:
         sys.exit(__doc__)
-    family, orders = words[0], number_or_exit("HOURLY", words[1], range(MOST_HOURLY + 1))
-    count = number_or_exit("BLOCKS", words[2], range(BLOCKS + 1)) if len(words) > 2 else BLOCKS
-    parts = number_or_exit("PARTS", words[3], (1, 4), "1 or 4") if len(words) > 3 else 1
+    family, orders = words[0], parse_number_or_exit("HOURLY", words[1], range(MOST_HOURLY + 1))
+    count = parse_number_or_exit("BLOCKS", words[2], range(BLOCKS + 1)) if len(words) > 2 else BLOCKS
+    parts = parse_number_or_exit("PARTS", words[3], (1, 4), "1 or 4") if len(words) > 3 else 1
     day = DayMarket(parts, random.Random(f"{SEED} {family} {orders}"))
     order = flat_hourly if family == "ties" else draw_hourly
     volume = max(orders * 275 // day.count // 20, 10)  # a tenth of that of one side of a period

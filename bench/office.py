@@ -74,4 +74,5 @@ def main():
     record_whole_day()
 
 
-main()
+if __name__ == "__main__":
+    main()

@@ -20,7 +20,7 @@ HERE = Path(__file__).resolve().parent
 PAGE = HERE.parent / "docs" / "MEASURED.md"
 KEPT = HERE / "measured"
 WRITTEN = ["docs/MEASURED.md", "docs/growth.svg", "bench/measured"]  # by the bench itself
-PARTS = ["quick", "blocks", "thin", "growth", "workers", "looks", "desk", "office"]
+PARTS = [line.partition("\t")[0] for line in (HERE / "parts.tsv").read_text(encoding="utf-8").splitlines()]
 COLUMNS = ["what", "figure", "target", "holds", "details"]
 RUN_COLUMNS = ["part", "date", "commit", "machine", "load", "kit", "notes"]
 # The figures that the page shows of each part, apart from those that miss a target; the others stand in the files alone. Of the groups the
@@ -102,7 +102,7 @@ def write_rows(path, columns, rows):
         csv.writer(text, lineterminator="\n").writerows([columns, *rows])
 
 
-def write_taken_over(parts):
+def write_kept_figures(parts):
     """Replaces the kept figures and runs of these parts by those that they have just printed."""
     runs = {row[0]: row for row in read_rows(KEPT / "runs.csv")}
     for part in parts:
@@ -179,7 +179,7 @@ def rows_of_missed(rows):
             yield [kind, count, span_text([figure for _, figure in wrong]), target, furthest]
 
 
-def read_section(part):
+def read_figures_into_section(part):
     """The figures that the page shows of a part; a table by books begins with the words that say which books these are."""
     words, rows = f"{read_description(part)}\n" if part in CELLS else None, read_rows(KEPT / f"{part}.csv")
     return "\n".join(filter(None, [f"## `bench/run {part}`\n", words, table_of_part(part, rows), table_of_names(TOGETHER, rows), PICTURES.get(part)]))
@@ -204,7 +204,8 @@ def sentences_by_value(runs, column, words):
     return "".join(f"{subject} {words.format(value)}.\n" for subject, value in subjects)
 
 
-def read_page():
+def read_figures_into_page():
+    """The page, from the kept figures of all parts."""
     runs = read_rows(KEPT / "runs.csv")
     notes = list(dict.fromkeys(note for run in runs for note in run[6].split("; ") if note))
     lines = [read_row_of_run(run[0], run[4], " ".join(f"({notes.index(note) + 1})" for note in run[6].split("; ") if note)) for run in runs]
@@ -214,7 +215,7 @@ def read_page():
     circumstances += f"Notes: {notes}.\n" if notes else ""
     wrong = [[run[0], *each] for run in runs for each in rows_of_missed(read_rows(KEPT / f"{run[0]}.csv"))]
     wrong = markdown_table(["Part", "Missed", "How many", "Figures", "Target", "Worst"], wrong) if wrong else "None.\n"
-    return "\n".join([HEAD, when, textwrap.fill(circumstances, 140, break_on_hyphens=False) + "\n", "## Missed targets\n", wrong, *map(read_section, (run[0] for run in runs))])
+    return "\n".join([HEAD, when, textwrap.fill(circumstances, 140, break_on_hyphens=False) + "\n", "## Missed targets\n", wrong, *map(read_figures_into_section, (run[0] for run in runs))])
 
 
 def main():
@@ -223,8 +224,8 @@ def main():
         sys.exit(f"usage: page.py [PART..], of {' '.join(PARTS)}")
     KEPT.mkdir(exist_ok=True)
     if parts:
-        write_taken_over(parts)
-    PAGE.write_text(read_page(), encoding="utf-8")
+        write_kept_figures(parts)
+    PAGE.write_text(read_figures_into_page(), encoding="utf-8")
 
 
 if __name__ == "__main__":

@@ -127,4 +127,5 @@ def main():
     print(peer, round(lasted * 1e9), file=sys.stderr)
 
 
-main()
+if __name__ == "__main__":
+    main()

@@ -21,7 +21,7 @@ def record_programs(what, words, others, journal, most, same=False):
     record_times(what, ones, others, most)
 
 
-def record_journals():
+def record_commands():
     baseline, replay, day = [BASELINE, "day"], [DAM, "replay"], [DAM, "day"]
     record_programs("dam replay compared with the baseline, 10,000 records", replay, [BASELINE], JOURNAL, 1.2, same=True)
     record_programs("dam clear compared with dam replay, 4,000 hourly orders", [DAM, "clear"], replay, HOURLY, 1.5)
@@ -31,7 +31,16 @@ def record_journals():
     record_ratio(what, [run_for_peak_memory(day, DAY)], [run_for_peak_memory(baseline, DAY)], 1.5, shown=MIB, note=note)
 
 
-record_journals()
-laps = run_in_turns({"": [MEASURES, "settlement"]}, DAY)[""]
-what = "settle of 10,000 entries and 9 passes compared with a plain pass"
-record_ratio(what, *([each.reported_seconds(part) for each in laps] for part in ("settle", "receipts")), 3)
+def record_settlement():
+    laps = run_in_turns({"": [MEASURES, "settlement"]}, DAY)[""]
+    what = "settle of 10,000 entries and 9 passes compared with a plain pass"
+    record_ratio(what, *([each.reported_seconds(part) for each in laps] for part in ("settle", "receipts")), 3)
+
+
+def main():
+    record_commands()
+    record_settlement()
+
+
+if __name__ == "__main__":
+    main()

@@ -15,7 +15,7 @@ search looks for a subset of the volumes with the best sum, and hardly any bound
 
 import make_blocks
 import make_family
-from clearing import MOST_OF_BEFORE, BooksTogether, kinds_asked_or_exit, write_book
+from clearing import MOST_OF_BEFORE, BooksTogether, parse_kinds_or_exit, write_book
 from running import prepare_enumeration
 
 MOST = 3.0  # seconds
@@ -34,7 +34,7 @@ def measure_book(drawn):
 
 
 def main():
-    kinds = kinds_asked_or_exit(BOOKS)
+    kinds = parse_kinds_or_exit(BOOKS)
     books = [measure_book(each) for each in BOOKS if each.kind in kinds]
     BooksTogether("wide and mixed books", [book for book in books if not book.drawn.is_thin]).record_sums(MOST, {})
     thin = BooksTogether("all thin books", [book for book in books if book.drawn.is_thin])
@@ -42,4 +42,5 @@ def main():
     thin.record_slower(ONE_IN)
 
 
-main()
+if __name__ == "__main__":
+    main()

@@ -51,4 +51,5 @@ def main():
             record_default(f"{family} {orders}", run_to_file(f"out/{family}-{orders}.csv", "./make_family.py", family, orders))
 
 
-main()
+if __name__ == "__main__":
+    main()

@@ -53,7 +53,7 @@ class Benchmarks(unittest.TestCase):
 
 class Measured(unittest.TestCase):
     def test_the_page_is_made_of_the_kept_figures(self):
-        self.assertEqual(page.PAGE.read_text(encoding="utf-8"), page.read_page())
+        self.assertEqual(page.PAGE.read_text(encoding="utf-8"), page.read_figures_into_page())
 
     def test_every_kept_file_is_of_a_part_and_a_run(self):
         parts = [row[0] for row in page.read_rows(page.KEPT / "runs.csv")]
@@ -112,9 +112,9 @@ class Measured(unittest.TestCase):
             (here / "out" / "blocks.tsv").write_text("".join("\t".join(row) + "\n" for row in ROWS))
             with unittest.mock.patch.multiple(page, HERE=here, KEPT=here / "measured", query_version=len):
                 with unittest.mock.patch.dict("os.environ", {"PEER_LIMIT": "5", "BEFORE_IS": "that of yesterday"}):
-                    page.write_taken_over(["blocks"])
+                    page.write_kept_figures(["blocks"])
                     of_peers = [page.query_facts_of_run(part)[-1] for part in ("blocks", "thin")]
-                text = page.read_page()
+                text = page.read_figures_into_page()
         peers = "HiGHS (of SciPy 13) and CBC (10): the time of solving alone, at most 5 s"  # the lengths of the packages' names
         self.assertEqual(of_peers, [f"{peers}; the program before is that of yesterday"] * 2)
         self.assertIn(f"Notes: (1) {peers}; (2) the program before is that of yesterday.", " ".join(text.split()))
