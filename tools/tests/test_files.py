@@ -66,6 +66,22 @@ class Files(unittest.TestCase):
             self.assertEqual(subprocess.run(words, stdin=given, stderr=subprocess.DEVNULL).returncode, command.COMMAND_LINE)
         self.assertEqual([path.read_bytes() for path in (*texts, orders)], [AUCTION.read_bytes(), read_results(AUCTION), made])
 
+    def test_standard_output_is_no_input(self):
+        """The text of a tool would follow the published results, or a table that is read again."""
+        texts = self.journal, self.results
+        for name, words in (("audit", texts), ("lint", [self.journal]), ("table", [*texts, "--rows", "orders"]), ("table", ["-", self.results])):
+            for path in (self.journal, self.results)[: len(words)]:
+                with self.subTest(name, path=path), path.open("ab") as out, self.journal.open() as given:
+                    shown = "standard input" if words[0] == "-" and path == self.journal else path
+                    ran = subprocess.run([sys.executable, TOOLS / name, *words], stdin=given, stdout=out, stderr=subprocess.PIPE)
+                    said = f"{name}: standard output goes to {shown}, which is one of the inputs: write to another file\n"
+                    self.assertEqual((ran.returncode, ran.stderr.decode()), (command.NO_INPUT, said))
+        self.assertEqual([path.read_bytes() for path in texts], [AUCTION.read_bytes(), read_results(AUCTION)])
+        # a program that has closed it, and reads a file by dam_tools, may give its number to the file
+        code = f"import sys; sys.path.insert(0, {str(TOOLS)!r}); import dam_tools; dam_tools.read_results(*sys.argv[1:])"
+        closed = subprocess.run(["sh", "-c", 'exec "$@" >&-', "sh", sys.executable, "-c", code, *texts], stderr=subprocess.PIPE)
+        self.assertEqual((closed.returncode, closed.stderr), (0, b""))
+
     def test_an_old_file_stays_until_the_new_one_is_whole(self):
         out, words = self.folder / "a.csv", [sys.executable, TOOLS / "table", "--quiet", self.journal, self.results, "-o"]
         small = {"preexec_fn": lambda: resource.setrlimit(resource.RLIMIT_FSIZE, (1_000, 1_000))}  # as on a full disk

@@ -25,12 +25,24 @@ def read_bytes(path):
     try:
         standard = contextlib.nullcontext(require_binary_stream(sys.stdin)) if path == "-" else None
         with standard or open(path, "rb", opener=open_without_waiting) as file:
+            refuse_own_output(path, file)
             data = read_first_bytes(file, MOST_BYTES + 1)
     except (OSError, ValueError) as fault:
         raise command.Stop(unread_message(path, fault)) from None
     if len(data) > MOST_BYTES:
         raise command.Stop(f"{command.shown(path)} has more than {MOST_BYTES:,} bytes")
     return data
+
+
+def refuse_own_output(path, file):
+    """Ends the tool if what it prints would be added to a file that it reads."""
+    try:
+        found = os.fstat(file.fileno())
+        is_own = sys.stdout is not None and stat.S_ISREG(found.st_mode) and os.path.samestat(found, os.fstat(1))
+    except (OSError, ValueError):  # one of them has no number, or is closed
+        return
+    if is_own:
+        raise command.Stop(f"standard output goes to {command.shown(path)}, which is one of the inputs: write to another file")
 
 
 def unread_message(path, fault):
