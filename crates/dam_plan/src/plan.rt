@@ -10,8 +10,8 @@ pub const MOST_WORKERS: u8 = 8;
 /// The greatest number of blocks that the cutting decides, which makes 256 pieces.
 pub const MOST_CUT: u8 = 8;
 
-/// A number of nodes. A search over n blocks visits at most 2^(n+1) - 1 nodes, so with a `u32` a book has at most 31
-/// blocks.
+/// A number of nodes. A search over n blocks visits at most 2^(n+1) - 1 nodes. That number is computed from 2^(n+1), so
+/// with a `u32` a book has at most 30 blocks.
 pub type Nodes = u32;
 
 /// The greatest number of nodes that may be visited in one piece.
