@@ -1,7 +1,6 @@
 -- The joint price falls as the net volume rises, so that it lies between the prices at the ends of a curve.
-use Rattle.std.proofs.Common.{◌≡◌, ℕ, zero, suc, ◌-◌, ◌*◌, ◌<◌, ℤ, pos, ◌+ℤ◌, ◌≤ℤ◌, ◌<ℤ◌, neg_ℤ, to_z, of_z, w32, Some, List, [], ◌∷◌, length, get_or, ap, ap₂, ◌∙◌, sym, subst, refl, arith}
-use Rattle.std.specs.Int.{int_max, int_min}
-use Rattle.std.proofs.lemmas.Int.{ints, int_max_is, int_min_is}
+use Rattle.std.proofs.Common.{◌≡◌, ℕ, zero, suc, ◌-◌, ◌*◌, ◌<◌, ℤ, pos, ◌+ℤ◌, ◌≤ℤ◌, neg_ℤ, to_z, of_z, w32, Some, List, [], ◌∷◌, length, get_or, ap, ap₂, ◌∙◌, sym, subst, refl, arith}
+use Rattle.std.proofs.lemmas.Int.{ints}
 use Rattle.dam_book.specs.Limits.{last_period}
 use Rattle.dam_hour.specs.Best.{greatest_welfare}
 use Rattle.dam_hour.specs.Limits.{greatest_price}

@@ -18,7 +18,7 @@ use Rattle.dam_hour.specs.Limits.{most_steps}
 use Rattle.dam_hour.specs.Execution.{AreInRange, IsHour, volume_on, offered_volume}
 use Rattle.dam_hour.specs.inside.Volumes.{if_better, better_volume, at_volume}
 use Rattle.dam_hour.specs.inside.Ladder.{rank_of, sort_key_of, total, rungs_from, placed_of, side_total, AreOfSide, IsRung}
-use Rattle.dam_hour.specs.inside.Edge.{not_worse_volume, IsServed, IsEdge, IsLimitOfSell}
+use Rattle.dam_hour.specs.inside.Edge.{not_worse_volume, IsServed, IsLimitOfSell}
 use Rattle.dam_hour.specs.declared.ladder.Rung.{Rung}
 use Rattle.dam_hour.proofs.Ladders.{counted, counted_before, counted_after, front_of_place, none_in_front, offered_total}
 use Rattle.dam_hour.proofs.Positions.{offered_small}
