@@ -22,7 +22,7 @@
 //! The crate doesn't know a faster search for a result than trying every selection, nor texts.
 #![tactic(auto)]
 
-mod accepted;
+mod block_effects;
 mod family;
 mod hindrances;
 pub mod laws;
@@ -35,7 +35,7 @@ mod scoring;
 mod selection;
 mod surpluses;
 
-pub use accepted::{
+pub use block_effects::{
     accepted_value, bought_volume, bought_volume_of_block, net_volume, net_volume_of_block,
     value_in, volume_in,
 };

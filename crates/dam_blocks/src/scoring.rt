@@ -3,7 +3,7 @@ ghost use Rattle.dam_book.specs.Limits.{last_period};
 ghost use Rattle.dam_blocks.specs.Eligible.{ArePrices, HasNoLoss, selection_welfare};
 ghost use Rattle.dam_blocks.specs.Score.{IsFirstUnbalanced, IsFirstLosing, IsVerdict};
 
-use crate::accepted::{accepted_value, net_volume};
+use crate::block_effects::{accepted_value, net_volume};
 use crate::laws;
 use crate::links::admissible;
 use crate::problem::{MOST_PERIODS, Problem};

@@ -7,7 +7,7 @@ ghost use Rattle.dam_blocks.specs.Family.{accepted_descendants};
 ghost use Rattle.dam_blocks.specs.Eligible.{surplus_in, surplus_of, surplus_at, family_surplus};
 ghost use Rattle.dam_blocks.specs.Magnitude.{IsWithin, greatest_gain, greatest_surplus};
 
-use crate::accepted::{cents_times_volume, signed, volume_in};
+use crate::block_effects::{cents_times_volume, signed, volume_in};
 use crate::family::descends;
 use crate::problem::Block;
 use crate::selection::Selection;

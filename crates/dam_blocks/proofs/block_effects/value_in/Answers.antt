@@ -3,7 +3,7 @@ use Rattle.std.proofs.Common.{◌≡◌, arith, rules}
 use Rattle.std.proofs.lemmas.Int.{ints}
 use Rattle.dam_blocks.specs.Selection.{value_in}
 use Rattle.dam_blocks.proofs.Magnitudes.{value_within}
-use Rattle.dam_blocks.proofs.accepted.value_in.Goals as goal
+use Rattle.dam_blocks.proofs.block_effects.value_in.Goals as goal
 
 pub returns-clause-size : goal.returns-clause-size
 returns-clause-size c =

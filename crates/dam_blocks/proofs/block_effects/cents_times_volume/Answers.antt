@@ -3,7 +3,7 @@ use Rattle.std.proofs.Common.{◌≡◌, ℤ, pos, neg_ℤ, ◌*ℤ◌, ◌≤�
 use Rattle.std.proofs.lemmas.Int.{ints}
 use Rattle.dam_blocks.specs.Magnitude.{IsWithin, greatest_gain}
 use Rattle.dam_blocks.proofs.Products.{product_within}
-use Rattle.dam_blocks.proofs.accepted.cents_times_volume.Goals as goal
+use Rattle.dam_blocks.proofs.block_effects.cents_times_volume.Goals as goal
 
 within : (c : goal.After-from-2) → IsWithin greatest_gain (c.args.cents *ℤ pos c.args.volume)
 within c = product_within c.args.cents c.args.volume c.requires.at_least c.requires.at_most c.requires.volume

@@ -2,7 +2,7 @@
 use Rattle.dam_book.specs.Limits.{greatest_volume}
 use Rattle.dam_blocks.specs.Selection.{net_volume_of_block}
 use Rattle.dam_blocks.proofs.RunningSums.{IsSumSoFar}
-use Rattle.dam_blocks.proofs.accepted.net_volume.Given as goal
+use Rattle.dam_blocks.proofs.block_effects.net_volume.Given as goal
 
 abbrev pub invariant-loop-place : goal.invariant-loop-place
 invariant-loop-place l = IsSumSoFar (net_volume_of_block l.period) greatest_volume l.blocks l.selection l.place l.total

@@ -5,8 +5,8 @@ use Rattle.std.proofs.lemmas.Option.{slice_get_read}
 use Rattle.dam_hour.specs.Limits.{greatest_value}
 use Rattle.dam_blocks.specs.Selection.{value_in}
 use Rattle.dam_blocks.proofs.RunningSums.{sum_more, sum_same}
-use Rattle.dam_blocks.proofs.accepted.accepted_value.Goals as goal
-use Rattle.dam_blocks.proofs.accepted.accepted_value.Goals.{then-has, else-has}
+use Rattle.dam_blocks.proofs.block_effects.accepted_value.Goals as goal
+use Rattle.dam_blocks.proofs.block_effects.accepted_value.Goals.{then-has, else-has}
 
 pub loop-place-preserved : goal.loop-place-preserved
 loop-place-preserved c =

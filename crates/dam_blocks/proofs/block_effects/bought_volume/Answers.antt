@@ -5,8 +5,8 @@ use Rattle.std.proofs.lemmas.Option.{slice_get_read}
 use Rattle.dam_book.specs.Limits.{greatest_volume}
 use Rattle.dam_blocks.specs.Selection.{bought_volume_of_block}
 use Rattle.dam_blocks.proofs.RunningSums.{sum_more, sum_same}
-use Rattle.dam_blocks.proofs.accepted.bought_volume.Goals as goal
-use Rattle.dam_blocks.proofs.accepted.bought_volume.Goals.{then-has, else-has}
+use Rattle.dam_blocks.proofs.block_effects.bought_volume.Goals as goal
+use Rattle.dam_blocks.proofs.block_effects.bought_volume.Goals.{then-has, else-has}
 
 pub loop-place-preserved : goal.loop-place-preserved
 loop-place-preserved c =

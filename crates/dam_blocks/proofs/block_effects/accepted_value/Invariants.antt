@@ -2,7 +2,7 @@
 use Rattle.dam_hour.specs.Limits.{greatest_value}
 use Rattle.dam_blocks.specs.Selection.{value_in}
 use Rattle.dam_blocks.proofs.RunningSums.{IsSumSoFar}
-use Rattle.dam_blocks.proofs.accepted.accepted_value.Given as goal
+use Rattle.dam_blocks.proofs.block_effects.accepted_value.Given as goal
 
 abbrev pub invariant-loop-place : goal.invariant-loop-place
 invariant-loop-place l = IsSumSoFar (value_in l.period) greatest_value l.blocks l.selection l.place l.total
