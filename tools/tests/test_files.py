@@ -69,7 +69,7 @@ class Files(unittest.TestCase):
     def test_standard_output_is_no_input(self):
         """The text of a tool would follow the published results, or a table that is read again."""
         texts = self.journal, self.results
-        for name, words in (("audit", texts), ("lint", [self.journal]), ("table", [*texts, "--rows", "orders"]), ("table", ["-", self.results])):
+        for name, words in (("audit", texts), ("lint", [self.journal]), ("table", texts), ("table", ["-", self.results])):
             for path in (self.journal, self.results)[: len(words)]:
                 with self.subTest(name, path=path), path.open("ab") as out, self.journal.open() as given:
                     shown = "standard input" if words[0] == "-" and path == self.journal else path
