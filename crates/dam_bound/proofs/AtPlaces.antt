@@ -16,7 +16,7 @@ use Rattle.dam_blocks.specs.Magnitude.{IsWithin}
 use Rattle.dam_blocks.specs.Selection.{volume_in, net_volume_of_block, value_in}
 use Rattle.dam_blocks.proofs.Magnitudes.{value_within}
 use Rattle.dam_bound.specs.Sums.{over_periods, at_places}
-use Rattle.dam_bound.specs.inside.Numbers.{AreNumbersWithin, AreRaised}
+use Rattle.dam_bound.specs.inside.BlockNumbers.{AreNumbersWithin, AreRaised}
 use Rattle.dam_bound.proofs.ClassPlaces.{periods_within}
 
 -- ---- reading

@@ -18,7 +18,7 @@ use Rattle.dam_bound.specs.ClassPrices.{IsClassPrice, AreClassPrices}
 use Rattle.dam_bound.specs.Prices.{greatest_priced_gain}
 use Rattle.dam_bound.specs.Sums.{class_places, over_places, at_places}
 use Rattle.dam_bound.specs.declared.class_curves.Class.{Class}
-use Rattle.dam_bound.specs.inside.Numbers.{AreNumbersWithin}
+use Rattle.dam_bound.specs.inside.BlockNumbers.{AreNumbersWithin}
 use Rattle.dam_bound.specs.inside.Counted.{counted_if}
 use Rattle.dam_bound.proofs.Accepted.{if_accepted}
 use Rattle.dam_bound.proofs.AtPlaces.{at_block}

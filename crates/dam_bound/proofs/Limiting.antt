@@ -19,7 +19,7 @@ use Rattle.dam_bound.specs.Prices.{over_gains}
 use Rattle.dam_bound.specs.Sums.{at_places}
 use Rattle.dam_bound.specs.declared.class_curves.Class.{Class}
 use Rattle.dam_bound.specs.declared.net_limits.NetLimit.{NetLimit}
-use Rattle.dam_bound.specs.inside.Numbers.{AreNumbersWithin, negative_sum}
+use Rattle.dam_bound.specs.inside.BlockNumbers.{AreNumbersWithin, negative_sum}
 use Rattle.dam_bound.proofs.Accepted.{if_accepted}
 use Rattle.dam_bound.proofs.ByClass.{has_whole}
 use Rattle.dam_bound.proofs.Lining.{gains_are, net_inside}

@@ -24,7 +24,7 @@ use Rattle.dam_bound.specs.Prices.{line_in, IsClassLine, IsByLines, IsPricing}
 use Rattle.dam_bound.specs.Sums.{class_places, over_places, at_places}
 use Rattle.dam_bound.specs.declared.class_curves.Class.{Class}
 use Rattle.dam_bound.specs.declared.pricing.Pricing.{Pricing}
-use Rattle.dam_bound.specs.inside.Numbers.{AreNumbersWithin, AreRaised}
+use Rattle.dam_bound.specs.inside.BlockNumbers.{AreNumbersWithin, AreRaised}
 use Rattle.dam_bound.proofs.AtPlaces.{at_same, all_within, raised_is, order_at, net_small, value_small}
 use Rattle.dam_bound.proofs.ClassPlaces.{over_same, over_within, over_next, take_get, is_place, listed, few_places, rising, few_taken, no_class, one_more}
 use Rattle.dam_bound.proofs.Lining.{bounds_welfare}

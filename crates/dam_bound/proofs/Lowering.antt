@@ -22,7 +22,7 @@ use Rattle.dam_bound.specs.ClassCurves.{class_orders, day_value, least_net_in, m
 use Rattle.dam_bound.specs.Prices.{over_gains, line_in, IsByLines}
 use Rattle.dam_bound.specs.Sums.{class_places, over_places, at_places}
 use Rattle.dam_bound.specs.declared.pricing.Pricing.{Pricing}
-use Rattle.dam_bound.specs.inside.Numbers.{AreCounts, weighted_sum, greatest_line_value}
+use Rattle.dam_bound.specs.inside.BlockNumbers.{AreCounts, weighted_sum, greatest_line_value}
 use Rattle.dam_bound.proofs.AtPlaces.{value_small, net_small}
 use Rattle.dam_bound.proofs.ByClass.{joint_of, whole_of, has_whole, from_classes}
 use Rattle.dam_bound.proofs.ClassPlaces.{over_most, over_within, over_from, over_next, take_get, is_place, few_places, few_taken}

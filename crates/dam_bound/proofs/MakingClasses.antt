@@ -22,7 +22,7 @@ use Rattle.dam_bound.specs.Classes.{first_of_class, members}
 use Rattle.dam_bound.specs.ClassCurves.{class_orders, least_net_in, most_net_in, IsClassIn, AreClasses}
 use Rattle.dam_bound.specs.Sums.{firsts_from, at_places, over_periods}
 use Rattle.dam_bound.specs.declared.class_curves.Class.{Class}
-use Rattle.dam_bound.specs.inside.Numbers.{AreNumbersWithin, negative_sum, positive_sum}
+use Rattle.dam_bound.specs.inside.BlockNumbers.{AreNumbersWithin, negative_sum, positive_sum}
 use Rattle.dam_bound.proofs.AtPlaces.{at_next, all_within, net_small, order_at}
 use Rattle.dam_bound.proofs.ClassPlaces.{place_more, place_none}
 use Rattle.dam_bound.proofs.Levelling.{drop_at}

@@ -1,5 +1,5 @@
 -- The prices of the periods of a day: the ends of each are unique, and there are prices if every period balances.
-use Rattle.std.proofs.Common.{◌≡◌, ℕ, suc, ◌+◌, ℤ, ◌+ℤ◌, Bool, Option, Some, None, List, []}
+use Rattle.std.proofs.Common.{◌≡◌, ℕ, suc, ℤ, ◌+ℤ◌, Bool, Option, Some, None, List, []}
 use Rattle.std.proofs.Common.{◌∷◌, refl}
 use Rattle.std.specs.Option.{option_map}
 use Rattle.dam_hour.specs.declared.step.Step.{Step}

@@ -11,7 +11,7 @@ use Rattle.std.proofs.lemmas.List.{drop_all}
 use Rattle.dam_book.specs.Limits.{greatest_volume, most_blocks, last_period}
 use Rattle.dam_hour.specs.Limits.{greatest_price, greatest_value}
 use Rattle.dam_blocks.specs.Magnitude.{IsWithin}
-use Rattle.dam_bound.specs.inside.Numbers.{weighted_sum}
+use Rattle.dam_bound.specs.inside.BlockNumbers.{weighted_sum}
 use Rattle.dam_blocks.specs.Selection.{accepts}
 use Rattle.dam_bound.specs.Prices.{over_gains, over_open}
 use Rattle.dam_bound.proofs.Accepted.{if_accepted}

@@ -29,7 +29,7 @@ use Rattle.dam_bound.specs.Sums.{class_places, over_places, at_places}
 use Rattle.dam_bound.specs.declared.class_curves.Class.{Class}
 use Rattle.dam_bound.specs.declared.rivals.Weights.{Weights}
 use Rattle.dam_bound.specs.inside.Families.{IsFamily}
-use Rattle.dam_bound.specs.inside.Numbers.{AreNumbersWithin}
+use Rattle.dam_bound.specs.inside.BlockNumbers.{AreNumbersWithin}
 use Rattle.dam_bound.specs.inside.Rivals.{AreVolumes, weigh, IsMost}
 use Rattle.dam_bound.proofs.AtPlaces.{at_block, all_within, order_at, value_small}
 use Rattle.dam_bound.proofs.ClassPlaces.{times_plus, over_same, over_plus, over_times, over_next}

@@ -1,5 +1,5 @@
 -- The welfare of a period as a number, and sums of numbers in turn.
-use Rattle.std.proofs.Common.{ℕ, zero, suc, ◌+◌, ℤ, pos, ◌+ℤ◌, Option, Some, None}
+use Rattle.std.proofs.Common.{ℕ, zero, suc, ℤ, pos, ◌+ℤ◌, Option, Some, None}
 
 -- the welfare, if there is one
 abbrev pub worth : Option ℤ → ℤ

@@ -1,6 +1,6 @@
 -- Only contracts inside this crate cite these.
 pub mod Levels
 pub mod Families
-pub mod Numbers
+pub mod BlockNumbers
 pub mod Rivals
 pub mod Counted

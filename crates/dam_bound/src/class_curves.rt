@@ -9,10 +9,10 @@ ghost use Rattle.dam_bound.specs.Prices.{IsPricing, greatest_priced_gain};
 ghost use Rattle.dam_bound.specs.Relaxed.{without_rows};
 ghost use Rattle.dam_bound.specs.inside.Counted.{counted_if};
 
+use crate::block_numbers::{acceptance_weights, add_priced_nets, doubled_weights, weighted_sum};
 use crate::class_making::{add_class_curves, values_of};
 use crate::class_prices::ClassPrices;
 use crate::families::descendants_of_each;
-use crate::numbers::{acceptance_weights, add_priced_nets, doubled_weights, weighted_sum};
 use crate::pricing::Pricing;
 use dam_blocks::{Problem, Selection};
 use dam_book::MOST_BLOCKS;

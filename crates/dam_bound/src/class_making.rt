@@ -9,7 +9,7 @@ ghost use Rattle.dam_bound.specs.ClassCurves.{class_orders, AreClasses};
 ghost use Rattle.dam_bound.specs.Classes.{AreFirsts};
 ghost use Rattle.dam_bound.specs.Relaxed.{without_rows};
 ghost use Rattle.dam_bound.specs.Sums.{at_places, over_periods};
-ghost use Rattle.dam_bound.specs.inside.Numbers.{AreNumbersWithin, negative_sum, positive_sum};
+ghost use Rattle.dam_bound.specs.inside.BlockNumbers.{AreNumbersWithin, negative_sum, positive_sum};
 
 use crate::class_curves::Class;
 use crate::classes::firsts_of_classes;

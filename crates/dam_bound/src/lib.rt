@@ -37,6 +37,7 @@
 //! knows are which block descends from which.
 #![tactic(auto)]
 
+mod block_numbers;
 mod class_curves;
 mod class_making;
 mod class_prices;
@@ -46,7 +47,6 @@ pub mod laws;
 mod levels;
 mod net_limit_making;
 mod net_limits;
-mod numbers;
 mod pricing;
 mod relaxed;
 mod rivals;

@@ -15,7 +15,7 @@ use Rattle.dam_blocks.specs.Problem.{ProblemState}
 use Rattle.dam_bound.specs.ClassCurves.{class_orders, AreClassCurves}
 use Rattle.dam_bound.specs.Prices.{line_in, over_gains}
 use Rattle.dam_bound.specs.declared.class_curves.Class.{Class}
-use Rattle.dam_bound.specs.inside.Numbers.{greatest_line_value}
+use Rattle.dam_bound.specs.inside.BlockNumbers.{greatest_line_value}
 use Rattle.dam_bound.proofs.ClassPricing.{ArePricedSoFar, no_price, price_more, all_priced}
 use Rattle.dam_bound.proofs.LineByLine.{own_class, as_many}
 use Rattle.dam_bound.proofs.LossPrices.{price_fits}

@@ -6,7 +6,7 @@ use Rattle.dam_bound.specs.ClassCurves.{day_value, AreClassCurves}
 use Rattle.dam_bound.specs.Sums.{at_places}
 use Rattle.dam_bound.specs.declared.class_curves.Class.{Class}
 use Rattle.dam_bound.proofs.LineByLine.{no_line, line_more, gains_within, base_added, all_lines, own_class, price_narrow}
-use Rattle.dam_bound.specs.inside.Numbers.{AreRaised}
+use Rattle.dam_bound.specs.inside.BlockNumbers.{AreRaised}
 use Rattle.dam_bound.proofs.class_curves.ClassCurves.write_pricing.Goals as goal
 
 abbrev nothing : Class

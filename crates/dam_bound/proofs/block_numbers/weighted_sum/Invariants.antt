@@ -2,8 +2,8 @@
 use Rattle.std.proofs.Common.{◌≡◌, ◌*◌, ◌+ℤ◌, drop}
 use Rattle.dam_book.specs.Limits.{greatest_volume}
 use Rattle.dam_blocks.specs.Magnitude.{IsWithin}
-use Rattle.dam_bound.specs.inside.Numbers.{weighted_sum}
-use Rattle.dam_bound.proofs.numbers.weighted_sum.Given as goal
+use Rattle.dam_bound.specs.inside.BlockNumbers.{weighted_sum}
+use Rattle.dam_bound.proofs.block_numbers.weighted_sum.Given as goal
 
 abbrev pub invariant-loop-place : goal.invariant-loop-place
 invariant-loop-place l = record {

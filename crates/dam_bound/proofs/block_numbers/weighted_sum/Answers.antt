@@ -3,9 +3,9 @@ use Rattle.std.proofs.Common.{◌≡◌, suc, ◌+◌, ℕ, pos, drop, get_or, a
 use Rattle.std.proofs.lemmas.Int.{ints}
 use mir.Syntax.{w32}
 use mir.Val.{to_z}
-use Rattle.dam_bound.specs.inside.Numbers.{weighted_sum}
+use Rattle.dam_bound.specs.inside.BlockNumbers.{weighted_sum}
 use Rattle.dam_bound.proofs.PlaceSums.{weighted_from, weight_added}
-use Rattle.dam_bound.proofs.numbers.weighted_sum.Goals as goal
+use Rattle.dam_bound.proofs.block_numbers.weighted_sum.Goals as goal
 
 pub overflow_add-total : goal.overflow_add-total
 overflow_add-total c =

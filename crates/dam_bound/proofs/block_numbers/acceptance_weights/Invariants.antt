@@ -2,7 +2,7 @@
 use Rattle.std.proofs.Common.{◌≡◌, ℕ, ◌<◌, ℤ, pos, cond, length, get_or}
 use Rattle.dam_book.specs.Limits.{most_blocks}
 use Rattle.dam_blocks.specs.Selection.{accepts}
-use Rattle.dam_bound.proofs.numbers.acceptance_weights.Given as goal
+use Rattle.dam_bound.proofs.block_numbers.acceptance_weights.Given as goal
 
 abbrev pub invariant-loop-place : goal.invariant-loop-place
 invariant-loop-place l = record {

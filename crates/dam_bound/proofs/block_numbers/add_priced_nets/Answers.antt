@@ -9,7 +9,7 @@ use Rattle.dam_book.specs.Limits.{greatest_volume, last_period}
 use Rattle.dam_hour.specs.Limits.{greatest_price}
 use Rattle.dam_blocks.specs.Magnitude.{IsWithin}
 use Rattle.dam_bound.proofs.PlaceSums.{gain_raised, get_or-any}
-use Rattle.dam_bound.proofs.numbers.add_priced_nets.Goals as goal
+use Rattle.dam_bound.proofs.block_numbers.add_priced_nets.Goals as goal
 
 net_narrow : (x : ℤ) → IsWithin greatest_volume x → to_z w32 (of_z w32 x) ≡ x
 net_narrow x w = let l = w.at_least in let h = w.at_most in to_z-of_z w32 x (omega (arith, ints, l, h))

@@ -5,7 +5,7 @@ ghost use Rattle.std.specs.Prelude.{◌≡◌, ◌*◌, ◌<◌, ◌≤◌, ℕ,
 ghost use Rattle.dam_book.specs.Limits.{most_blocks, last_period, greatest_volume};
 ghost use Rattle.dam_hour.specs.Limits.{greatest_net, greatest_price, greatest_value};
 ghost use Rattle.dam_blocks.specs.Magnitude.{IsWithin};
-ghost use Rattle.dam_bound.specs.inside.Numbers.{AreNumbersWithin, AreWeights, AreCounts, weighted_sum, AreRaised};
+ghost use Rattle.dam_bound.specs.inside.BlockNumbers.{AreNumbersWithin, AreWeights, AreCounts, weighted_sum, AreRaised};
 
 use dam_blocks::Selection;
 use dam_book::MOST_BLOCKS;

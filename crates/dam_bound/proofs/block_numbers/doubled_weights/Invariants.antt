@@ -1,8 +1,8 @@
 -- The weights so far.
 use Rattle.std.proofs.Common.{◌≡◌, ℕ, ◌<◌, ℤ, pos, ◌≤ℤ◌, length, get_or}
 use Rattle.dam_book.specs.Limits.{most_blocks}
-use Rattle.dam_bound.specs.inside.Numbers.{AreWeights}
-use Rattle.dam_bound.proofs.numbers.doubled_weights.Given as goal
+use Rattle.dam_bound.specs.inside.BlockNumbers.{AreWeights}
+use Rattle.dam_bound.proofs.block_numbers.doubled_weights.Given as goal
 
 abbrev pub invariant-loop-place : goal.invariant-loop-place
 invariant-loop-place l = record {
