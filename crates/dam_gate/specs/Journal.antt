@@ -1,5 +1,5 @@
 -- A journal: the commands that reached the book, in one order, each with its reply, and the book that they made.
-use Rattle.std.specs.Prelude.{◌≡◌, ℕ, suc, ◌+◌, ◌≤◌, Bool, true, false, List, [], ◌∷◌, ◌++◌, length}
+use Rattle.std.specs.Prelude.{◌≡◌, ℕ, suc, ◌+◌, ◌≤◌, true, false, List, [], ◌∷◌, ◌++◌, length}
 use Rattle.dam_book.specs.Book.{BookState, empty_book, is_day, reply_to, book_after, run, commands_of, IsLegalHistory}
 use Rattle.dam_book.specs.declared.command.Command.{Command}
 use Rattle.dam_book.specs.Command.{is_journal_full}

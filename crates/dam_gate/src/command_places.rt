@@ -54,7 +54,7 @@ pub(crate) fn places_of(all_places: &[CommandPlaces], at: usize) -> &[usize]
     }
 }
 
-/// `count` all_places without a place.
+/// No places yet, for each of this number of participants.
 fn empty_places(alloc: Global, count: usize) -> Result<Vec<CommandPlaces>, AllocError>
     ensures { IfOk result (λ all_places. all_places.items ≡ replicate count []) }
 {
@@ -102,7 +102,7 @@ fn add_place(
     Ok(())
 }
 
-/// The all_places of the participants, found in one pass over the commands.
+/// The places of the commands of each participant, found in one pass over the commands.
 pub(crate) fn find_all_places(
     alloc: Global,
     participants: &[Participant],

@@ -12,7 +12,7 @@ ghost use Rattle.dam_gate.specs.inside.Entering.{AreGivers, IsUnsettled};
 use crate::account::Account;
 use crate::entering::enter_before_close;
 use crate::gate::{Gate, GateFault, PassFault};
-use crate::givers::{check_room, find_givers};
+use crate::givers::{check_command_count, find_givers};
 use crate::journal::Journal;
 use crate::opening::{Answered, GateName, Opening};
 use crate::pass::Pass;
@@ -218,7 +218,7 @@ pub fn run_commands<R: Threads + Wait + Sync, T: Turnstile + Sync>(
     ensures day { IfOk result (IsSettledDay periods commands.now) }
     ensures fault { IfErr result (IsDayFault commands.now) }
 {
-    check_room(commands.len())?;
+    check_command_count(commands.len())?;
     let packed = pack_commands(alloc, commands)?;
     run_packed(rt, alloc, periods, seed, &packed, turnstile)
 }

@@ -12,9 +12,7 @@ use crate::locked::Locked;
 use crate::opening::{GateName, Opening};
 use crate::pass::Pass;
 use crate::version::{NextShown, Shown};
-use dam_book::{
-    Command, DayLength, Entry, PackedCommand, Participant, Reply, Seed, is_journal_full,
-};
+use dam_book::{Command, DayLength, Entry, PackedCommand, Participant, Reply, Seed};
 use left_right::Absorb;
 use std::alloc::{AllocError, Global};
 use std::sync::{Mutex, Wait};
@@ -210,10 +208,7 @@ impl<J: GateName, R: Wait + Drop> Gate<J, R> {
             return Err(GateFault::NotYours);
         }
         let mut locked = self.locked.lock(rt);
-        let held = locked.len();
-        if is_journal_full(held, command.participant()) {
-            return Err(GateFault::JournalFull { held });
-        }
+        locked.check_not_full(command.participant())?;
         pass.step(&mut locked, command)
     }
 

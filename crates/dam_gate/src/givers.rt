@@ -12,7 +12,7 @@ use dam_book::{MOST_ENTRIES, PackedCommand, Participant};
 use std::alloc::Global;
 
 /// Fails unless a journal has room for this number of commands and for the close after them.
-pub(crate) fn check_room(commands: usize) -> Result<(), DayFault>
+pub(crate) fn check_command_count(commands: usize) -> Result<(), DayFault>
     ensures room { OnOk result (commands < most_entries) }
     ensures fault { IfErr result (λ fault.
         (fault ≡ DayFault.TooManyCommands) × (most_entries ≤ commands)) }
@@ -65,7 +65,7 @@ pub(crate) fn find_givers(
     ensures taken { OnOk result (AreTaken commands.now) }
     ensures fault { IfErr result (IsDayFault commands.now) }
 {
-    check_room(commands.len())?;
+    check_command_count(commands.len())?;
     let mut participants = Vec::new(alloc);
     for (place, command) in commands.iter().enumerate() {
         add_giver(&mut participants, command, place)?;

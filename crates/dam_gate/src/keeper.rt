@@ -1,15 +1,17 @@
-ghost use Rattle.std.specs.Prelude.{◌≡◌, ◌<◌, ◌≤◌, ◌+◌, true, false, length, IfOk, IfErr, OnOk, OnErr};
+ghost use Rattle.std.specs.Prelude.{◌≡◌, ◌<◌, ◌≤◌, ◌+◌, true, false, length, option_copied, IfOk, IfErr, OnOk, OnErr};
 ghost use Rattle.std.specs.Arc.{arc_value};
 ghost use Rattle.dam_book.specs.Book.{book_after, is_day, refusal};
 ghost use Rattle.dam_gate.specs.Journal.{IsJournal, empty_journal, journal_after, next_entry};
 ghost use Rattle.dam_book.specs.Command.{is_journal_full};
 ghost use Rattle.dam_gate.specs.Keeper.{IsPreparedFor};
 ghost use Rattle.dam_gate.specs.Gate.{IsBeginFault, IsKeeperFault};
+ghost use Rattle.dam_gate.specs.inside.Keeper.{SaysWhetherFull};
 
 use crate::books::Books;
 use crate::journal::Journal;
 use dam_book::{
-    Book, Command, DayLength, Entry, Outcome, PackedCommand, PackedEntry, Seed, is_journal_full,
+    Book, Command, DayLength, Entry, Outcome, PackedCommand, PackedEntry, Participant, Seed,
+    is_journal_full,
 };
 use std::alloc::{AllocError, AllocFailed, Allocator, Global};
 use std::marker::Model;
@@ -163,6 +165,19 @@ impl<A: Allocator + Copy> Keeper<A> {
         Ok(self.prepare_step(packed, command)?)
     }
 
+    /// `Ok` if the journal has room for a command of this giver, who is `None` for the operator. The only fault is
+    /// `JournalFull`.
+    pub(crate) fn check_not_full(&self, who: Option<&Participant>) -> Result<(), KeeperFault>
+        ensures { SaysWhetherFull (length self.now.journal.entries) (option_copied who.entry)
+            result }
+    {
+        let held = self.len();
+        if is_journal_full(held, who) {
+            return Err(KeeperFault::JournalFull { held });
+        }
+        Ok(())
+    }
+
     /// Packs the command for its entry, unless the journal is full for it.
     pub(crate) fn pack_unless_full(
         &self,
@@ -174,10 +189,7 @@ impl<A: Allocator + Copy> Keeper<A> {
         ensures fault { IfErr result
             (IsKeeperFault (length self.now.journal.entries) command.now) }
     {
-        let held = self.len();
-        if is_journal_full(held, command.participant()) {
-            return Err(KeeperFault::JournalFull { held });
-        }
+        self.check_not_full(command.participant())?;
         Ok(PackedCommand::of(*self.entries.allocator(), command)?)
     }
 

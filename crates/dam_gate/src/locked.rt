@@ -1,10 +1,11 @@
-ghost use Rattle.std.specs.Prelude.{◌≡◌, ◌⊎◌, ◌<◌, ◌≤◌, ◌+◌, ◌∷◌, ◌++◌, [], false, length, IfOk, IfErr, OnOk, OnErr};
+ghost use Rattle.std.specs.Prelude.{◌≡◌, ◌⊎◌, ◌<◌, ◌≤◌, ◌+◌, ◌∷◌, ◌++◌, [], false, length, option_copied, IfOk, IfErr, OnOk, OnErr};
 ghost use mathlib.Core.List.{IsPrefix};
 ghost use Rattle.dam_book.specs.Limits.{most_entries};
 ghost use Rattle.dam_gate.specs.Gate.{IsKeeperFault};
 ghost use Rattle.dam_gate.specs.Journal.{IsJournal, empty_journal, journal_after, next_entry};
 ghost use Rattle.dam_book.specs.Command.{is_journal_full};
 ghost use Rattle.dam_gate.specs.Pass.{knowing_nothing};
+ghost use Rattle.dam_gate.specs.inside.Keeper.{SaysWhetherFull};
 ghost use Rattle.dam_gate.specs.inside.Locked.{IsPassFault, entry_of};
 ghost use Rattle.dam_gate.specs.inside.Shown.{IsAtMostNext, IsNext, IsNoteOf, slot_name};
 ghost use Rattle.left_right.specs.Handles.{pending, published};
@@ -236,6 +237,17 @@ impl<J: GateName, R: Wait + Drop> Locked<J, R> {
         ensures day { self.now.journal.book.periods ≡ J.opening.periods }
     {
         self.keeper.len()
+    }
+
+    /// `Ok` if the journal has room for a command of this giver, who is `None` for the operator. The only fault is
+    /// `JournalFull`.
+    pub(crate) fn check_not_full(&self, who: Option<&Participant>) -> Result<(), KeeperFault>
+        ensures full { SaysWhetherFull (length self.now.journal.entries) (option_copied who.entry)
+            result }
+        ensures few { length self.now.journal.entries ≤ most_entries }
+    {
+        let _held = self.keeper.len(); // for the proof: the invariant of a journal
+        self.keeper.check_not_full(who)
     }
 
     /// The command as its entry will have it, if the journal isn't full for it.
