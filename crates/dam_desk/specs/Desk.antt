@@ -1,5 +1,5 @@
 -- A desk, as its contracts see it: what it prints, and what its file keeps through a crash.
-use Rattle.std.specs.Prelude.{◌≡◌, ◌⊎◌, ℕ, List, [], ◌∷◌, ◌++◌, take, true, false, Option, None, Some, IfSome, IsTrue}
+use Rattle.std.specs.Prelude.{◌≡◌, ◌⊎◌, ℕ, List, [], ◌∷◌, ◌++◌, take, true, false, Option, Some, IfSome, IsTrue}
 use Rattle.std.specs.Io.KnownBytes.{Appends}
 use Rattle.sqlite_disk.specs.declared.Disk.{Ghosts}
 use Rattle.dam_book.specs.Book.{commands_of, entries_of, run, IsLegalHistory}

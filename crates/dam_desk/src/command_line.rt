@@ -29,8 +29,8 @@ pub(crate) enum Job<'a> {
     Help,
 }
 
-/// The program's words, without its name. None: one of them isn't UTF-8.
-pub(crate) fn words(rt: &HostRuntime) -> Result<Option<Vec<String>>, AllocError> {
+/// Reads the program's words, without its name. None: one of them isn't UTF-8.
+pub(crate) fn read_program_words(rt: &HostRuntime) -> Result<Option<Vec<String>>, AllocError> {
     let mut words = match env::args(rt) {
         Ok(words) => words,
         Err(error) if error.kind() == ErrorKind::OutOfMemory => return Err(AllocError),

@@ -9,7 +9,6 @@ mod command_line;
 mod desk;
 mod desk_day;
 mod device;
-mod entering;
 mod fault;
 mod fault_line;
 mod input_line;
@@ -25,7 +24,7 @@ mod serve;
 mod stored_journal;
 mod text_lines;
 
-use command_line::{Job, USAGE, job_of, words};
+use command_line::{Job, USAGE, job_of, read_program_words};
 use dam_book::Seed;
 use device::{Sink, Source};
 use fault::{DeskFault, status};
@@ -41,7 +40,7 @@ use stored_journal::{read_file_bytes, stored_journal_text};
 const REFUSED_LINE: u8 = 2;
 
 fn main(rt: HostRuntime) -> ExitCode {
-    let words = match words(&rt) {
+    let words = match read_program_words(&rt) {
         Ok(Some(words)) => words,
         Ok(None) => return print_refusal(&rt),
         Err(fault) => return print_fault(&rt, &DeskFault::from(fault)),

@@ -2,7 +2,7 @@
 use Rattle.std.proofs.Common.{◌≡◌, ◌++◌, true, length}
 use Rattle.dam_store.specs.FileLines.{text_of}
 use Rattle.dam_desk.specs.inside.TextLines.{is_ended}
-use Rattle.dam_desk.proofs.entering.push_lines.Given as goal
+use Rattle.dam_desk.proofs.intake.push_lines.Given as goal
 
 abbrev pub decreases-loop-line : goal.decreases-loop-line
 decreases-loop-line l = length l.rest

@@ -3,7 +3,7 @@ use Rattle.std.proofs.Common.{◌++◌, ◌∷◌, [], List, ℕ, sym, ap, ◌�
 use Rattle.dam_store.specs.FileLines.{text_of}
 use Rattle.dam_desk.specs.inside.TextLines.{is_ended}
 use Rattle.dam_desk.proofs.Texts.{ended_after, ended_none, text_snoc}
-use Rattle.dam_desk.proofs.entering.push_lines.Goals as goal
+use Rattle.dam_desk.proofs.intake.push_lines.Goals as goal
 
 pub loop-line-preserved : goal.loop-line-preserved
 loop-line-preserved c ended =
