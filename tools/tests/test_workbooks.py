@@ -425,12 +425,12 @@ class Unlike(unittest.TestCase):
         heading = b"<c t='inlineStr'><is><t>price_eur_mwh</t></is></c>"
         heads = made.OPEN.replace(heading, heading.replace(b"<c ", b"<c s='1' "))
         self.assertNotEqual(heads, made.OPEN)
-        said = "(?m)^line 1, column 5: 'price_eur_mwh' is a text with a format: make the cell one of text$"
+        said = "(?m)^line 1, column 5: 'price_eur_mwh' is a text with a format: clear its formats$"
         with self.assertRaisesRegex(order_table.BadOrders, said):
             order_table.parse_tables([("", made.workbook_of_sheet(heads, order(2, "K1"), made.CLOSE, **parts))], 24)
         heads = b"<worksheet xmlns='%s'><sheetData>" % made.MAIN[0].encode() + row(1, ("A1", "participant"), ("B1", "order"), ("C1", "what"))
         cancel = row(2, ("A2", "A"), ("B2", "K1"), ("C2", "cancel"))
-        for cell, fault in ((b'<c r="C2" t', None), (b'<c r="C2" s="1" t', "'cancel' is a text with a format: make the cell one of text")):
+        for cell, fault in ((b'<c r="C2" t', None), (b'<c r="C2" s="1" t', "'cancel' is a text with a format: clear its formats")):
             found = order_table.parse_cells(made.workbook_of_sheet(heads, cancel.replace(b'<c r="C2" t', cell), made.CLOSE, **parts))
             if fault:
                 with self.assertRaisesRegex(order_table.BadOrders, f"^line 2, column what: {fault}$"):
@@ -696,7 +696,7 @@ class Unlike(unittest.TestCase):
             for kind, content in (("str", "<v>K7</v>"), ("inlineStr", "<is><t>K7</t></is>"), ("s", "<v>0</v>")):
                 for letter, name in (("B", "order"), ("I", "group")):
                     found, said = self.read(parts, **{letter: f'<c s="{style}" t="{kind}">{content}</c>'})
-                    fault = f"line 2, column {name}: 'K7' is a text with a format: make the cell one of text"
+                    fault = f"line 2, column {name}: 'K7' is a text with a format: clear its formats"
                     self.assertEqual(said, None if style < shown else fault, (code, kind))
                     self.assertTrue(style >= shown or "K7" in (found.name, found.order.group))
         hidden = f'<c s="{shown}" t="str"><v>'
@@ -704,7 +704,7 @@ class Unlike(unittest.TestCase):
         self.assertEqual(found.name, "K")
         for letter, words in (("C", "block"), ("D", "buy"), ("E", "1"), ("F", "8"), ("G", "5")):
             _, said = self.read(parts, **{letter: f"{hidden}{words}</v></c>"})
-            self.assertEqual(said, f"line 2, column {self.COLUMNS[letter]}: '{words}' is a text with a format: make the cell one of text")
+            self.assertEqual(said, f"line 2, column {self.COLUMNS[letter]}: '{words}' is a text with a format: clear its formats")
         _, said = self.read(parts, B=f'<c s=" {shown} " t="str"><v>K7</v></c>')
         self.assertIn("'K7' is a text with a format", said)
         _, said = self.read(parts, B=f'<c s="{len(codes) - 1}"><v>7</v></c>')
@@ -745,10 +745,62 @@ class Unlike(unittest.TestCase):
                 else:
                     with self.assertRaisesRegex(sheets.BadTable, said):
                         sheets.parse_rows(data)
+        for font, fault in (("<b/><strike/><sz/>", "a font that strikes out"), ("<i val='0'/><strike val='0'/><vertAlign val='baseline'/>", None)):
+            styles = f'<styleSheet xmlns="{made.MAIN[0]}"><fonts><font/></fonts><dxfs><dxf><font>{font}</font><fill/></dxf></dxfs></styleSheet>'
+            close = made.CLOSE.replace(b"</sheetData>", f"</sheetData>{condition.format(0)}".encode())
+            data = made.workbook_of_sheet(made.OPEN, order(2, "K1"), close, **{"xl/styles.xml": styles.encode()})
+            self.check_conditions(data, fault and f"with {fault}")
+        for rule, fault in (
+            ('<iconSet showValue="0"><cfvo/></iconSet>', "that hides numbers"), ('<dataBar showValue=" false "><cfvo/><color/></dataBar>', "that hides numbers"),
+            ('<dataBar><cfvo/><cfvo/><color/></dataBar>', None), ('<iconSet iconSet="3Arrows" showValue="1"><cfvo/></iconSet>', None),
+            ("<colorScale><cfvo/><color/></colorScale>", None),
+        ):  # fmt: skip
+            close = f'</sheetData><conditionalFormatting sqref="E2:E9"><cfRule>{rule}<extLst/></cfRule></conditionalFormatting>'
+            self.check_conditions(made.workbook_of_sheet(made.OPEN, order(2, "K1"), made.CLOSE.replace(b"</sheetData>", close.encode())), fault)
         extension = '</sheetData><extLst><ext><x:dxf xmlns:x="urn:x"><numFmt formatCode="0%"/></x:dxf></ext></extLst>'
         data = made.workbook_of_sheet(made.OPEN, order(2, "K1"), made.CLOSE.replace(b"</sheetData>", extension.encode()))
         with self.assertRaisesRegex(sheets.BadTable, "an element 'numFmt' stands in 'extLst'"):
             sheets.parse_rows(data)
+
+    def check_conditions(self, data, fault):
+        """A workbook of one order, whose conditional format has a fault or none."""
+        with self.subTest(fault):
+            if fault:
+                with self.assertRaisesRegex(sheets.BadTable, f"^sheet 'orders': the cells 'E2:E9' have a conditional format {fault}: delete it$"):
+                    sheets.parse_rows(data)
+            else:
+                self.assertEqual(len(order_table.parse_tables([("", data)], 24).submits), 1)
+
+    def test_struck_out_cells(self):
+        """Who strikes an order out doesn't want it any more."""
+        fonts = "<fonts><font/><font><b/><strike/><sz val='11'/></font><font><strike val='0'/><vertAlign val='superscript'/></font></fonts>"
+        cells = "<cellXfs><xf/><xf fontId='1'/><xf fontId='2'/></cellXfs>"
+        parts = {"xl/styles.xml": f'<styleSheet xmlns="{made.MAIN[0]}">{fonts}{cells}</styleSheet>'.encode()}
+        parts[made.SHARED] = f'<sst xmlns="{made.MAIN[0]}"><si><t>8</t></si></sst>'.encode()
+        for letter, name in self.COLUMNS.items():
+            number, words = "'8' is a number that is struck out: clear its formats, or remove its row", "'8' is a text with a format: clear its formats"
+            for cell, fault in (
+                ('<c s="{}"><v>8</v></c>', number), ('<c s="{}" t="s"><v>0</v></c>', words), ('<c s="{}" t="str"><v>8</v></c>', words),
+                ('<c s="{}" t="inlineStr"><is><t>8</t></is></c>', words),
+            ):  # fmt: skip
+                _, said = self.read(parts, **{letter: cell.format(1)})
+                self.assertEqual(said, None if name == "note" else f"line 2, column {name}: {fault}")
+                for style in (0, 2):
+                    _, said = self.read(parts, **{letter: cell.format(style)})
+                    self.assertNotIn("format", said or "", cell)
+
+    def test_parts_of_texts_with_fonts(self):
+        """A part may be struck out, or a number have the mark of a note, which would be read as its last digit."""
+        for font, is_read in (
+            ("<strike/>", False), ("<b/><strike val='1'/><vertAlign val='baseline'/>", False), ("<vertAlign val='superscript'/><sz val='8'/>", False),
+            ("<vertAlign val='subscript'/><strike val='false'/>", False), ("<rFont/><strike val='0'/><u/>", True), ("<vertAlign val='baseline'/>", True),
+        ):  # fmt: skip
+            runs = f"<r><t>9</t></r><r><rPr>{font}</rPr><t>2</t></r>"
+            parts = {made.SHARED: f'<sst xmlns="{made.MAIN[0]}"><si>{runs}</si><si><t>92</t></si></sst>'.encode()}
+            for cell in ('<c t="s"><v>0</v></c>', f'<c t="inlineStr"><is>{runs}</is></c>'):
+                found, said = self.read(parts, E=cell, I='<c t="s"><v>1</v></c>')
+                fault = "line 2, column price_eur_mwh: '92' is a text with a format: clear its formats"
+                self.assertEqual((found and found.order.price, said), (9_200, None) if is_read else (None, fault), font)
 
     def test_hidden_sheets(self):
         """One that is shown comes first; if a hidden one is read, the note says so."""

@@ -70,6 +70,11 @@ class Repeated(Changed):
     kind, remedy = "a number that fills its cell again and again", "give its cell another horizontal alignment"
 
 
+class Struck(Changed):
+    __slots__ = ()
+    kind, remedy = "a number that is struck out", "clear its formats, or remove its row"
+
+
 class Hidden(Changed):
     __slots__ = ()
     kind, remedy = "a zero that its sheet hides", "show the sheet's zeros (in Excel's advanced options)"
@@ -97,8 +102,10 @@ class Worded(Changed):
 
 
 class Styled(Unlike):
+    """A text that a format, or a part's font, shows in another way: hidden, repeated, struck out, or above the line."""
+
     __slots__ = ()
-    kind = "a text with a format"
+    kind, remedy = "a text with a format", "clear its formats"
 
 
 class Shortened(Unlike):
@@ -162,7 +169,7 @@ class Kept:
 
 
 # The kinds of cells: before each cell of a packed row stands a half of a character, which no text has, and says its kind.
-NUMBERS_SHOWN = Formatted, Price, Power, Percentage, Changed, Currency, Repeated, Hidden, Rounded, Worded, Shortened
+NUMBERS_SHOWN = Formatted, Price, Power, Percentage, Changed, Currency, Repeated, Struck, Hidden, Rounded, Worded, Shortened
 CELLS = str, int, StyledString, Uncomputed, Date, *NUMBERS_SHOWN, Styled, Truth
 HALVES = {kind: chr(0xD800 + at) for at, kind in enumerate(CELLS)}
 PACKED = re.compile("([\ud800-\udfff])([^\ud800-\udfff]*)")

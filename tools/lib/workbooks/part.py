@@ -12,10 +12,11 @@ from .limits import MOST_ELEMENTS, MOST_NAMED, MOST_NAMES, MOST_NAMESPACES, brok
 
 SPREADSHEET = ("http://schemas.openxmlformats.org/spreadsheetml/2006/main", "http://purl.oclc.org/ooxml/spreadsheetml/main")
 BLANK = " \t\r\n"  # the characters that may stand between elements
-EXTENSIONS, LEFT_OUT = "extLst", {"extLst", "rPr", "phoneticPr"}  # elements that are left out, with everything in them
+EXTENSIONS, LEFT_OUT = "extLst", {"extLst", "phoneticPr"}  # elements that are left out, with everything in them
 ANY_OTHERS = "*"
 
 
+TRUTHS = {"1": "TRUE", "true": "TRUE", "0": "FALSE", "false": "FALSE"}
 UNSIGNED = re.compile(r"\+?0*([0-9]{1,10})")
 
 
@@ -24,6 +25,11 @@ def unsigned(words):
     """The number of an attribute, around which blanks may stand; None if it has none."""
     found = UNSIGNED.fullmatch(words.strip(BLANK))
     return int(found[1]) if found else None
+
+
+def truth_of(attributes, name):
+    """The truth value of an attribute, around which blanks may stand; None if it has none."""
+    return TRUTHS.get(attributes.get(name, "").strip(BLANK))
 
 
 class Place(NamedTuple):
@@ -38,7 +44,7 @@ class Part:
     others are left out, with everything in them, in which no known element may stand."""
 
     NAMESPACES, ROOT = SPREADSHEET, ""
-    PLACES = {}  # for each known element, the ones that may stand in it, in their order; several if a * follows the name
+    PLACES = {}  # for each known element, the ones that may stand in it, in their order (of those with a | in any); several if a * follows
     BETWEEN = {}  # others that may stand between these, in any order, with those of other namespaces; never after the extensions
     ELSEWHERE = set()  # the known ones that have another meaning in elements that are left out
     REFUSED = set()  # others that may not stand in elements that are left out
@@ -193,7 +199,8 @@ def places_of(kind):
     """The places of a kind of parts, and its known elements."""
     places, known = {}, set()
     for within, names in kind.PLACES.items():
-        places[within] = {name.rstrip("*"): Place(rank, name.endswith("*")) for rank, name in enumerate(names.split())}
+        ranked = [(rank, each) for rank, alike in enumerate(names.split()) for each in alike.split("|")]
+        places[within] = {name.rstrip("*"): Place(rank, name.endswith("*")) for rank, name in ranked}
         known.update(places[within])
     return {**{name: {} for name in known}, **places}, known - LEFT_OUT
 
@@ -206,17 +213,35 @@ def checked(name):
     return length
 
 
+# What a font may have: of these, the ones that change what a text means, and others.
+FONT = "strike*|vertAlign*"
+OF_FONTS = {ANY_OTHERS, *"b i condense extend outline shadow u sz color name rFont family charset scheme".split()}
+
+
+def strikes_out(attributes):
+    """Whether the element strike of a font strikes a text out."""
+    return truth_of(attributes, "val") != "FALSE"
+
+
 class Texts(Part):
     """A part with texts: each is whole, or in runs that have formats. How it is pronounced (`rPh`) may follow, and is left out."""
 
     TEXT, RUN, PRONOUNCED = "t r* rPh* phoneticPr", "rPr t", "t"
 
-    is_whole = is_pronounced = False
+    is_whole = is_pronounced = is_marked = False
     is_taken = True
 
     def begin_text(self, is_taken=True):
-        self.is_whole = self.is_pronounced = False
+        self.is_whole = self.is_pronounced = self.is_marked = False
         self.is_taken = is_taken
+
+    def open_strike(self, attributes):
+        """A part of a text that is struck out no longer counts for its reader."""
+        self.is_marked = self.is_marked or strikes_out(attributes)
+
+    def open_vertAlign(self, attributes):
+        """A digit above or below the line is no digit of a number."""
+        self.is_marked = self.is_marked or attributes.get("val", "").strip(BLANK) != "baseline"
 
     def open_t(self, _):
         around = self.within[-2]

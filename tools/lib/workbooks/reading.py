@@ -5,8 +5,8 @@ import posixpath
 from ..base import text
 from .limits import LONGEST_NAME, MOST_HEADS, MOST_SHEETS, broken, too_many
 from .package import Package
-from .part import ANY_OTHERS, Part
-from .sheet import FirstRow, Sheet, Strings, is_due, truth_of
+from .part import ANY_OTHERS, Part, truth_of
+from .sheet import FirstRow, Sheet, Strings, is_due
 from .styles import Styles
 
 PACKAGING = ("http://schemas.openxmlformats.org/package/2006/relationships",)
@@ -153,13 +153,13 @@ class Workbook(Part):
             heads += len(row.needed)
             if heads > MOST_HEADS:
                 raise too_many(MOST_HEADS, "strings in the first rows of its sheets")
-        strings = self.strings(set().union(*(row.needed for row in rows.values())))
-        return [name for name, row in rows.items() if set(needed) <= row.names(strings)]
+        shared = self.strings(set().union(*(row.needed for row in rows.values())))
+        return [name for name, row in rows.items() if set(needed) <= row.names(shared)]
 
     def strings(self, needed):
-        """Those of the shared strings that are needed, by their numbers."""
+        """The shared strings, of which those that are needed are read."""
         strings = Strings(needed)
         part = self.relations.only(STRINGS)
         if needed and part:
             self.package.read(part, strings)
-        return strings.found
+        return strings

@@ -7,7 +7,7 @@ import re
 from ..base import text
 from .cells import Date, Hidden, Kept, Numbers, Rows, Styled, StyledString, Truth, Uncomputed, name_of, number_of, trimmed, unescaped
 from .limits import LAST_COLUMN, LAST_ROW, MOST_CELLS, MOST_ELEMENTS, MOST_TEXT, BadWorkbook, broken, size_of, too_many
-from .part import ANY_OTHERS, BLANK, EXTENSIONS, Texts, unsigned
+from .part import ANY_OTHERS, EXTENSIONS, FONT, OF_FONTS, TRUTHS, Texts, truth_of, unsigned
 from .styles import digits_of, general
 
 NUMBER = re.compile(r"[+-]?(?:[0-9]+(?:\.[0-9]*)?|\.[0-9]+)(?:[eE][+-]?[0-9]{1,3})?")
@@ -16,12 +16,6 @@ PLACE = re.compile(r"[1-9][0-9]{0,6}")
 RANGE = re.compile(r"\$?([A-Z]{1,3})\$?([1-9][0-9]{0,6})(?::\$?([A-Z]{1,3})\$?([1-9][0-9]{0,6}))?")
 DATE = re.compile(r"([0-9]{4}-[0-9]{2}-[0-9]{2})(?:T[0-9:.]*Z?)?")
 CLOCK = re.compile(r"T?([0-9]{2}:[0-9]{2})(?::[0-9.]*)?Z?")
-TRUTHS = {"1": "TRUE", "true": "TRUE", "0": "FALSE", "false": "FALSE"}
-
-
-def truth_of(attributes, name):
-    """The truth value of an attribute, around which blanks may stand; None if it has none."""
-    return TRUTHS.get(attributes.get(name, "").strip(BLANK))
 
 
 def is_due(attributes):
@@ -33,11 +27,14 @@ class Strings(Texts):
     """The shared strings that are needed, by their numbers."""
 
     ROOT = "sst"
-    PLACES = {"": ROOT, ROOT: "si* extLst", "si": Texts.TEXT, "r": Texts.RUN, "rPh": Texts.PRONOUNCED}
+    PLACES = {"": ROOT, ROOT: "si* extLst", "si": Texts.TEXT, "r": Texts.RUN, "rPr": FONT, "rPh": Texts.PRONOUNCED}
+    BETWEEN = {"rPr": OF_FONTS}
+    ELSEWHERE = {"rPr", "strike", "vertAlign"}
 
     def __init__(self, needed):
         super().__init__()
         self.needed, self.number, self.found, self.size = needed, -1, Kept(), 0
+        self.styled = Numbers()  # of those that Excel shows in another way
 
     def open_si(self, _):
         self.number += 1
@@ -50,6 +47,8 @@ class Strings(Texts):
             if self.size > MOST_TEXT:
                 raise too_many(MOST_TEXT, "bytes of text in its cells")
             self.found.add(self.number, words)
+            if self.is_marked:
+                self.styled.add(self.number)
 
     def wrong(self, words):
         return broken(f"string {self.number} of its cells: {words}")
@@ -69,10 +68,11 @@ class Sheet(Texts):
         "c": "f v is extLst",
         "is": Texts.TEXT,
         "r": Texts.RUN,
+        "rPr": FONT,
         "rPh": Texts.PRONOUNCED,
         "mergeCells": "mergeCell*",
         "conditionalFormatting": "cfRule* extLst",
-        "cfRule": EXTENSIONS,
+        "cfRule": "dataBar|iconSet* extLst",
     }
     BETWEEN = {ROOT: {ANY_OTHERS, *(
         "sheetPr dimension sheetFormatPr cols sheetProtection protectedRanges scenarios autoFilter sortState"
@@ -80,7 +80,9 @@ class Sheet(Texts):
         " headerFooter rowBreaks colBreaks customProperties cellWatches ignoredErrors smartTags drawing legacyDrawing legacyDrawingHF"
         " drawingHF picture oleObjects controls webPublishItems tableParts").split()},
         "sheetView": {ANY_OTHERS, *"pane selection pivotSelection".split()},
-        "conditionalFormatting": {ANY_OTHERS}, "cfRule": {ANY_OTHERS, *"formula colorScale dataBar iconSet".split()}}  # fmt: skip
+        "conditionalFormatting": {ANY_OTHERS}, "cfRule": {ANY_OTHERS, *"formula colorScale".split()},
+        **dict.fromkeys(["dataBar", "iconSet"], {ANY_OTHERS, "cfvo", "color"}), "rPr": OF_FONTS}  # fmt: skip
+    ELSEWHERE = {"dataBar", "iconSet", "rPr", "strike", "vertAlign"}
     REFUSED = {"numFmt"}  # in an extension: the format of a condition
 
     def __init__(self, name, part, book, most):
@@ -143,6 +145,7 @@ class Sheet(Texts):
             raise self.wrong("it occurs twice" if self.column == last else words)
         self.kind, self.style = attributes.get("t", "n"), attributes.get("s", "0")
         self.value = self.formula = None
+        self.is_marked = False
 
     def open_v(self, _):
         self.refuse_value(self.kind == "inlineStr")
@@ -217,8 +220,8 @@ class Sheet(Texts):
         raise self.wrong(f"{text.quoted(value)} isn't of its type, {text.quoted(kind)}")
 
     def is_styled(self):
-        """Whether the cell's format shows a text in another way."""
-        return self.style_number() in self.book.styled
+        """Whether the cell's format shows a text in another way, or that of a part of it."""
+        return self.is_marked or self.style_number() in self.book.styled
 
     def number(self, value):
         """A number with the digits that Excel shows, or the date that it stands for."""
@@ -285,12 +288,22 @@ class Sheet(Texts):
 
     def open_cfRule(self, attributes):
         """A condition may give cells another format."""
-        if "dxfId" in attributes and unsigned(attributes["dxfId"]) in self.book.conditional:
-            raise self.wrong(f"the cells {text.quoted(self.ranges)} have a conditional format with a number format: delete it")
+        if "dxfId" in attributes and (kind := self.book.conditional.get(unsigned(attributes["dxfId"]))):
+            raise self.conditional_fault(f"with {kind}")
+
+    def open_dataBar(self, attributes):
+        """A bar or an icon may stand in place of a number."""
+        if truth_of(attributes, "showValue") == "FALSE":
+            raise self.conditional_fault("that hides numbers")
+
+    open_iconSet = open_dataBar
+
+    def conditional_fault(self, kind):
+        return self.wrong(f"the cells {text.quoted(self.ranges)} have a conditional format {kind}: delete it")
 
     width = None  # of the widest row, once it is needed
 
-    def whole(self, strings):
+    def whole(self, shared):
         """The rows that aren't empty, with their shared strings."""
         if not self.has_data:
             raise self.wrong("it has no table of cells")
@@ -299,10 +312,10 @@ class Sheet(Texts):
             for at, cell in enumerate(self.cells):
                 if isinstance(cell, int):
                     self.column = at + 1
-                    words = strings.get(cell)
+                    words = shared.found.get(cell)
                     if words is None:
                         raise self.wrong(f"it has no string '{cell}'")
-                    self.cells[at] = Styled(words) if isinstance(cell, StyledString) else words
+                    self.cells[at] = Styled(words) if isinstance(cell, StyledString) or cell in shared.styled else words
                     self.add_text(words)
             if cells := trimmed(self.cells):
                 rows.add(self.row, cells)
@@ -339,8 +352,8 @@ class FirstRow(Sheet):
         except BadWorkbook:
             self.rows, self.needed = [], set()
 
-    def names(self, strings):
+    def names(self, shared):
         try:
-            return {cell.strip().lower() for _, cells in self.whole(strings) for cell in cells} & set(self.sought)
+            return {cell.strip().lower() for _, cells in self.whole(shared) for cell in cells} & set(self.sought)
         except BadWorkbook:
             return set()

@@ -7,9 +7,9 @@ import unicodedata
 from fractions import Fraction
 
 from ..base import text
-from .cells import Changed, Currency, Date, Formatted, Percentage, Power, Price, Repeated, Rounded, Shortened, Worded
+from .cells import Changed, Currency, Date, Formatted, Percentage, Power, Price, Repeated, Rounded, Shortened, Struck, Worded
 from .limits import LONGEST_FORMAT, MOST_FORMATS, MOST_OF_FORMATS, MOST_OWN_FORMATS, broken, too_many
-from .part import ANY_OTHERS, BLANK, Part, unsigned
+from .part import ANY_OTHERS, BLANK, FONT, OF_FONTS, Part, strikes_out, unsigned
 
 # The numbers of Excel's own formats: of all digits, of dates and times, of percentages, of the currency of each system, and of some digits.
 GENERAL_FORMATS, GENERAL_CODES = (0, 49), ("general", "@")
@@ -251,19 +251,23 @@ class Styles(Part):
     ROOT = "styleSheet"
     PLACES = {
         "": ROOT,
-        ROOT: "numFmts cellXfs dxfs extLst",
+        ROOT: "numFmts fonts cellXfs dxfs extLst",
         "numFmts": "numFmt*",
+        "fonts": "font*",
+        "font": FONT,
         "cellXfs": "xf*",
         "xf": "alignment extLst",
         "dxfs": "dxf*",
-        "dxf": "numFmt extLst",
+        "dxf": "font numFmt extLst",
     }
     BETWEEN = {
-        ROOT: {ANY_OTHERS, *"fonts fills borders cellStyleXfs cellStyles tableStyles colors".split()},
+        ROOT: {ANY_OTHERS, *"fills borders cellStyleXfs cellStyles tableStyles colors".split()},
         "xf": {ANY_OTHERS, "protection"},
-        "dxf": {ANY_OTHERS, *"font fill alignment border protection".split()},
+        "dxf": {ANY_OTHERS, *"fill alignment border protection".split()},
+        "fonts": {ANY_OTHERS},
+        "font": OF_FONTS,
     }
-    ELSEWHERE = {"numFmt", "xf", "alignment", "dxfs", "dxf"}
+    ELSEWHERE = {"numFmt", "xf", "alignment", "dxfs", "dxf", "font", "strike", "vertAlign"}
 
     def __init__(self):
         super().__init__()
@@ -272,7 +276,9 @@ class Styles(Part):
         self.shown = {number: shown for numbers, shown in kinds for number in numbers}
         self.formats, self.filled, self.own, self.characters = [], set(), 0, 0
         self.styled = set()  # the numbers of formats that show texts in another way
-        self.conditions, self.conditional = 0, set()  # how many formats of conditions there are, and those that change what is shown
+        self.fonts, self.struck_fonts = 0, set()  # how many fonts there are, and those that strike out
+        self.struck = set()  # the formats with one of these
+        self.conditions, self.conditional = 0, {}  # how many formats of conditions there are, and why some change what is shown
 
     def open_numFmt(self, attributes):
         code = attributes.get("formatCode", "")
@@ -287,7 +293,7 @@ class Styles(Part):
         shown, is_plain = shown_by(code), shows_texts(code)
         if self.within[-2] == "dxf":
             if shown is not general or not is_plain:
-                self.conditional.add(self.conditions - 1)
+                self.conditional[self.conditions - 1] = "a number format"
             return
         number = number_in(attributes)
         if self.codes.setdefault(number, code) != code:
@@ -296,10 +302,22 @@ class Styles(Part):
         if not is_plain:
             self.styled.add(number)
 
+    def open_font(self, _):
+        if self.within[-2] == "fonts":
+            self.fonts += 1
+
+    def open_strike(self, attributes):
+        if strikes_out(attributes) and self.within[-3] == "fonts":
+            self.struck_fonts.add(self.fonts - 1)
+        elif strikes_out(attributes):
+            self.conditional[self.conditions - 1] = "a font that strikes out"
+
     def open_dxf(self, _):
         self.conditions += 1
 
     def open_xf(self, attributes):
+        if unsigned(attributes.get("fontId", "0")) in self.struck_fonts:
+            self.struck.add(len(self.formats))
         self.formats.append(number_in(attributes))
         if len(self.formats) > MOST_FORMATS:
             raise too_many(MOST_FORMATS, "formats of cells")
@@ -310,9 +328,9 @@ class Styles(Part):
             self.filled.add(len(self.formats) - 1)
 
     def of_cells(self):
-        made = [self.shown.get(number, Formatted) for number in self.formats]
+        made = [Struck if at in self.struck else self.shown.get(number, Formatted) for at, number in enumerate(self.formats)]
         return [Repeated if at in self.filled and shown not in (Date, Percentage) else shown for at, shown in enumerate(made)]
 
     def of_texts(self):
         """The formats of cells that show texts in another way."""
-        return {at for at, number in enumerate(self.formats) if number in self.styled} | self.filled
+        return {at for at, number in enumerate(self.formats) if number in self.styled} | self.filled | self.struck
