@@ -12,7 +12,8 @@ use Rattle.dam_blocks.specs.Selection.{accepts, padded, choice, IsAdmissible}
 use Rattle.dam_bound.specs.Open.{is_among, IsOpen, AreFree}
 use Rattle.dam_bound.specs.Prefix.{IsCompletion}
 use Rattle.dam_search.specs.Piece.{IsFind, IsSound}
-use Rattle.dam_search.specs.inside.PriceWalk.{AreDistinct, IsDecisionOrder, IsNode, IsOpenFind, FindsOpen, CoversOpen}
+use Rattle.dam_search.specs.inside.PriceWalk.{are_distinct, IsDecisionOrder, IsNode, IsOpenFind, FindsOpen, CoversOpen}
+use Rattle.dam_search.proofs.Ordering.{distinct_parts}
 use Rattle.dam_search.proofs.Prefixes.{length-choice}
 
 -- ---- the decisions of the piece
@@ -48,15 +49,16 @@ same_place place = grind (arith, nat_tests)
 pub among_first : (place : ℕ) (places : List ℕ) → is_among place (place ∷ places) ≡ true
 among_first place places = ap (λ (b : Bool). b || is_among place places) (same_place place)
 
-free_from : (accepted : List Bool) (order : List ℕ) → AreDistinct order
+free_from : (accepted : List Bool) (order : List ℕ) → are_distinct order ≡ true
     → ((place : ℕ) → is_among place order ≡ true → (place < most_blocks) × (accepts accepted place ≡ false)) → AreFree accepted order
 free_from accepted [] distinct h = tt
 free_from accepted (place ∷ order) distinct h =
-    let here = h place (among_first place order) in (
+    let here = h place (among_first place order) in
+    let parts = distinct_parts (is_among place order) (are_distinct order) distinct in (
       here.0,
       here.1,
-      distinct.0,
-      free_from accepted order distinct.1
+      parts.0,
+      free_from accepted order parts.1
           (λ other e. h other (or_right (other == place) (is_among other order) e)),
     )
 

@@ -1,6 +1,6 @@
 -- The slack that decisions leave under limits, by the places that are open.
-use Rattle.std.proofs.Common.{◌≡◌, ◌≢◌, ℕ, zero, suc, ◌<◌, ◌≤◌, ℤ, pos, neg_ℤ, ◌+ℤ◌, ◌≤ℤ◌, Bool, true, false, not, ◌==◌, ◌||◌, List, ◌∷◌, length, ◌+◌, get_or}
-use Rattle.std.proofs.Common.{◌∙◌, ap, sym, subst, refl, arith}
+use Rattle.std.proofs.Common.{◌≡◌, ◌≢◌, ℕ, zero, suc, ◌≤◌, ℤ, pos, neg_ℤ, ◌+ℤ◌, ◌≤ℤ◌, Bool, true, false, not, ◌==◌, ◌||◌, List, ◌∷◌, length, ◌+◌, get_or}
+use Rattle.std.proofs.Common.{ap, sym, subst, refl, arith}
 use Rattle.std.specs.Prelude.{nat_lt, None}
 use Rattle.std.proofs.lemmas.Int.{ints, int_max_is}
 use Rattle.std.proofs.lemmas.Bool.{eqb-true}
@@ -11,9 +11,8 @@ use Rattle.dam_blocks.specs.Selection.{accepts, padded, choice}
 use Rattle.dam_blocks.specs.Eligible.{IsEligible}
 use Rattle.dam_bound.specs.declared.net_limits.NetLimit.{NetLimit}
 use Rattle.dam_bound.specs.declared.net_limits.Slack.{Slack}
-use Rattle.dam_bound.specs.NetLimits.{slack_taken, if_open, taken_under, most_limits, limit_in, AreLimits, AreSlacks, HasSlack, every_place}
+use Rattle.dam_bound.specs.NetLimits.{slack_taken, if_open, taken_under, limit_in, AreLimits, AreSlacks, HasSlack}
 use Rattle.dam_bound.specs.Open.{is_among, IsOpen}
-use Rattle.dam_bound.specs.Relaxed.{without_rows}
 use Rattle.dam_search.specs.Piece.{IsSound}
 use Rattle.dam_search.specs.inside.PriceWalk.{AgreesUnder, IsNode, IsDecisionOrder, IsSlack, with_place_if}
 use Rattle.dam_search.proofs.FirstNode.{among_first, not_among_before, piece_sound}

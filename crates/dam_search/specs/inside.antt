@@ -2,6 +2,6 @@
 pub mod PrefixWalk
 pub mod Conflicts
 pub mod PriceWalk
-pub mod Order
+pub mod DecisionOrder
 pub mod Seats
 pub mod Collect

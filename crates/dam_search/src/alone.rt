@@ -8,10 +8,10 @@ ghost use Rattle.dam_search.specs.Search.{IsUnfinished, LimitHasNeeded};
 
 use crate::collect::collected;
 use crate::conflicts::Conflicts;
+use crate::decision_order::decision_order;
 use crate::fault::SearchFault;
 use crate::first::first_selection;
 use crate::incumbent::{Incumbent, OwnIncumbent};
-use crate::order::decision_order;
 use crate::piece_walk::{PieceWalk, limit_can_bind};
 use crate::prefix_walk::PrefixWalk;
 use crate::price_walk::PriceWalk;

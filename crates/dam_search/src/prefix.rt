@@ -27,7 +27,8 @@ impl Model for Prefix {
 
     ghost view = { λ f. take f.depth f.accepted };
 
-    ghost invariant = { λ f. (f.accepted ≡ padded (take f.depth f.accepted)) × (f.depth ≤ most_blocks) };
+    ghost invariant = { λ f.
+        (f.accepted ≡ padded (take f.depth f.accepted)) × (f.depth ≤ most_blocks) };
 }
 
 impl Prefix {

@@ -2,7 +2,6 @@
 
 ghost use Rattle.std.specs.Prelude.{◌≡◌, ◌^◌, ◌<◌, ◌≤◌, ◌⊎◌, max, ℕ, ℤ, pos, ◌≤ℤ◌, ◌<ℤ◌, true, false, not};
 ghost use Rattle.std.specs.Prelude.{Some, List, Bool, [], ◌∷◌, length, IfSome, IfNone};
-ghost use Rattle.std.proofs.Props.{props};
 ghost use Rattle.dam_book.specs.Limits.{most_blocks};
 ghost use Rattle.dam_blocks.specs.Selection.{accepts, choice};
 ghost use Rattle.dam_blocks.specs.Eligible.{IsEligible};
@@ -10,7 +9,7 @@ ghost use Rattle.dam_bound.specs.Relaxed.{without_rows};
 ghost use Rattle.dam_bound.specs.Open.{IsOpen};
 ghost use Rattle.dam_search.specs.Piece.{IsMatched, Rises, welfare_found, IsSound};
 ghost use Rattle.dam_search.specs.inside.Conflicts.{AcceptsAll, AcceptsNone, AreConflicts};
-ghost use Rattle.dam_search.specs.inside.PriceWalk.{IsNode, IsBounded, IsReady, IsSlack, IsWalkedOpen, AreDistinct-prop, IsDecisionOrder, with_place_if};
+ghost use Rattle.dam_search.specs.inside.PriceWalk.{IsNode, IsBounded, IsReady, IsSlack, IsWalkedOpen, IsDecisionOrder, with_place_if};
 
 use crate::answer::PieceAnswer;
 use crate::conflicts::Conflicts;
@@ -41,7 +40,7 @@ pub(crate) struct PriceWalk<'a, A: Allocator, P: PricedProblem> {
     pub(crate) order: &'a [u8],
     ghost same: { P.problem priced.now ≡ without_rows problem.now },
     ghost are_conflicts: { AreConflicts problem.now conflicts.now },
-    ghost is_order: { IsDecisionOrder depth (length problem.now.blocks) order.now } by { Prim.hlevel (props, AreDistinct-prop) },
+    ghost is_order: { IsDecisionOrder depth (length problem.now.blocks) order.now },
 }
 
 /// The selection with its welfare, if that is at least the value read and the selection, if it is eligible, is the best

@@ -8,7 +8,7 @@ ghost use Rattle.dam_bound.specs.NetLimits.{AreLimits, AreSlacks, HasSlack};
 ghost use Rattle.dam_bound.specs.Prices.{bound_of, IsPricing};
 ghost use Rattle.dam_search.specs.inside.PriceWalk.{AgreesUnder};
 
-use crate::order::all_places;
+use crate::decision_order::all_places;
 use crate::priced_problem::PricedProblem;
 use dam_blocks::Selection;
 use dam_bound::{NetLimits, Pricing, Slack};

@@ -1,9 +1,7 @@
 -- A walk by prices: its nodes, and the account of it.
-use Rattle.std.specs.Prelude.{◌≡◌, ℕ, ◌<◌, ◌≤◌, max, ℤ, pos, ◌+ℤ◌, ◌-ℤ◌, ◌≤ℤ◌, ◌<ℤ◌, ◌⊎◌, Bool, true, false}
+use Rattle.std.specs.Prelude.{◌≡◌, ℕ, ◌<◌, ◌≤◌, max, ℤ, pos, ◌+ℤ◌, ◌-ℤ◌, ◌≤ℤ◌, ◌<ℤ◌, ◌⊎◌, ◌&&◌, Bool, true, false, not}
 use Rattle.std.specs.Prelude.{Option, Some, None, List, [], ◌∷◌, length, slice_set}
-use Rattle.std.specs.Coded.{×_prop, Unit-prop}
 use Rattle.std.specs.Int.{int_min, int_max}
-use mathlib.Core.Bool.{Bool-set}
 use Rattle.dam_book.specs.Limits.{most_blocks}
 use Rattle.dam_blocks.specs.declared.selection.Solution.{Solution}
 use Rattle.dam_blocks.specs.Problem.{ProblemState}
@@ -101,18 +99,13 @@ pub record IsWalkedOpen (problem : ProblemState) (accepted : List Bool) (left : 
 -- ---- the order of the decisions
 
 -- no two of the places are the same
-abbrev pub AreDistinct : List ℕ → Type 0
-AreDistinct [] = Unit {0}
-AreDistinct (place ∷ places) = (is_among place places ≡ false) × AreDistinct places
-
--- a list has one proof of it at most
-pub AreDistinct-prop : (places : List ℕ) → IsProp (AreDistinct places)
-AreDistinct-prop [] = Unit-prop
-AreDistinct-prop (place ∷ places) = ×_prop (Bool-set _ _) (AreDistinct-prop places)
+abbrev pub are_distinct : List ℕ → Bool
+are_distinct [] = true
+are_distinct (place ∷ places) = not (is_among place places) && are_distinct places
 
 -- the places from `depth` on of this number of blocks, each once
 pub record IsDecisionOrder (depth count : ℕ) (order : List ℕ) : Type 0 where
   pub few : length order ≤ most_blocks
-  pub distinct : AreDistinct order
+  pub distinct : are_distinct order ≡ true
   pub within : (place : ℕ) → is_among place order ≡ true → (depth ≤ place) × (place < count)
   pub whole : (place : ℕ) → depth ≤ place → place < count → is_among place order ≡ true

@@ -1,5 +1,5 @@
 -- Before the loop every place is open; each decision closes one.
-use Rattle.std.proofs.Common.{◌≡◌, ℕ, ◌+◌, Bool, List, not, ◌∙◌, sym, subst, refl, arith}
+use Rattle.std.proofs.Common.{◌≡◌, ℕ, ◌+◌, not, ◌∙◌, sym, subst, refl, arith}
 use Rattle.std.specs.Prelude.{nat_lt}
 use Rattle.dam_bound.specs.NetLimits.{HasSlack, every_place}
 use Rattle.dam_search.proofs.Slacks.{less_open, open_at, decided_at, others_open, agrees_less, agrees_here}
