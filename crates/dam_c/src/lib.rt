@@ -20,7 +20,7 @@ ghost use Rattle.dam_c.specs.Answer.{IsReturned};
 pub use answer::DamAnswer;
 use answer::write_answer;
 use dam_book::Seed;
-use dam_engines::{clear_text_alone, replies_of};
+use dam_engines::{clear_journal_alone, replies_of};
 use secret::seed_from_secret;
 use std::alloc::Global;
 
@@ -56,7 +56,10 @@ pub extern "C" fn dam_clear(alloc: Global, text: &[u8], nodes: u32, buffer: &mut
         (IsRunFault (IsClearFault (terms_alone nodes)) text.now)
         result buffer.old buffer.new }
 {
-    write_answer(clear_text_alone(alloc, Seed::fixed(), text, nodes), buffer)
+    write_answer(
+        clear_journal_alone(alloc, Seed::fixed(), text, nodes),
+        buffer,
+    )
 }
 
 /// The same, but the book hashes names with a seed that is drawn from the caller's secret, at least 16 random bytes.
@@ -73,7 +76,7 @@ pub extern "C" fn dam_clear_seeded(
         result buffer.old buffer.new }
 {
     write_answer(
-        clear_text_alone(alloc, seed_from_secret(secret), text, nodes),
+        clear_journal_alone(alloc, seed_from_secret(secret), text, nodes),
         buffer,
     )
 }

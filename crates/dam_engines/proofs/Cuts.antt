@@ -1,5 +1,5 @@
 -- By cases on the fault: the facts of a failed write, and the end of a run with another fault.
-use Rattle.std.proofs.Common.{◌≤◌, ℕ, List, length, Option, Result, Ok, Err}
+use Rattle.std.proofs.Common.{◌≤◌, ℕ, List, length, Option, Err}
 use Rattle.dam_engines.specs.declared.fault.RunFault.{RunFault}
 use Rattle.dam_engines.specs.declared.fault.RunFault.TheVariants.{Read, Input, TooManyCommands, CloseGiven, TooManyParticipants, StillOpen}
 use Rattle.dam_engines.specs.declared.fault.RunFault.TheVariants.{Mismatch, Unfinished, Collected, Memory, Write}

@@ -1,5 +1,5 @@
 -- The end of a run over a journal's text is stated of that journal, since the text is no other one and has no fault.
-use Rattle.std.proofs.Common.{◌≡◌, ℕ, false, List, Option, Result, subst}
+use Rattle.std.proofs.Common.{◌≡◌, ℕ, List, Option, Result, subst}
 use Rattle.dam_book.specs.declared.command.Command.{Command}
 use Rattle.dam_plan.specs.Plan.{PlanTerms}
 use Rattle.dam_results.specs.declared.journal_reading.JournalFault.{JournalFault}

@@ -35,7 +35,7 @@ fn clear_book_alone(alloc: Global, book: &Book, nodes: Nodes) -> Result<Vec<u8>,
 /// nodes, a first selection is looked for, which isn't counted. `nodes` may be any number: with 0, a search never
 /// finishes; with `MOST_NODES` or more, it always does. The book hashes names with the seed. `StillOpen` comes only if
 /// the book is open after the last command.
-pub fn clear_text_alone(
+pub fn clear_journal_alone(
     alloc: Global,
     seed: Seed,
     text: &[u8],

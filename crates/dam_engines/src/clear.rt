@@ -48,12 +48,12 @@ pub fn run_clear<H: Threads + Sync, R: Read, W: Write, T: Watch + Sync>(
     ensures asked { reader.new.asked ≤ reader.old.asked + most_asked reader.old.unread }
 {
     let text = read_input(alloc, reader)?;
-    let results = clear_text(rt, alloc, seed, text, plan, watch)?;
+    let results = clear_journal(rt, alloc, seed, text, plan, watch)?;
     write_text(writer, results.as_slice())
 }
 
 /// The results text of the book of a journal's text. The text is freed before the search.
-fn clear_text<H: Threads + Sync, T: Watch + Sync>(
+fn clear_journal<H: Threads + Sync, T: Watch + Sync>(
     rt: &H,
     alloc: Global,
     seed: Seed,

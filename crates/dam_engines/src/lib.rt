@@ -45,7 +45,7 @@ mod output;
 mod replay;
 mod watch;
 
-pub use alone::clear_text_alone;
+pub use alone::clear_journal_alone;
 pub use clear::run_clear;
 pub use day::run_day;
 pub use device::{Sink, Source};

@@ -4,7 +4,7 @@ use Rattle.std.proofs.lemmas.Result.{err_from_is_err_and, IfErr-weaker, IfOk-wea
 use Rattle.dam_book.specs.Book.{BookState}
 use Rattle.dam_engines.specs.Clear.{IsBookFault, IsClearFault, IsClearedWithin}
 use Rattle.dam_engines.proofs.Fronts.{made_fault-run, text_fault-run}
-use Rattle.dam_engines.proofs.clear.clear_text.Goals as goal
+use Rattle.dam_engines.proofs.clear.clear_journal.Goals as goal
 
 pub returns-in_err-run-clause-fault : goal.returns-in_err-run-clause-fault
 returns-in_err-run-clause-fault g c =
