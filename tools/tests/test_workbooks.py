@@ -537,7 +537,7 @@ class Unlike(unittest.TestCase):
         """A column of prices has numbers in EUR or EUR/MWh, one of volumes in MW, and one of periods in no unit."""
         of_prices = "0[$€-407]", '"EUR "0', '0" EUR/MWh"', '0" €/MWh"', '0" Euro per MWh"', '[>9]0" EUR";0', '"EUR "0"/MWh"'
         of_volumes = '0" MW"', '0"mw"', "0\\ [$MW]", '0" (MW)"', '[>9]0" MW";0'
-        for codes, unit, right in ((of_prices, "EUR/MWh", "E"), (of_volumes, "MW", "G")):
+        for codes, unit, right in ((of_prices, "EUR", "E"), (of_volumes, "MW", "G")):
             for code in (each.replace('"', "&quot;").replace(">", "&gt;") for each in codes):
                 for letter, column in (("E", "is in EUR/MWh"), ("G", "is in MW"), ("F", "has no unit")):
                     found, fault = self.shown(code, 8, letter=letter)
@@ -778,16 +778,21 @@ class Unlike(unittest.TestCase):
         parts = {"xl/styles.xml": f'<styleSheet xmlns="{made.MAIN[0]}">{fonts}{cells}</styleSheet>'.encode()}
         parts[made.SHARED] = f'<sst xmlns="{made.MAIN[0]}"><si><t>8</t></si></sst>'.encode()
         for letter, name in self.COLUMNS.items():
-            number, words = "'8' is a number that is struck out: clear its formats, or remove its row", "'8' is a text with a format: clear its formats"
-            for cell, fault in (
-                ('<c s="{}"><v>8</v></c>', number), ('<c s="{}" t="s"><v>0</v></c>', words), ('<c s="{}" t="str"><v>8</v></c>', words),
-                ('<c s="{}" t="inlineStr"><is><t>8</t></is></c>', words),
+            for cell in (
+                '<c s="{}"><v>8</v></c>', '<c s="{}" t="s"><v>0</v></c>', '<c s="{}" t="str"><v>8</v></c>',
+                '<c s="{}" t="inlineStr"><is><t>8</t></is></c>',
             ):  # fmt: skip
                 _, said = self.read(parts, **{letter: cell.format(1)})
-                self.assertEqual(said, None if name == "note" else f"line 2, column {name}: {fault}")
+                fault = f"line 2, column {name}: '8' is struck out: remove its row, or clear its formats"
+                self.assertEqual(said, None if name == "note" else fault)
                 for style in (0, 2):
                     _, said = self.read(parts, **{letter: cell.format(style)})
-                    self.assertNotIn("format", said or "", cell)
+                    self.assertNotIn("struck out", said or "", cell)
+
+        heads = made.OPEN.replace(b"<c t='inlineStr'><is><t>group<", b"<c s='1' t='inlineStr'><is><t>group<")
+        said = "(?m)^line 1, column 9: 'group' is struck out: remove its row, or clear its formats$"
+        with self.assertRaisesRegex(order_table.BadOrders, said):
+            order_table.parse_tables([("", made.workbook_of_sheet(heads, order(2, "K1"), made.CLOSE, **parts))], 24)
 
     def test_parts_of_texts_with_fonts(self):
         """A part may be struck out, or a number have the mark of a note, which would be read as its last digit."""

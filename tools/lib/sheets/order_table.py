@@ -8,7 +8,7 @@ from typing import NamedTuple
 
 from ..base import rules, text
 from ..journal import book, fields, journal
-from ..workbooks.cells import Styled, Uncomputed
+from ..workbooks.cells import Struck, Styled, Uncomputed
 from . import cell_values, kinds, shapes, sheets
 from .cell_values import BadOrders
 from .tables import ORDER, REPLY, RESULT
@@ -44,7 +44,7 @@ def find_columns(line, header, needed, further):
     for at, (name, cell) in enumerate(zip(names, header), 1):
         if name in places or name in further and names.index(name) < at - 1:
             wrong.append(f"line {line}, column {at}: the column {text.quoted(name)} appears twice")
-        elif isinstance(cell, (Styled, Uncomputed)):
+        elif isinstance(cell, (Struck, Styled, Uncomputed)):
             wrong.append(f"line {line}, column {at}: {cell.fault()}")
         elif name in ORDER + RESULT:
             places[name] = at - 1

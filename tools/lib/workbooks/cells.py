@@ -36,14 +36,14 @@ class Price(Formatted):
     """A number of which a format says that it is in EUR, or EUR/MWh."""
 
     __slots__ = ()
-    unit = "EUR/MWh"
+    said, unit = "EUR", "EUR/MWh"  # what the format says at least, and the unit of a column of such numbers
 
 
 class Power(Formatted):
     """A number of which a format says that it is in MW."""
 
     __slots__ = ()
-    unit = "MW"
+    said = unit = "MW"
 
 
 class Percentage(Unlike):
@@ -72,7 +72,7 @@ class Repeated(Changed):
 
 class Struck(Changed):
     __slots__ = ()
-    kind, remedy = "a number that is struck out", "clear its formats, or remove its row"
+    kind, remedy = "struck out", "remove its row, or clear its formats"
 
 
 class Hidden(Changed):
@@ -102,7 +102,7 @@ class Worded(Changed):
 
 
 class Styled(Unlike):
-    """A text that a format, or a part's font, shows in another way: hidden, repeated, struck out, or above the line."""
+    """A text that a format shows in another way, or of which a part is struck out, or above or below the line."""
 
     __slots__ = ()
     kind, remedy = "a text with a format", "clear its formats"
@@ -120,6 +120,12 @@ class Truth(Unlike):
 
 class StyledString(int):
     """The number of a shared string whose cell shows it in another way."""
+
+    __slots__ = ()
+
+
+class StruckString(int):
+    """The number of a shared string whose cell is struck out."""
 
     __slots__ = ()
 
@@ -170,7 +176,7 @@ class Kept:
 
 # The kinds of cells: before each cell of a packed row stands a half of a character, which no text has, and says its kind.
 NUMBERS_SHOWN = Formatted, Price, Power, Percentage, Changed, Currency, Repeated, Struck, Hidden, Rounded, Worded, Shortened
-CELLS = str, int, StyledString, Uncomputed, Date, *NUMBERS_SHOWN, Styled, Truth
+CELLS = str, int, StyledString, StruckString, Uncomputed, Date, *NUMBERS_SHOWN, Styled, Truth
 HALVES = {kind: chr(0xD800 + at) for at, kind in enumerate(CELLS)}
 PACKED = re.compile("([\ud800-\udfff])([^\ud800-\udfff]*)")
 

@@ -89,7 +89,7 @@ class Workbook(Part):
         styles = Styles()
         if part := self.relations.only(STYLES):
             package.read(part, styles)
-        self.formats, self.styled, self.conditional = styles.of_cells(), styles.of_texts(), styles.conditional
+        self.formats, self.styled, self.struck, self.conditional = styles.of_cells(), styles.of_texts(), styles.struck, styles.conditional
 
     def relations_of(self, owner):
         relations = Relations(owner)

@@ -5,7 +5,8 @@ import math
 import re
 
 from ..base import text
-from .cells import Date, Hidden, Kept, Numbers, Rows, Styled, StyledString, Truth, Uncomputed, name_of, number_of, trimmed, unescaped
+from .cells import Date, Hidden, Kept, Numbers, Rows, Struck, StruckString, Styled, StyledString, Truth, Uncomputed
+from .cells import name_of, number_of, trimmed, unescaped
 from .limits import LAST_COLUMN, LAST_ROW, MOST_CELLS, MOST_ELEMENTS, MOST_TEXT, BadWorkbook, broken, size_of, too_many
 from .part import ANY_OTHERS, EXTENSIONS, FONT, OF_FONTS, TRUTHS, Texts, truth_of, unsigned
 from .styles import digits_of, general
@@ -208,9 +209,9 @@ class Sheet(Texts):
         if kind == "s":
             if not WHOLE.fullmatch(value) or not 0 <= int(value) < MOST_ELEMENTS:
                 raise self.wrong(f"it has no string {text.quoted(value)}")
-            return StyledString(value) if self.is_styled() else int(value)
+            return self.shown(int, StyledString, StruckString)(value)
         if kind in ("str", "inlineStr"):
-            return Styled(unescaped(value)) if self.is_styled() else unescaped(value)
+            return self.shown(str, Styled, Struck)(unescaped(value))
         if kind == "e" and value:
             return value
         if kind == "b" and value in TRUTHS:
@@ -219,9 +220,12 @@ class Sheet(Texts):
             return Date(found[1])
         raise self.wrong(f"{text.quoted(value)} isn't of its type, {text.quoted(kind)}")
 
-    def is_styled(self):
-        """Whether the cell's format shows a text in another way, or that of a part of it."""
-        return self.is_marked or self.style_number() in self.book.styled
+    def shown(self, plain, styled, struck):
+        """Of the kinds of a text, the one that the cell is: shown as it is, in another way, or struck out."""
+        number = self.style_number()
+        if number in self.book.struck:
+            return struck
+        return styled if self.is_marked or number in self.book.styled else plain
 
     def number(self, value):
         """A number with the digits that Excel shows, or the date that it stands for."""
@@ -315,11 +319,18 @@ class Sheet(Texts):
                     words = shared.found.get(cell)
                     if words is None:
                         raise self.wrong(f"it has no string '{cell}'")
-                    self.cells[at] = Styled(words) if isinstance(cell, StyledString) or cell in shared.styled else words
+                    self.cells[at] = text_of(cell, words, cell in shared.styled)
                     self.add_text(words)
             if cells := trimmed(self.cells):
                 rows.add(self.row, cells)
         return rows
+
+
+def text_of(cell, words, is_marked):
+    """The text of a cell with a shared string."""
+    if isinstance(cell, StruckString):
+        return Struck(words)
+    return Styled(words) if is_marked or isinstance(cell, StyledString) else words
 
 
 class Enough(Exception):

@@ -333,4 +333,4 @@ class Styles(Part):
 
     def of_texts(self):
         """The formats of cells that show texts in another way."""
-        return {at for at, number in enumerate(self.formats) if number in self.styled} | self.filled | self.struck
+        return {at for at, number in enumerate(self.formats) if number in self.styled} | self.filled
