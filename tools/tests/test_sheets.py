@@ -75,10 +75,20 @@ class Columns(unittest.TestCase):
         self.assertEqual(found[0], "line 1, column 1: 'participants' is not a column: write participant")
         self.assertEqual(found[1], "line 1, column 3: the column 'order' appears twice")
         self.assertIn("line 1, column 8: 'parnt' is not a column: write parent", found)
-        self.assertIn("line 1, column 7: 'volume' is not a column: write volume_mw", found)
-        self.assertIn("line 1, column 5: 'price' is not a column: write price_eur_mwh", found)
+        self.assertIn("line 1, column 7: 'volume' is not a column: write volume_mw, in MW", found)
+        self.assertIn("line 1, column 5: 'price' is not a column: write price_eur_mwh, in EUR/MWh", found)
         said = "line 1: there is no column participant, kind, price_eur_mwh, volume_mw; the columns are participant, order"
         self.assertTrue(any(line.startswith(said) for line in found), found)
+
+    def test_headings_with_another_unit(self):
+        """No column is read in another unit than its name says."""
+        for heading in ("price_mw", "price_ct_mwh", "price_usd_mwh", "price_eur_kwh", "price", "price_eur_mwh (ct)", "price eur mwh"):
+            (said, lacking) = wrong(self.ROW, header=HEADER.replace("price_eur_mwh", heading))
+            self.assertEqual(said, f"line 1, column 5: '{heading}' is not a column: write price_eur_mwh, in EUR/MWh")
+            self.assertTrue(lacking.startswith("line 1: there is no column price_eur_mwh;"), lacking)
+        for heading in ("volume_kw", "volume_mwh", "volume", "volume_eur_mwh", "volume (MW)"):
+            said = wrong(self.ROW, header=HEADER.replace("volume_mw", heading))[0]
+            self.assertEqual(said, f"line 1, column 7: '{heading}' is not a column: write volume_mw, in MW")
 
     def test_an_order_on_the_line_of_the_header(self):
         """It would be lost. Its first cell may be part of the last heading."""

@@ -51,7 +51,7 @@ def find_columns(line, header, needed, further):
         elif name in further or WHAT in further and name in REPLY:
             continue
         elif alike := columns_meant(name, missing, needed):
-            wrong.append(f"line {line}, column {at}: {text.quoted(cell)} is not a column: write {alike[0]}")
+            wrong.append(f"line {line}, column {at}: {text.quoted(cell)} is not a column: write {with_unit(alike[0])}")
         elif name and name not in further:
             unused[at] = cell
     lacking = [name for name in missing if name in needed]
@@ -60,6 +60,12 @@ def find_columns(line, header, needed, further):
     if wrong:
         raise BadOrders("\n".join([*wrong, *(f"line {line}: {note}" for note in unused_notes(unused))] if lacking else wrong))
     return places, unused
+
+
+def with_unit(name):
+    """The name of a column with the unit of its numbers, which a heading that isn't one may have in another."""
+    unit = shapes.unit_of(name)
+    return f"{name}, in {unit}" if unit else name
 
 
 def unused_notes(unused):
