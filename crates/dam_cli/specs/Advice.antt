@@ -5,7 +5,7 @@ use Rattle.std.specs.Prelude.{Option, None, Some, option_map, if◌then◌else�
 use Rattle.std.specs.Fmt.{signed_decimal}
 use Rattle.std.specs.List.{list_any}
 use Rattle.std.specs.Str.{bytes_eq}
-use Rattle.dam_book.specs.Limits.{lowest_price, highest_price, greatest_volume, most_entries}
+use Rattle.dam_book.specs.Limits.{lowest_price, highest_price, greatest_volume, longest_name, longest_participant, most_entries}
 use Rattle.dam_results.specs.Limits.{most_bytes}
 use Rattle.dam_results.specs.declared.journal_reading.JournalFault.{JournalFault}
 use Rattle.dam_results.specs.declared.journal_reading.JournalFault.TheVariants.{BadField, TooLong, TooManyRecords}
@@ -48,13 +48,18 @@ has_part part (byte ∷ rest) = bytes_eq (take (length part) (byte ∷ rest)) pa
 abbrev pub HasNumber : ℕ → Rule → Type 0
 HasNumber number rule = has_part (codes " " ++ (with_commas (decimal number) ++ codes " ")) (rule_text rule) ≡ true
 
--- for a journal that is too long, the rule has the most bytes or commands; for a bad price or bad volumes in a command's
--- record, it shows the limits on them
+-- the rule of a bad field in a command's record: for a participant or a name it has their most bytes, and for a price or
+-- volumes it shows the limits on them
+abbrev pub ShowsLimitsOfField : ℕ → Rule → Type 0
+ShowsLimitsOfField field rule = (field ≡ 2 → HasNumber longest_participant rule) × (field ≡ 3 → HasNumber longest_name rule)
+    × (field ≡ 6 → ShowsRange lowest_price highest_price rule) × (field ≡ 7 → ShowsRange (pos 1) (pos greatest_volume) rule)
+
+-- for a journal that is too long, the rule has the most bytes or commands; for a bad field of a command's record, it shows
+-- the limits of the field
 abbrev pub ShowsItsLimits : JournalFault → Rule → Type 0
 ShowsItsLimits TooLong rule = HasNumber most_bytes rule
 ShowsItsLimits TooManyRecords rule = HasNumber most_entries rule
-ShowsItsLimits (BadField at field) rule = at ≢ 1 → (field ≡ 6 → ShowsRange lowest_price highest_price rule)
-    × (field ≡ 7 → ShowsRange (pos 1) (pos greatest_volume) rule)
+ShowsItsLimits (BadField at field) rule = at ≢ 1 → ShowsLimitsOfField field rule
 ShowsItsLimits fault rule = Unit {0}
 
 -- whether a word asks for the version
@@ -85,7 +90,7 @@ first_file is_number (word ∷ words) =
     else Some word
 
 -- the command, if the first word is one, and after it the first word that may be a file
-abbrev pub file_in : List (List ℕ) → Option (List ℕ × List ℕ)
-file_in [] = None
-file_in (command ∷ words) =
+abbrev pub command_and_file : List (List ℕ) → Option (List ℕ × List ℕ)
+command_and_file [] = None
+command_and_file (command ∷ words) =
     if is_command command then option_map (λ file. (command, file)) (first_file false words) else None

@@ -7,8 +7,8 @@ ghost use Rattle.std.specs.String.{string_bytes};
 ghost use Rattle.dam_results.specs.declared.journal_reading.JournalFault.{JournalFault};
 ghost use Rattle.dam_engines.specs.Fault.{fault_status, input_status};
 ghost use Rattle.dam_book.specs.Limits.{lowest_price, highest_price, greatest_volume, most_entries};
-ghost use Rattle.dam_cli.specs.Advice.{BeginsWithField, HasNumber, NamesItsField, ShowsRange, ShowsItsLimits, rule_text};
-ghost use Rattle.dam_cli.specs.Advice.{file_in, first_file, has_number, is_command, is_option, is_version_word};
+ghost use Rattle.dam_cli.specs.Advice.{BeginsWithField, HasNumber, NamesItsField, ShowsItsLimits, ShowsLimitsOfField, ShowsRange, rule_text};
+ghost use Rattle.dam_cli.specs.Advice.{command_and_file, first_file, has_number, is_command, is_option, is_version_word};
 
 use dam_book::{GREATEST_VOLUME, HIGHEST_PRICE, LOWEST_PRICE};
 use dam_engines::RunFault;
@@ -114,8 +114,7 @@ fn rule_of_day(field: usize) -> &'static str
 /// The rule of a field of a command's record.
 fn rule_of_command(field: usize) -> Rule
     ensures field { 1 ≤ field → field ≤ 9 → BeginsWithField field (rule_text result) }
-    ensures price { field ≡ 6 → ShowsRange lowest_price highest_price result }
-    ensures volumes { field ≡ 7 → ShowsRange (pos 1) (pos greatest_volume) result }
+    ensures limits { ShowsLimitsOfField field result }
 {
     let text = match field {
         1 => "field 1 is what the record is: submit, amend, cancel or close",
@@ -161,9 +160,9 @@ fn rule_of_volumes() -> Rule
 
 /// The command, if the first word is one of the three, and the first word after it that neither begins with `-` nor
 /// follows a word that does and has no `=`.
-pub fn file_in(words: &[String]) -> Option<(&str, &str)>
+pub fn command_and_file(words: &[String]) -> Option<(&str, &str)>
     ensures { option_map (λ found. (found.0.now, found.1.now)) result
-        ≡ file_in (map string_bytes words.now) }
+        ≡ command_and_file (map string_bytes words.now) }
 {
     let (command, rest) = words.split_first()?;
     if !is_command(command.as_str()) {

@@ -15,10 +15,10 @@ ghost use Rattle.dam_engines.specs.Fault.{fault_status};
 ghost use Rattle.dam_line.specs.Line.{AsksFor};
 ghost use Rattle.dam_cli.specs.Status.{IsEndedStatus, IsLineStatus, IsNoHelp, run_status};
 
-use advice::{asks_version, file_in, rule_of};
+use advice::{asks_version, command_and_file, rule_of};
 use dam_book::Seed;
 use dam_engines::{RunFault, Sink, Source, fixed_fault_line, status, write_text};
-use dam_line::{Job, LineFault, read_words};
+use dam_line::{Job, LineFault, read_job};
 use progress::Progress;
 use run::run_job;
 use std::alloc::Global;
@@ -78,7 +78,7 @@ fn read_job_or_print(rt: &HostRuntime, words: &[String]) -> Result<Job, ExitCode
     ensures job { IfOk result (AsksFor (map string_bytes words.now)) }
     ensures ended { IfErr result (λ status. IsEndedStatus (exit_status status)) }
 {
-    match read_words(rt.alloc(), words) {
+    match read_job(rt.alloc(), words) {
         Ok(job) => Ok(job),
         Err(fault) => Err(print_help_or_refusal(rt, &fault, words)),
     }
@@ -162,7 +162,7 @@ fn print_refusal(rt: &HostRuntime, text: &str, words: &[String]) -> ExitCode
             let _ = eprintln!(rt;
                 "dam: dam-audit --version prints the version; in a clone, ./dam --version does"
             );
-        } else if let Some((command, file)) = file_in(words) {
+        } else if let Some((command, file)) = command_and_file(words) {
             let _ = eprintln!(rt;
                 "dam: a journal is read from standard input: dam {command} < {file}"
             );

@@ -14,7 +14,7 @@ pub fn exactness()
 {}
 
 /// If `clap` takes the words of a subcommand that has a plan, then its matches give each option a number in the option's range: the
-/// number of the words, or the default. So [`read_words`](crate::read_words) never puts a default in the place of a number that
+/// number of the words, or the default. So [`read_job`](crate::read_job) never puts a default in the place of a number that
 /// the words give.
 pub fn numbers_are_in_range()
     ensures { (words : List Text) (found : Text × List Row) (option : OptionTerms)

@@ -1,7 +1,7 @@
 //! The command line of `dam`: the job that the words after the program's name ask for.
 //!
 //! ```
-//! match read_words(alloc, &words) {
+//! match read_job(alloc, &words) {
 //!     Ok(Job::Clear(plan)) => clear(plan),
 //!     // the help that was asked for; or the error, or the help if there are no words
 //!     Err(LineFault::Refused { help, text }) => ..,
@@ -19,4 +19,4 @@ pub mod laws;
 mod line;
 mod options;
 
-pub use line::{Job, LineFault, read_words};
+pub use line::{Job, LineFault, read_job};

@@ -41,7 +41,7 @@ pub enum LineFault {
 
 /// The job that the words after the program's name ask for, as `clap` reads them: a subcommand, and
 /// then its options in any order, each `--NAME NUMBER` or `--NAME=NUMBER`, once at most.
-pub fn read_words<'a, S: AsStr>(alloc: Global, words: &'a [S]) -> Result<Job, LineFault>
+pub fn read_job<'a, S: AsStr>(alloc: Global, words: &'a [S]) -> Result<Job, LineFault>
     ensures ok { IfOk result (AsksFor (map S.text words.entry.now)) }
     ensures refused { IfErr result (IsLineFault (map S.text words.entry.now)) }
 {

@@ -4,7 +4,7 @@ use crate::answer::{Answer, Stop, TRIES, Told};
 use crate::texts::keeper_of;
 use dam_blocks::{Problem, Solution};
 use dam_engines::RunFault;
-use dam_line::{Job, LineFault, read_words};
+use dam_line::{Job, LineFault, read_job};
 use dam_plan::Plan;
 use dam_results::read_journal;
 use dam_search::{SearchFault, Turnstile, search};
@@ -86,7 +86,7 @@ pub fn search_by_line<R: Threads + Sync>(
     text: &[u8],
     words: &[String],
 ) -> Result<Told, Stop> {
-    match read_words(alloc, words) {
+    match read_job(alloc, words) {
         Ok(job) => search_by_job(rt, alloc, text, job),
         Err(LineFault::Memory) => Err(Stop::Memory),
         Err(LineFault::Refused { .. }) => Err(Stop::Wrong),

@@ -2,7 +2,7 @@
 
 use crate::answer::{Answer, Stop, TRIES, Told};
 use dam_engines::RunFault;
-use dam_line::{Job, LineFault, read_words};
+use dam_line::{Job, LineFault, read_job};
 use std::alloc::Global;
 
 fn answer_of(read: &Result<Job, LineFault>) -> Answer {
@@ -14,13 +14,13 @@ fn answer_of(read: &Result<Job, LineFault>) -> Answer {
 }
 
 /// Reads the words, and then again, until the answer isn't that memory ran out: the two have to be equal.
-pub fn read_words_again(alloc: Global, words: &[String]) -> Result<Told, Stop> {
-    let wanted = read_words(alloc, words);
+pub fn read_job_again(alloc: Global, words: &[String]) -> Result<Told, Stop> {
+    let wanted = read_job(alloc, words);
     if wanted == Err(LineFault::Memory) {
         return Err(Stop::Memory);
     }
     for refused in 0..TRIES {
-        let found = read_words(alloc, words);
+        let found = read_job(alloc, words);
         if found != Err(LineFault::Memory) {
             let answer = answer_of(&found);
             return if found == wanted {

@@ -22,7 +22,7 @@ use clearing::search_by_line;
 use dam_book::Seed;
 use dam_results::read_journal;
 use day::{hold_day, run_threads_again};
-use line::read_words_again;
+use line::read_job_again;
 use refused_calls::{fill_journal, refuse_commands, settle_others};
 use std::alloc::Global;
 use std::io::Read;
@@ -68,7 +68,7 @@ fn run_sequence<R: Threads + Wait + Sync>(
         "read" => read_again(alloc, text),
         "write" => write_journal(alloc, text),
         "search" => search_by_line(rt, alloc, text, words),
-        "line" => read_words_again(alloc, words),
+        "line" => read_job_again(alloc, words),
         _ => Err(Stop::Wrong),
     }
 }

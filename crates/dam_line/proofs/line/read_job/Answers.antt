@@ -9,7 +9,7 @@ use Rattle.clap.specs.declared.parser.matches.ArgMatches.{ArgMatches}
 use Rattle.clap.specs.declared.parser.matches.ArgMatches.TheViews.{out-ArgMatches, out-SubCommand}
 use Rattle.dam_line.specs.Line.{IsRefusal, program, job_of}
 use Rattle.dam_line.proofs.Program.{fault_by, is_command, is_free-program, is_simple-program}
-use Rattle.dam_line.proofs.line.read_words.Goals as goal
+use Rattle.dam_line.proofs.line.read_job.Goals as goal
 
 abbrev second_of : {A B : Type 0} → Option (A × B) → Option B
 second_of = option_map (λ p. p.1)
