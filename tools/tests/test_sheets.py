@@ -390,6 +390,17 @@ class Tolerance(unittest.TestCase):
         self.assertIn("`--journal` reads tables in UTF-8, UTF-16 or, with a note, Windows-1252, ", page)
         self.assertIn("the sheet `orders`, or else the first that has the columns, ", page)  # of a workbook: the next test
 
+    def test_a_lost_byte_of_utf_16(self):
+        """The bytes after it are those of other characters, also the line ends: all further orders would be in one cell."""
+        rows = table(*(f"{who},H,hour,buy,1,8,5,,,xyz" for who in "ABC"), header=f"{HEADER},note").decode()
+        said = "^line 2: the table isn't in UTF-16, as its first bytes say: save it as CSV in UTF-8$"
+        for data in (rows.encode("utf-16"), b"\xfe\xff" + rows.encode("utf-16-be")):
+            first = data.index(b"x", rows.index("xyz") * 2)
+            for place in range(first, first + 6):
+                for wrong_data in (data[:place] + data[place + 1 :], data[:place] + b"x" + data[place:]):
+                    with self.assertRaisesRegex(order_table.BadOrders, said):
+                        order_table.parse_tables([("", wrong_data)], 24)
+
     @WITH_EXCEL
     def test_the_sheet_that_is_read(self):
         import openpyxl

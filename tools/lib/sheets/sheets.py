@@ -56,6 +56,7 @@ def parse_rows(data, needed=(), notes=None, most=None, is_long=False):
 def require_encoding(data, notes):
     """The encoding of a table: UTF-8, UTF-16 with its mark, or else Windows-1252, whose letters no order has."""
     if data.startswith((codecs.BOM_UTF16_LE, codecs.BOM_UTF16_BE)):
+        refuse_broken_utf_16(data)
         return "utf-16"
     place = first_other(data, "utf-8-sig")
     if place is None:
@@ -65,6 +66,14 @@ def require_encoding(data, notes):
     if first_other(data, "cp1252") is not None:
         raise BadTable(f"line {line}: the table is neither in UTF-8 nor in Windows-1252: save it as CSV in UTF-8")
     return "cp1252"
+
+
+def refuse_broken_utf_16(data):
+    """Refuses a text in UTF-16 that lacks a byte: the characters after it, also line ends, would be others."""
+    place = first_other(data, "utf-16")
+    if place is not None:
+        line = data[:place].decode("utf-16", "ignore").count("\n") + 1
+        raise BadTable(f"line {line}: the table isn't in UTF-16, as its first bytes say: save it as CSV in UTF-8")
 
 
 def first_other(data, encoding):
@@ -150,7 +159,7 @@ class Text:
         self.is_counted = False  # once it was read to its end, it keeps to the limits
 
     def text_stream(self):
-        return io.TextIOWrapper(io.BytesIO(self.data), self.encoding, "replace" if self.encoding == "utf-16" else "strict", newline="")
+        return io.TextIOWrapper(io.BytesIO(self.data), self.encoding, newline="")
 
     def first_line(self):
         """The header: the first line that isn't empty."""
