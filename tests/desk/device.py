@@ -4,14 +4,11 @@ import fcntl
 import os
 import struct
 import subprocess
-import sys
 import tempfile
 import threading
 from concurrent.futures import ThreadPoolExecutor
 from pathlib import Path
 from typing import NamedTuple
-
-sys.path.insert(0, str(Path(__file__).resolve().parents[1]))
 
 SECONDS = 120
 EVENT, RESULT, LENGTH = struct.Struct("=ccHiQII"), struct.Struct("=iIIII"), struct.Struct("=I")

@@ -3,16 +3,11 @@
 import itertools
 import random
 import subprocess
-import sys
-from pathlib import Path
-
-TOP = Path(__file__).resolve().parents[2]
-sys.path[:0] = [str(TOP / "tests"), str(TOP / "tests" / "fuzz")]
 
 from shared.printed import Printed  # by which `lib` is found
 from lib.base import rules
 
-import days
+import days  # of tests/fuzz
 
 CLOSE = b"close,,,,,,,,\n"
 WIDE = b";".join(b"%d:%d" % (period, rules.GREATEST_VOLUME) for period in range(1, rules.GREATEST_PERIOD + 1))

@@ -6,27 +6,27 @@ full journal with amends and cancels: a step for each line that goes over all li
 
 import errno
 import shutil
-import sys
 import time
 from concurrent.futures import ThreadPoolExecutor
-from pathlib import Path
 
-sys.path.append(str(Path(__file__).resolve().parents[1] / "hostile"))
-
-import costs
-from preload import HostileProgram, RefusedCalls
+from shared import records
+from shared.instructions import DRAWN, TIMES, check_and_print_millions, run_for_instructions
+from shared.preload import HostileProgram, RefusedCalls  # by which `lib` is found
+from shared.records import journal_text, run_for_colliding_names, submits_of
+from lib.base import rules
 
 ABOUT = ["in a new file", "in a file that is opened again", "in a printed journal"]
 MILLIONS = [31.2, 22.0, 22.1]  # instructions that were counted with other names
 FULL = 71.9  # and with a full journal
+SOME = 1_000  # of the names, on other days
 FIXED = RefusedCalls("random", first=3, error=errno.ENOSYS)  # a file draws twice before
 
 
-def run_for_instructions(program, desk, records, refusal):
+def run_new_again_and_journal(program, desk, records, refusal):
     """Yields the instructions of a desk with a new file that takes the records, with that file again, and for the file's journal."""
     file = desk.make_folder() / "day.desk"
-    for words, data in [([file], costs.journal_text(records)), ([file], b""), (["--journal", file], b"")]:
-        yield costs.run_for_instructions(program, words, data, refusal)
+    for words, data in [([file], journal_text(records)), ([file], b""), (["--journal", file], b"")]:
+        yield run_for_instructions(program, words, data, refusal)
 
 
 def run(counts, desk, dam, whole):
@@ -35,30 +35,27 @@ def run(counts, desk, dam, whole):
         return
     begun = time.monotonic()
     program = HostileProgram(desk.words[0], desk.room)
-    others, colliding = costs.submits_of(costs.ordinary_names()), costs.submits_of(costs.run_for_colliding_names(desk.room))
-    tried = [run_for_instructions(program, desk, others, costs.DRAWN), run_for_instructions(program, desk, colliding, costs.DRAWN)]
+    others, colliding = submits_of(records.ordinary_names()), submits_of(run_for_colliding_names(desk.room))
+    tried = [run_new_again_and_journal(program, desk, others, DRAWN), run_new_again_and_journal(program, desk, colliding, DRAWN)]
     with ThreadPoolExecutor() as pool:
-        fixed = pool.submit(next, run_for_instructions(program, desk, colliding, FIXED))
+        fixed = pool.submit(next, run_new_again_and_journal(program, desk, colliding, FIXED))
         usual, drawn = pool.map(list, tried)
     for about, taken, by_others in zip(ABOUT, drawn, usual):
         took = f"names that collide {about} take {taken / by_others:.1f} times the instructions of others"
         print(took, flush=True)
-        counts.check(took, taken < costs.TIMES * by_others)
+        counts.check(took, taken < TIMES * by_others)
     for about, taken, millions in zip(ABOUT, usual, MILLIONS):
-        took = f"other names {about} take {taken / 1e6:.1f} million instructions"
-        print(took, flush=True)
-        counts.check(f"{took}, more than {costs.MOST_TIMES} times {millions} million", taken < costs.MOST_TIMES * millions * 1e6)
-    some = costs.submits_of(costs.run_for_colliding_names(desk.room, costs.SOME))
-    for periods in set(costs.rules.DAYS) - {24}:
-        words, data = [desk.make_folder() / "day.desk"], costs.journal_text(some, True, periods)
-        taken = costs.run_for_instructions(program, words, data, costs.DRAWN)
-        took = f"{costs.SOME:,} names that collide, on {periods} periods, take {taken / usual[0]:.1f} times the instructions of {costs.ORDERS:,} others"
+        check_and_print_millions(counts, f"other names {about} take", taken, millions)
+    some = submits_of(run_for_colliding_names(desk.room, SOME))
+    for periods in set(rules.DAYS) - {24}:
+        words, data = [desk.make_folder() / "day.desk"], journal_text(some, True, periods)
+        taken = run_for_instructions(program, words, data, DRAWN)
+        about = f"{SOME:,} names that collide, on {periods} periods, take"
+        took = f"{about} {taken / usual[0]:.1f} times the instructions of {records.ORDERS:,} others"
         counts.check(took, taken < usual[0])
-    full = costs.run_for_instructions(program, [desk.make_folder() / "day.desk"], costs.journal_text(costs.full_journal()), costs.DRAWN)
-    took = f"a full journal takes {full / 1e6:.1f} million instructions"
-    print(took, flush=True)
-    counts.check(f"{took}, more than {costs.MOST_TIMES} times {FULL} million", full < costs.MOST_TIMES * FULL * 1e6)
+    full = run_for_instructions(program, [desk.make_folder() / "day.desk"], journal_text(records.full_journal()), DRAWN)
+    check_and_print_millions(counts, "a full journal takes", full, FULL)
     took = f"with the fixed seed, they take {fixed.result() / usual[0]:.1f} times those"
     print(took, flush=True)
-    counts.check(took, fixed.result() > costs.TIMES * usual[0])
+    counts.check(took, fixed.result() > TIMES * usual[0])
     print(f"names: {time.monotonic() - begun:.1f} s", flush=True)

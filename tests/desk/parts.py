@@ -7,6 +7,8 @@ import time
 from pathlib import Path
 
 sys.dont_write_bytecode = True
+TESTS = Path(__file__).resolve().parents[1]
+sys.path[:0] = [str(TESTS), str(TESTS / "fuzz")]
 
 import crashes
 import files
@@ -20,6 +22,7 @@ import streams
 from device import DeskProgram
 from journals import DamProgram
 from shared.counts import Counts
+from shared.parts import parse_parts_or_exit
 
 PARTS = {"stand_ins": stand_ins, "crashes": crashes, "kills": kills, "refused": refused, "files": files, "openings": openings,
          "streams": streams, "names": names, "shapes": shape_costs}  # fmt: skip
@@ -32,17 +35,14 @@ def used_processor_time():
 
 def main():
     room, *words = sys.argv[1:]
-    whole = "--all" in words
-    chosen = [word for word in words if word not in ("--all", "--count")]
-    if not set(chosen) <= set(PARTS):
-        sys.exit(f"the parts are {', '.join(PARTS)}")
+    asked = parse_parts_or_exit(words, PARTS)
     counts, dam = Counts(), DamProgram(os.environ["DAM"])
     desk = DeskProgram([Path(room) / "dam-desk"], room)
-    if "--count" in words:
+    if asked.counts_only:
         return shape_costs.write_counted(desk)
-    for name in chosen or PARTS:
+    for name in asked.names:
         begun = time.monotonic(), used_processor_time()
-        PARTS[name].run(counts, desk, dam, whole)
+        PARTS[name].run(counts, desk, dam, asked.is_whole)
         print(f"{name}: {time.monotonic() - begun[0]:.0f} s, {used_processor_time() - begun[1]:.0f} s of a processor", flush=True)
     return counts.print_totals()
 

@@ -156,7 +156,7 @@ class RunsWithRefusals(crashes.Crashes):
 
 
 def run_with_hostile_library(desk, file, batches, plan):
-    """Runs the desk with calls refused by the library of tests/hostile, and returns the run and the number of such calls."""
+    """Runs the desk with calls refused by the library of refuse.c, and returns the run and the number of such calls."""
     calls = file.with_suffix(".calls")
     calls.write_bytes(bytes(16))
     more = {"LD_PRELOAD": f"{desk.library}:{desk.room}/refuse.so", "HOSTILE": plan, "HOSTILE_CALLS": str(calls)}

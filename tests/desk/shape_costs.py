@@ -4,24 +4,22 @@ length of a day, of a full journal and with a torn end are only opened again; lo
 
 import itertools
 import shutil
-import sys
 from concurrent.futures import ThreadPoolExecutor
 from pathlib import Path
 
 import files
 from images import HEAD
-from journals import rules
+from shared import shapes
+from shared.cost_tables import Cost, check_costs, write_tables
+from shared.instructions import DRAWN, FIXED, run_for_counts, run_for_instructions
+from shared.preload import HostileProgram, RefusedCalls  # by which `lib` is found
+from shared.records import full_journal, journal_text
 from streams import LONGEST
-
-sys.path.append(str(Path(__file__).resolve().parents[1] / "hostile"))
-
-import costs
-import shapes
-from preload import HostileProgram, RefusedCalls
+from lib.base import rules
 
 HERE = Path(__file__).resolve().parent
 HELD, AT_ONCE = 1_000, 64  # orders, and bytes of a read
-JOURNAL, JOURNAL_SEED, SEED = "--journal", costs.FIXED, costs.FIXED._replace(first=3)  # an opened file draws twice before
+JOURNAL, JOURNAL_SEED, SEED = "--journal", FIXED, FIXED._replace(first=3)  # an opened file draws twice before
 COMMANDS = dict(zip(rules.DAYS, (1_050, 1_600, 2_400, 3_600, 5_400, 8_100)))  # of a file that is opened again, by the day's length
 LINES, IN_ALL = (12_000, 30_000, LONGEST, 100_000, 16_000_000), 2_000_000  # the lengths of long lines, and their bytes in all, or one line
 TORN = (20_000, 500_000, 10_000_000)  # bytes after the end of a file's lines
@@ -33,7 +31,7 @@ def yield_journals():
     for shape in (shapes.SHORT, shapes.LONG, *shapes.OTHERS):
         first, kinds = list(shape.submits_of_book()), list(shapes.commands_by_name(shape))
         for about, records in kinds if shape is shapes.LONG else kinds[-1:]:
-            yield f"{shape.periods}: {about}", costs.journal_text([*first, *itertools.islice(records, shapes.COMMANDS)], True, shape.periods)
+            yield f"{shape.periods}: {about}", journal_text([*first, *itertools.islice(records, shapes.COMMANDS)], True, shape.periods)
 
 
 def yield_longer_journals():
@@ -42,17 +40,17 @@ def yield_longer_journals():
         shape = shapes.Shape(periods, "BRAVO", "N-%d", False)
         *_, (_, records) = shapes.commands_by_name(shape)
         first = list(shape.submits_of_book())
-        yield f"{periods}: {count:,} commands", costs.journal_text([*first, *itertools.islice(records, count - len(first))], False, periods)
-    yield "24: all commands of a full journal", costs.journal_text(costs.full_journal())
+        yield f"{periods}: {count:,} commands", journal_text([*first, *itertools.islice(records, count - len(first))], False, periods)
+    yield "24: all commands of a full journal", journal_text(full_journal())
 
 
 def run_for_cost(program, words, data, others):
     """What a run costs. It is made twice, and the second time with the other words: those of a file that is the same."""
-    found, growths = costs.run_for_counts(program, words, data, JOURNAL_SEED if JOURNAL in words else SEED)
+    found, growths = run_for_counts(program, words, data, JOURNAL_SEED if JOURNAL in words else SEED)
     printed, peak = program.run(others, data, RefusedCalls("peak"))
     if printed.status:
         raise ValueError(f"{words}: status {printed.status}, {printed.stderr[:80]!r}")
-    return shapes.Cost(found, peak, growths)
+    return Cost(found, peak, growths)
 
 
 def run_for_costs_of_journal(program, desk, about, data):
@@ -67,7 +65,7 @@ def run_for_costs_of_journal(program, desk, about, data):
 def run_for_costs_of_longer(program, desk, about, data):
     """Yields what the file of a journal costs that is opened again."""
     file = desk.make_folder() / "day.desk"
-    program.run([file], data, costs.DRAWN)
+    program.run([file], data, DRAWN)
     yield f"again {about}", run_for_cost(program, [file], b"", [file])
 
 
@@ -77,7 +75,7 @@ def run_for_cost_of_rest(program, desk, data):
     first, rest = (b"".join(part) for part in (lines[: len(lines) // 2], lines[len(lines) // 2 :]))
     file, copy = (desk.make_folder() / "day.desk" for _ in range(2))
     for path in (file, copy):
-        program.run([path], first, costs.DRAWN)
+        program.run([path], first, DRAWN)
     return run_for_cost(program, [file], rest, [copy])
 
 
@@ -99,9 +97,9 @@ def run_for_costs_of_small_reads(program, desk):
     shape = shapes.SHORT
     amends = dict(shapes.commands_by_name(shape))["hourly orders amended"]
     records = [*shape.submits_of_book(HELD), shape.cancel_of(shape.name_of(1)), *itertools.islice(amends, shapes.COMMANDS)]
-    data, file = costs.journal_text(records, True, shape.periods), desk.make_folder() / "day.desk"
-    found = costs.run_for_instructions(program, [file], data, RefusedCalls("read", most=AT_ONCE))
-    yield f"new, {AT_ONCE} bytes a read", shapes.Cost(found)
+    data, file = journal_text(records, True, shape.periods), desk.make_folder() / "day.desk"
+    found = run_for_instructions(program, [file], data, RefusedCalls("read", most=AT_ONCE))
+    yield f"new, {AT_ONCE} bytes a read", Cost(found)
 
 
 def run_for_costs(desk):
@@ -114,11 +112,11 @@ def run_for_costs(desk):
 
 
 def write_counted(desk):
-    shapes.write_tables(HERE, run_for_costs(desk))
+    write_tables(HERE, run_for_costs(desk))
 
 
 def run(counts, desk, dam, whole):
     if shutil.which("valgrind"):
-        shapes.check_costs(counts, HERE, run_for_costs(desk))
+        check_costs(counts, HERE, run_for_costs(desk))
     else:
         counts.leave_out("what a desk costs for each shape of a journal: valgrind, which counts instructions, is missing", 1)

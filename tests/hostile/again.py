@@ -8,7 +8,7 @@ from typing import NamedTuple
 import judge
 from lib.base import rules
 from lib.runs.by_library import MOST_NODES
-from preload import EVERY, HostileProgram, RefusedCalls
+from shared.preload import EVERY, HostileProgram, RefusedCalls
 from shared.printed import Printed
 
 REFUSALS = Path(__file__).resolve().parents[2] / "crates/dam_refusals/out/dam_refusals"

@@ -9,7 +9,7 @@ import sys
 import judge
 import peaks
 import shapes
-from preload import LEFT, SECONDS, HostileProgram, RefusedCalls
+from shared.preload import LEFT, SECONDS, HostileProgram, RefusedCalls
 from rows import AUCTION, CLOSE, DAY, OPEN_AUCTION, QUARTERS, TOP
 from shared.printed import Printed
 from lib.base import rules

@@ -13,69 +13,38 @@ A run on a full book, or of a full journal, takes about as many instructions as 
 calls at a gate up to a full journal, each with a look after it. With a step for each order, command or look that goes over all orders,
 entries or receipts, they would take several times as many."""
 
-import errno
-import itertools
-import re
-import shutil
 import struct
-import subprocess
 from typing import NamedTuple
 
 from again import REFUSALS
-from preload import HostileProgram, RefusedCalls  # by which `lib` is found
+from shared.instructions import DRAWN, FIXED, MOST_TIMES, TIMES, check_and_print_millions, run_for_instructions
+from shared.preload import HostileProgram, RefusedCalls  # by which `lib` is found
+from shared.records import (
+    ORDERS,
+    full_journal,
+    journal_text,
+    ordinary_names,
+    participant_codes,
+    run_for_colliding_names,
+    submits_of,
+    submits_of_book,
+    volumes_text,
+)
 from lib.base import rules
 
-ORDERS = rules.MOST_HOURLY
-TIMES = 3  # names that collide take less than 3 times the instructions of others; with the fixed seed 50 times or more
 CANCEL_TIMES = 2  # cancels take less than twice the instructions of others
 SOME = 1_000  # of the names, if there are many runs: with the fixed seed, those that collide take 20 times the instructions
 RANDOM = bytes(range(1, 17))  # random bytes, each another
 WORKERS = {"clear": {2: 23, 3: 25, 4: 92, 8: 100}, "day": {2: 100, 3: 92, 4: 25, 8: 23}}  # and the length of the day
 AGAIN = 2_990  # the orders that are cancelled, each with a submit after it, so that all fit a journal of 10,000 records
-MOST_TIMES = 3  # a run on a full book takes less than three times the instructions that were counted
 SEARCH_TIMES = 1.5  # and as many for a search by relaxed welfares, most of whose time goes to finding places among many steps
 UNFINISHED = 3  # the status of a search that came to its limit on nodes
 REFUSED = 500  # the commands that are refused, each after an accepted one
-SECONDS = 1_200  # for a run of some seconds, on a machine that has much else to do
-DRAWN = RefusedCalls("random")
-FIXED = RefusedCalls("random", first=1, error=errno.ENOSYS)
 # Each engine by its words, and the two calls of the gate that take a seed by those of `dam_refusals`; those of `OPEN` take no close.
 ENGINES = [["replay"], ["clear"], ["day"], ["clear", "--nodes", "20"], ["clear", "--workers", "1"], ["day", "--workers", "1", "--cut", "0"]]
 GATES = {"begin_seeded": [], "run_commands": ["threads"]}
 OPEN = [*(words for words in ENGINES if words[0] == "day"), *GATES.values()]
 LOOKS = 49.7  # millions of instructions of the calls of `dam_refusals` up to a full journal, each with a look after it
-COUNTED = re.compile(r"I +refs: +([\d,]+)")
-
-
-def run_for_instructions(program, words, data, refusal, status=0):
-    """How many instructions a run takes, which must end with this status."""
-    return run_for_counts(program, words, data, refusal, status)[0]
-
-
-def run_for_counts(program, words, data, refusal, status=0):
-    """The same, and how many calls for memory it makes."""
-    log = program.counts_file().with_suffix(".valgrind")
-    count = [shutil.which("valgrind"), "--tool=cachegrind", "--cache-sim=no", "--cachegrind-out-file=/dev/null", f"--log-file={log}"]
-    printed, _, growths = program.run_counting(words, data, refusal, seconds=SECONDS, under=count)
-    if printed.status != status:
-        raise ValueError(f"{words} under valgrind: status {printed.status}, {printed.stderr[:80]!r}")
-    return int(COUNTED.search(log.read_text())[1].replace(",", "")), growths
-
-
-def journal_text(records, is_closed=True, periods=24):
-    return "".join([f"day,{periods},,,,,,,\n", *records, *["close,,,,,,,,\n"] * is_closed]).encode()
-
-
-def submits_of(names):
-    return [f"submit,A,{name},hour,buy,0,1:1,,\n" for name in names]
-
-
-def ordinary_names():
-    return [f"N-{number:010}" for number in range(ORDERS)]
-
-
-def run_for_colliding_names(room, count=ORDERS, keys=()):
-    return subprocess.run([room / "collide", *map(str, (count, *keys))], stdout=subprocess.PIPE, text=True, check=True).stdout.split()
 
 
 def check_names(runs):
@@ -171,32 +140,6 @@ def check_cancels(runs):
         runs.check(f"replay: {name} takes {times:.2f} times the instructions of the same from the back", times < CANCEL_TIMES)
 
 
-def participant_codes():
-    """The codes of as many participants as a day may have, again and again."""
-    return itertools.cycle("ABCDEFGH"[: rules.MOST_DAY_PARTICIPANTS])
-
-
-def volumes_text(periods, volume):
-    return ";".join(f"{period}:{volume(period)}" for period in range(1, periods + 1))
-
-
-def submits_of_book(periods, orders=ORDERS, blocks=rules.MOST_BLOCKS):
-    """As many orders, half of them of each side, and as many blocks, with a volume in each period."""
-    for at, code in zip(range(orders), participant_codes()):
-        side, cents, period = ("buy", "sell")[at % 2], 4_000 + at * 7_919 % 4_001, 1 + at // 2 % periods
-        yield f"submit,{code},N-{at},hour,{side},{cents},{period}:{10 + at * 104_729 % 891},,\n"
-    for at, code in zip(range(blocks), participant_codes()):
-        side, cents = ("buy", "sell")[at % 2], 5_500 + at * 617 % 1_001
-        yield f"submit,{code},K-{at},block,{side},{cents},{volumes_text(periods, lambda period: 5 + (at + 1) * period * 37 % 56)},,\n"
-
-
-def full_journal():
-    """A full book, an amend of each hourly order, and as many cancels as there may be before the close of a day."""
-    records = [*submits_of_book(24), *(f"amend,{code},N-{at},,,{4_000 + at},{1 + at % 24}:7,,\n" for at, code in zip(range(ORDERS), participant_codes()))]
-    left = rules.MOST_DAY_COMMANDS - len(records)
-    return records + [f"cancel,{code},N-{at},,,,,,\n" for at, code in zip(range(left), participant_codes())]
-
-
 def refused_commands():
     """A full book, and by turns an amend and a submit that is refused because its order is there."""
     begin = [*submits_of_book(24)]
@@ -246,19 +189,12 @@ def runs_by_name():
     }
 
 
-def check_and_print_millions(runs, about, count, millions, times):
-    """Compares the instructions of a run with the millions that were counted before."""
-    took = f"{about}: {count / 1e6:.1f} million instructions"
-    print(took, flush=True)
-    runs.check(f"{took}, more than {times} times {millions} million", count < times * millions * 1e6)
-
-
 def check_full_books(runs):
     """Counts the instructions of runs on full books, and of a journal that is filled at a gate."""
     tried = runs_by_name()
     asked = [(it.words, journal_text(it.records, it.words[0] != "day", it.periods), DRAWN, it.status) for it in tried.values()]
     counts = runs.pool.map(lambda it: run_for_instructions(runs.program, *it), asked)
     for (about, work), count in zip(tried.items(), counts):
-        check_and_print_millions(runs, about, count, work.millions, work.times)
+        check_and_print_millions(runs, f"{about}:", count, work.millions, work.times)
     looks = run_for_instructions(HostileProgram(REFUSALS, runs.program.room), ["full"], b"", DRAWN)
-    check_and_print_millions(runs, "calls up to a full journal, each with a look after it", looks, LOOKS, MOST_TIMES)
+    check_and_print_millions(runs, "calls up to a full journal, each with a look after it:", looks, LOOKS)

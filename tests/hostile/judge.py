@@ -3,7 +3,7 @@
 import re
 import threading
 
-from preload import RefusedCalls
+from shared.preload import RefusedCalls
 from shared.printed import Printed, faults_of_journal
 from lib.journal import journal
 from lib.results import results

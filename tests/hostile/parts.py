@@ -2,8 +2,11 @@
 
 import shutil
 import sys
+from pathlib import Path
 
 sys.dont_write_bytecode = True
+TESTS = Path(__file__).resolve().parents[1]
+sys.path[:0] = [str(TESTS), str(TESTS / "fuzz")]
 
 import again
 import checks
@@ -11,7 +14,9 @@ import costs
 import peaks
 import rows
 import shapes
-from preload import HostileProgram
+from shared.cost_tables import check_costs, write_tables
+from shared.parts import parse_parts_or_exit
+from shared.preload import HostileProgram
 
 
 def run_memory(runs):
@@ -49,7 +54,7 @@ def check_books(runs):
 
 
 def check_shapes(runs):
-    shapes.check_costs(runs, shapes.HERE, shapes.run_for_costs(runs))
+    check_costs(runs, shapes.HERE, shapes.run_for_costs(runs))
 
 
 PARTS = {
@@ -71,13 +76,11 @@ COUNTED = ["names", "cancels", "full", "shapes"]  # by valgrind
 
 def main():
     room, program, *words = sys.argv[1:]
-    chosen = [word for word in words if word not in ("--all", "--count")]
-    if not set(chosen) <= set(PARTS):
-        sys.exit(f"the parts are {', '.join(PARTS)}")
-    runs = rows.RunsOfRows(HostileProgram(program, room), "--all" in words)
-    if "--count" in words:
-        return shapes.write_tables(shapes.HERE, shapes.run_for_costs(runs))
-    for name in chosen or PARTS:
+    asked = parse_parts_or_exit(words, PARTS)
+    runs = rows.RunsOfRows(HostileProgram(program, room), asked.is_whole)
+    if asked.counts_only:
+        return write_tables(shapes.HERE, shapes.run_for_costs(runs))
+    for name in asked.names:
         if name in COUNTED and not shutil.which("valgrind"):
             runs.leave_out(f"{name}: valgrind, which counts instructions, is missing")
         else:

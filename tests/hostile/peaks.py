@@ -12,7 +12,7 @@ calls twice, holds at most as much each time."""
 import itertools
 
 from again import REFUSALS
-from preload import HostileProgram, RefusedCalls  # by which `lib` is found
+from shared.preload import HostileProgram, RefusedCalls  # by which `lib` is found
 from shared.printed import Printed
 from lib.base import rules
 

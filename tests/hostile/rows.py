@@ -9,7 +9,7 @@ from typing import NamedTuple
 
 import again
 import judge
-from preload import EVERY, RefusedCalls
+from shared.preload import EVERY, RefusedCalls
 from shared import cases
 from shared.counts import Counts
 

@@ -4,13 +4,12 @@ counted before.
 A body that does some work once more for each command, order, period or node, or keeps a copy of something, costs more on the shapes that
 it does so on. So there is a journal for each command and each refusal, on short and long days, with short and long names, and with volumes
 in one period or in each; one for each length of a day; books with all kinds of blocks and bonds in all kinds of markets; and a text in each
-form. A run costs less than `TIMES` the cost in `counted.csv`, and makes at most as many calls for memory as `growths.csv` has.
+form. A run costs less than 1.25 times the cost in `counted.csv`, and makes at most as many calls for memory as `growths.csv` has.
 `run PROGRAM --count` counts all of them again: look at each row that grew.
 
 The seed of the maps is the fixed one, and one participant enters the commands of a day, so that a run always costs the same. The table is
 of a program as `rt ci` builds it: `tools/unproved` doesn't optimize, so count first what its program of the unchanged sources takes."""
 
-import csv
 import itertools
 import random
 import subprocess
@@ -19,109 +18,26 @@ from pathlib import Path
 from typing import NamedTuple
 
 from again import REFUSALS
-from costs import FIXED, UNFINISHED, crowded_book, journal_text, run_for_counts, volumes_text
-from preload import HostileProgram, RefusedCalls  # by which `lib` is found
+from costs import UNFINISHED, crowded_book
+from shared.cost_tables import Cost
+from shared.instructions import FIXED, run_for_counts
+from shared.preload import HostileProgram, RefusedCalls  # by which `lib` is found
+from shared.records import journal_text, volumes_text
+from shared.shapes import COMMANDS, LONG, OTHERS, SHORT, SIDES, commands_by_name
 from lib.base import rules
 
-sys.path.append(str(Path(__file__).resolve().parents[1] / "fuzz"))
-
-import full
+import full  # of tests/fuzz
 
 TOP = Path(__file__).resolve().parents[2]
 HERE = Path(__file__).resolve().parent
-COUNTED, GROWTHS = ["run", "instructions", "bytes"], ["run", "growths"]  # the heads of the tables counted.csv and growths.csv
-TIMES = 1.25
-ROOM = 16 << 10  # bytes that a run may hold beyond
-HOURS, BLOCKS = 100, rules.MOST_BLOCKS - 4  # of a book before the commands that are counted
-COMMANDS = 400
 FULL_HOURS, FULL_COMMANDS = rules.MOST_HOURLY - 10, 2_000  # of a full book, but for the orders that the commands submit
 SEARCHED = full.Size(480, 14, 1_000)
 WHOLE = full.Size(rules.MOST_HOURLY, rules.MOST_BLOCKS, rules.MOST_RECORDS)
 LONG_TEXT = 2 << 20
 THIN = 240  # hourly orders of a thin market
 MOST_WORKERS = 8  # of a plan
-SIDES = ["buy", "sell"]
 KINDS = ["base", "peaks", "shaped", "odd", "random", "mixed", "wide"]
 FAMILIES = ["market", "paradox", "spread", "nearties", "links", "groups", "ties"]
-
-
-class Shape(NamedTuple):
-    """A day's number of periods, the participant, the names, and the volumes of blocks and amends."""
-
-    periods: int
-    who: str
-    name: str  # with a number in it
-    is_wide: bool
-
-    def name_of(self, number):
-        return self.name % number
-
-    def volumes(self, volume=7):
-        return volumes_text(self.periods if self.is_wide else 1, lambda period: volume + period % 3)
-
-    def submit_of_hour(self, number, cents=5_000, name=None):
-        side, period = SIDES[number % 2], 1 + number % self.periods
-        return f"submit,{self.who},{name or self.name_of(number)},hour,{side},{cents + number % 50},{period}:{5 + number % 9},,\n"
-
-    def submit_of_block(self, number, cents=4_900, name=None, parent="", group="", volumes=None):
-        side = SIDES[(number + 1) % 2]
-        found = name or self.name_of(9_000 + number)
-        return f"submit,{self.who},{found},block,{side},{cents + number % 200},{volumes or self.volumes()},{parent},{group}\n"
-
-    def amend_of(self, name, cents, volumes):
-        return f"amend,{self.who},{name},,,{cents},{volumes},,\n"
-
-    def cancel_of(self, name):
-        return f"cancel,{self.who},{name},,,,,,\n"
-
-    def submits_of_book(self, hours=HOURS):
-        """The submits of a book: hourly orders, and blocks, of which every second one is a child of the one before, in one group."""
-        yield from (self.submit_of_hour(number if number < HOURS else 1_000_000 + number) for number in range(hours))
-        for number in range(BLOCKS):
-            parent = self.name_of(9_000 + number - 1) if number % 2 else ""
-            yield self.submit_of_block(number, parent=parent, group="G" if number % 2 else "")
-
-
-SHORT, LONG = Shape(24, "A", "%X", False), Shape(100, "PARTICIP", "NAME-%07d", True)
-OTHERS = [Shape(periods, "BRAVO", "N-%d", periods % 2 == 0) for periods in rules.DAYS if periods not in (24, 100)]
-
-
-def commands_by_name(shape):
-    """Yields a name and an endless list of commands for each kind of accepted command, and each reason for a refusal but those of a full
-    book and of one that is closed."""
-    hours, blocks, one = range(HOURS), range(BLOCKS), "1:9"
-    hour, free = shape.name_of(0), shape.name_of(9_000 + BLOCKS + 1)
-    beyond = f"{rules.GREATEST_PERIOD}:1"
-    yield "hourly orders", (shape.submit_of_hour(number) for number in itertools.count(1_000))
-    yield "hourly orders amended", (
-        shape.amend_of(shape.name_of(at % HOURS), at, f"{1 + at % shape.periods}:{1 + at % 99}") for at in itertools.count()
-    )
-    yield "hourly orders cancelled and submitted", (
-        line for at in itertools.cycle(hours) for line in (shape.cancel_of(shape.name_of(at)), shape.submit_of_hour(at))
-    )
-    yield "blocks amended", (shape.amend_of(shape.name_of(9_000 + at), 4_000 + at, shape.volumes(at + 1)) for at in itertools.cycle(blocks))
-    yield "blocks submitted and cancelled", (
-        line
-        for at in itertools.count()
-        for line in (shape.submit_of_block(at, name=free, parent=shape.name_of(9_000 + at % BLOCKS), group="G"), shape.cancel_of(free))
-    )
-    if shape.periods < rules.GREATEST_PERIOD:
-        yield "PeriodOutOfDay", itertools.cycle(
-            [
-                shape.submit_of_block(0, name=free, volumes=beyond),
-                shape.amend_of(hour, 1, beyond),
-                f"submit,{shape.who},{free},hour,buy,1,{beyond},,\n",
-            ]
-        )
-    yield "NameTaken", itertools.cycle([shape.submit_of_hour(1, name=hour), shape.submit_of_block(1, name=shape.name_of(9_001))])
-    yield "UnknownOrder", itertools.cycle([shape.amend_of(free, 1, shape.volumes()), shape.cancel_of(free)])
-    yield "WrongShape", itertools.cycle([shape.amend_of(hour, 1, volumes_text(shape.periods if shape.is_wide else 2, lambda period: period))])
-    yield "UnknownParent", itertools.cycle([shape.submit_of_block(1, name=free, parent=shape.name_of(8_000), group="G")])
-    yield "ParentNotBlock", itertools.cycle([shape.submit_of_block(1, name=free, parent=hour)])
-    yield "HasChildren", itertools.cycle([shape.cancel_of(shape.name_of(9_000 + at)) for at in blocks if at % 2 == 0])
-    yield "a command of each kind", itertools.cycle(
-        [shape.amend_of(hour, 1, one), shape.amend_of(shape.name_of(9_000), 1, shape.volumes()), shape.submit_of_hour(0, name=free), shape.cancel_of(free)]
-    )
 
 
 class Run(NamedTuple):
@@ -339,14 +255,6 @@ def runs_of_every_kind():
     return dict(itertools.chain(*books, *searches, runs_of_texts(), runs_of_long_texts()))
 
 
-class Cost(NamedTuple):
-    """The instructions of a run, the most bytes that it holds at once, and its calls for memory, or None if their number varies."""
-
-    instructions: int
-    bytes: int = 0
-    growths: int = None
-
-
 def run_for_cost(program, run):
     program = HostileProgram(run.program, program.room) if run.program else program
     printed, peak = program.run(run.words, run.data, RefusedCalls("peak"))
@@ -361,37 +269,3 @@ def run_for_costs(runs):
     """Yields the name of each run, and its cost."""
     tried = runs_of_every_kind()
     yield from zip(tried, runs.pool.map(lambda run: run_for_cost(runs.program, run), tried.values()))
-
-
-def write_tables(folder, costs):
-    """Writes the tables of a folder."""
-    costs = list(costs)
-    each = [[about, cost.instructions, cost.bytes] for about, cost in costs]
-    growths = [[about, cost.growths] for about, cost in costs if cost.growths is not None]
-    for name, rows in [("counted.csv", [COUNTED, *each]), ("growths.csv", [GROWTHS, *growths])]:
-        with open(folder / name, "w", newline="") as file:
-            csv.writer(file, lineterminator="\n").writerows(rows)
-
-
-def read_tables(folder):
-    """The costs that the tables of a folder have, by the names of the runs."""
-    with open(folder / "counted.csv", newline="") as each, open(folder / "growths.csv", newline="") as growths:
-        found = {row["run"]: Cost(int(row["instructions"]), int(row["bytes"]), 0) for row in csv.DictReader(each)}
-        for row in csv.DictReader(growths):
-            found[row["run"]] = found[row["run"]]._replace(growths=int(row["growths"]))
-    return found
-
-
-def check_costs(counts, folder, costs):
-    """Compares the costs of runs with those of the tables of a folder, which have each of the runs and no other."""
-    before = read_tables(folder)
-    most = [0, 0]
-    for about, (took, held, growths) in costs:
-        then, held_then, growths_then = before.pop(about)
-        counts.check(f"{about}: {took:,} instructions, {TIMES} times {then:,} or more", took < TIMES * then)
-        counts.check(f"{about}: {held:,} bytes were held, {TIMES} times {held_then:,} or more", held < TIMES * held_then + ROOM)
-        if growths is not None:
-            counts.check(f"{about}: {growths:,} calls for memory, more than {growths_then:,}", growths <= growths_then)
-        most = [max(most[0], took / then), max(most[1], held / max(held_then, 1))]
-    counts.check(f"runs that were counted, and aren't there: {[*before]}", not before)
-    print("shapes: at most {:.2f} times the instructions that were counted, and {:.2f} times the bytes".format(*most), flush=True)

@@ -1,16 +1,13 @@
-"""One run of the program with calls refused, by the library of refuse.c."""
+"""Runs of a program with calls refused, or moving few bytes, and counted: by the library of refuse.c."""
 
 import hashlib
 import struct
 import subprocess
-import sys
 import threading
 from pathlib import Path
 from typing import NamedTuple
 
-sys.path.insert(0, str(Path(__file__).resolve().parents[1]))
-
-from shared.printed import Printed
+from .printed import Printed
 
 SECONDS = 120
 EVERY = 2**63  # above the number of any call
