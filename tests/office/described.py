@@ -8,10 +8,10 @@ import time
 from unittest import mock
 
 from lib.base import rules
-from lib.office import web
+from lib.office import fixed_files, web
 from lib.seal import heads
 
-API, DEMO = (json.loads(web.openapi_text(is_demo)) for is_demo in (False, True))
+API, DEMO = (json.loads(fixed_files.openapi_text(is_demo)) for is_demo in (False, True))
 RANDOM = 60  # requests of a day
 WAIT_SECONDS = 20  # for the office to take requests again
 TYPES = {"string": str, "integer": int, "number": (int, float), "boolean": bool, "array": list, "object": dict}
@@ -68,7 +68,7 @@ def send_and_check(office, counts, method, template, values, headers=None, body=
     return status, data
 
 
-def check_of_demo(counts, method, template, answer):
+def check_answer_of_demo(counts, method, template, answer):
     """The answer to a request that only a demo answers is as described."""
     described = DEMO["paths"][template][method]["responses"]["200"]["content"]["application/json"]["schema"]
     fault = fault_of_value(json.loads(answer), described)
@@ -124,17 +124,17 @@ def check_routes(office, counts, periods):
     values = {"day": office.day, "who": who, "number": 1}
     token = {"Authorization": f"Bearer {office.tokens[who]}"}
     typed = {**token, "Content-Type": "application/json"}
-    entered, records = 0, []
+    entered, records, template = 0, [], "/days/{day}/commands/{who}/{number}"
     for _ in range(RANDOM):
         commands = [draw_command(rng, periods) for _ in range(rng.choice([1, 1, 1, 3]))]
         number = entered + rng.choice([1, 1, 1, 1, 2, 0])
         number = max(1, number)
         body = json.dumps(commands if len(commands) > 1 or rng.random() < 0.5 else commands[0]).encode()
-        status, data = send_and_check(office, counts, "PUT", "/days/{day}/commands/{who}/{number}", {**values, "number": number}, typed, body)
+        status, data = send_and_check(office, counts, "PUT", template, {**values, "number": number}, typed, body)
         if status == 200:
             found = [heads.parse(line, heads.parse_receipt) for line in data.splitlines(keepends=True)]
             counts.check("receipts are in their written form", all(is_written for _, is_written in found) and len(found) == len(commands))
-            again = send_and_check(office, counts, "PUT", "/days/{day}/commands/{who}/{number}", {**values, "number": number}, typed, body)
+            again = send_and_check(office, counts, "PUT", template, {**values, "number": number}, typed, body)
             counts.check("the same request again gets the same receipts", again == (200, data))
             records = records[: number - 1] + [receipt.record for receipt, _ in found]
             entered = max(entered, number - 1 + len(found))
@@ -146,7 +146,9 @@ def check_routes(office, counts, periods):
             if method == "get":
                 for header in (token, {}):
                     send_and_check(office, counts, "GET", template, values, header)
-                    send_and_check(office, counts, "GET", template, {**values, "day": "nothing", "who": office.who[0], "number": 99_999}, header)
+                    send_and_check(
+                        office, counts, "GET", template, {**values, "day": "nothing", "who": office.who[0], "number": 99_999}, header
+                    )
     for query in ("?since=0", "?since=1", "?since=99999", "?since=x", "?since=-1", "?since="):
         send_and_check(office, counts, "GET", "/days/{day}/head", values, query=query)
         send_and_check(office, counts, "GET", "/days/{day}/commands/{who}", values, token, query=query)

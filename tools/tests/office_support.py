@@ -124,7 +124,7 @@ class Office(unittest.IsolatedAsyncioTestCase):
 
     @contextlib.asynccontextmanager
     async def running(self, given):
-        task = asyncio.create_task(given.run())
+        task = asyncio.create_task(given.write_until_published())
         try:
             await given.is_ready.wait()
             yield given

@@ -23,7 +23,7 @@ from lib.tool import command
 
 try:
     from lib.seal import sealing
-    from lib.office import day_writer, folder, observed, published, refusals, web
+    from lib.office import day_writer, fixed_files, folder, observed, published, refusals, web
     from lib.office.desk import Desk, Ended
 except ImportError:  # without python3-aiohttp and the like, whose tests are skipped
     pass
@@ -60,7 +60,7 @@ class Crashes(Office):
         rng, disk, acknowledged = random.Random(f"office {seed}"), Disk(), {}
         held = [self.writer()]
         with opener(disk):
-            tasks = [asyncio.create_task(held[0].run())]
+            tasks = [asyncio.create_task(held[0].write_until_published())]
             clients = [
                 asyncio.create_task(self.client(random.Random(f"{seed} {who}"), who, 40, periods, held, acknowledged)) for who in NAMES
             ]
@@ -74,7 +74,7 @@ class Crashes(Office):
                     await asyncio.gather(tasks[-1], return_exceptions=True)
                     held[0].queue.refuse_all("Unreached", "no answer came")
                     held[0] = self.writer()
-                    tasks.append(asyncio.create_task(held[0].run()))
+                    tasks.append(asyncio.create_task(held[0].write_until_published()))
             sent = dict(zip(NAMES, await asyncio.wait_for(asyncio.gather(*clients), SECONDS)))
             tasks[-1].cancel()
             await asyncio.gather(*tasks, return_exceptions=True)
@@ -134,7 +134,7 @@ class Crashes(Office):
         faults = [command.Stop("damaged"), OSError(errno.EMFILE, "too many open files")]
         with opener(disk):
             given = self.writer()
-            task = asyncio.create_task(given.run())
+            task = asyncio.create_task(given.write_until_published())
             await given.is_ready.wait()
             waiting = [given.submit(who, 1, commands(f"cancel,{who},A,,,,,,"), unreadable) for who in ("GAS", "LONGNAME")]
             behind = given.submit("A", 1, commands("cancel,A,A,,,,,,"))
@@ -278,7 +278,7 @@ class Crashes(Office):
             disk.ends = [ends]
             with opener(disk):
                 given = self.writer()
-                task = asyncio.create_task(given.run())
+                task = asyncio.create_task(given.write_until_published())
                 await given.is_ready.wait()
                 first = given.submit("GAS", 1, commands(records[0]))
                 while not given.queue.batch:
@@ -343,7 +343,7 @@ class Page(unittest.TestCase):
     def test_it_asks_for_no_other_numbers_than_it_gets(self):
         asked = {name for path in TEMPLATES.glob("office*.js") for name in re.findall(r"\bRULES\.(\w+)", path.read_text())}
         self.assertGreater(len(asked), 3)
-        self.assertLessEqual(asked, {name.lower() for name in web.RULES})
+        self.assertLessEqual(asked, {name.lower() for name in fixed_files.RULES})
 
 
 if __name__ == "__main__":

@@ -17,7 +17,7 @@ from lib.seal import heads
 from lib.tool import command
 
 try:
-    from lib.office import day_writer, folder, observed, operate, published, publishing, refusals, web
+    from lib.office import admission, day_writer, folder, observed, operate, published, publishing, refusals, web
 except ImportError:  # without python3-aiohttp and the like, whose tests are skipped
     pass
 
@@ -32,7 +32,7 @@ class Closing(Office):
         disk, clock = Disk(), self.clock(4_999)
         with opener(disk):
             given = self.writer(clock)
-            task = asyncio.create_task(given.run())
+            task = asyncio.create_task(given.write_until_published())
             await given.is_ready.wait()
             waiting = [given.submit(who, 1, commands(f"cancel,{who},A,,,,,,")) for who in NAMES]
             self.now = 5_000
@@ -49,7 +49,7 @@ class Closing(Office):
         self.assertEqual(disk.records, [*(f"cancel,{who},A,,,,,," for who in NAMES), "close,,,,,,,,"])
         with opener(disk):  # and not after a start with a clock that is set back either
             given = self.writer(self.clock(4_000))
-            await given.run()
+            await given.write_until_published()
             with self.assertRaises(refusals.Refused) as caught:
                 given.submit("GAS", 2, commands("cancel,GAS,B,,,,,,"))
             self.assertEqual(caught.exception.fault, "Closed")
@@ -63,7 +63,7 @@ class Closing(Office):
             given = self.writer()
             with self.assertRaises(refusals.Refused):
                 given.submit("GAS", 1, commands("cancel,GAS,A,,,,,,"))
-            await given.run()
+            await given.write_until_published()
         self.assertEqual((disk.records, given.state), (["close,,,,,,,,"], "results"))
 
     async def closed(self):
@@ -71,7 +71,7 @@ class Closing(Office):
         self.make()
         with opener(Disk()), mock.patch.object(publishing, "run_for_output", mock.AsyncMock(return_value=b"{}")):
             given = self.writer()
-            task = asyncio.create_task(given.run())
+            task = asyncio.create_task(given.write_until_published())
             await given.is_ready.wait()
             await given.submit("GAS", 1, commands("cancel,GAS,A,,,,,,"))
             given.begin_close()
@@ -83,12 +83,12 @@ class Closing(Office):
     async def shows_nothing(self):
         """A stopped day doesn't show the results, which may have been changed."""
         again = self.writer()
-        await again.run()
-        request, served = SimpleNamespace(path=f"/days/{DAY}/results"), SimpleNamespace(require_writer=lambda request: again)
-        served.require_unstopped = functools.partial(web.Web.require_unstopped, served)
+        await again.write_until_published()
+        request, admitting = SimpleNamespace(path=f"/days/{DAY}/results"), SimpleNamespace(require_writer=lambda request: again)
+        admitting.require_unstopped = functools.partial(admission.Admission.require_unstopped, admitting)
         for answer in (web.Web.answer_prices, web.Web.answer_published):
             with self.assertRaises(refusals.Refused) as caught:
-                await answer(served, request)
+                await answer(SimpleNamespace(admission=admitting), request)
             self.assertEqual(caught.exception.fault, "Unavailable")
 
     async def test_a_start_sees_results_and_a_statement_that_were_changed(self):
@@ -97,7 +97,7 @@ class Closing(Office):
 
         async def fault():
             again = self.writer()
-            await again.run()
+            await again.write_until_published()
             return again.fault
 
         self.assertIsNone(await fault())
@@ -146,11 +146,11 @@ class Closing(Office):
 
         with mock.patch.object(published, "read_into_ledger", slow):
             again = self.writer()
-            task = asyncio.create_task(again.run())
+            task = asyncio.create_task(again.write_until_published())
             await asyncio.to_thread(begins.wait)
             self.assertEqual((again.is_known.is_set(), again.ledger.size), (False, 0))  # no part of the journal is seen
             with self.assertRaises(refusals.Refused) as caught:
-                web.Web.require_known(None, again)
+                admission.require_known(again)
             self.assertEqual(caught.exception.fault, "Unavailable")
             ends.set()
             await task
@@ -159,7 +159,7 @@ class Closing(Office):
         journal_file, kept = given.files.path_of(folder.JOURNAL), given.files.read(folder.JOURNAL)
         journal_file.write_bytes(kept.replace(b"GAS,A,", b"GAS,B,"))
         again = self.writer()
-        await again.run()
+        await again.write_until_published()
         self.assertIn("isn't of the journal", again.fault or "")
         replies = given.files.read(folder.REPLIES)
         for name, whole, damages in (
@@ -173,16 +173,16 @@ class Closing(Office):
                     self.assertNotEqual(damage, whole)
                     given.files.path_of(name).write_bytes(damage)
                 again = self.writer()
-                await again.run()
+                await again.write_until_published()
                 with self.subTest(name=name, damage=damage):
                     self.assertEqual(again.fault, "journal.csv, replies.txt or head.json is missing or damaged")
             given.files.path_of(name).write_bytes(whole)
         again = self.writer()
-        await again.run()
+        await again.write_until_published()
         self.assertIsNone(again.fault)
         given.files.remove(folder.HEAD)
         again = self.writer()
-        await again.run()
+        await again.write_until_published()
         self.assertEqual(again.fault, "journal.csv, replies.txt or head.json is missing or damaged")
 
     async def test_a_day_whose_files_cant_be_made_isnt_right(self):
@@ -203,7 +203,7 @@ class Closing(Office):
             publishing, FIRST_PAUSE=0.001, write_journal_and_head=sign, write_results=made, write_statement=made
         ):
             given = self.writer(log=observed.Log(log))
-            task = asyncio.create_task(given.run())
+            task = asyncio.create_task(given.write_until_published())
             await given.is_ready.wait()
             given.begin_close()
             await task
@@ -235,17 +235,17 @@ class Closing(Office):
 
         with opener(disk), mock.patch.object(publishing, "write_missing_files", self.held):
             given = self.writer()
-            task = asyncio.create_task(given.run())
+            task = asyncio.create_task(given.write_until_published())
             await given.is_ready.wait()
             self.assertEqual(touch_and_read_states(), ("open", "open"))
-            operate.leave_request(given.files, folder.CLOSE_NOW)
+            operate.write_request(given.files, folder.CLOSE_NOW)
             given.begin_close()
             self.assertEqual(touch_and_read_states(), ("closing", "closing"))
             await self.until(lambda: given.ledger.is_closed)
             self.assertEqual(touch_and_read_states(), ("closed", "closed"))
             given.files.path_of(folder.RESULTS).write_bytes(b"")
             self.assertEqual(touch_and_read_states(), ("results", "results"))
-            self.assertIn("published", operate.leave_publish_request(None, DAY, given.files))
+            self.assertIn("published", operate.write_publish_request(None, DAY, given.files))
             self.assertEqual(touch_and_read_states(), ("published", "published"))
             task.cancel()
             await asyncio.gather(task, return_exceptions=True)
@@ -284,10 +284,10 @@ class Closing(Office):
         disk = Disk()
         with opener(disk):
             given = self.writer()
-            task = asyncio.create_task(given.run())
+            task = asyncio.create_task(given.write_until_published())
             await given.is_ready.wait()
             await given.submit("GAS", 1, commands("cancel,GAS,A,,,,,,"))
-            operate.leave_request(given.files, folder.CLOSE_NOW)
+            operate.write_request(given.files, folder.CLOSE_NOW)
             await task
         self.assertEqual(disk.records, ["cancel,GAS,A,,,,,,", "close,,,,,,,,"])
 

@@ -37,7 +37,7 @@ class SignedHeads(Office):
         records = list(disk.records)
         with opener(disk):
             given = self.writer()
-            task = asyncio.create_task(given.run())
+            task = asyncio.create_task(given.write_until_published())
             await self.until(lambda: given.fault or given.is_ready.is_set())
             if given.fault:
                 with self.assertRaises(refusals.Refused):
@@ -123,7 +123,7 @@ class SignedHeads(Office):
             self.assertEqual(operate.read_status(self.office, "dam-desk")["days"][0]["state"], "open")
             with opener(disk), self.office.holding():
                 given = self.writer()
-                await given.run()
+                await given.write_until_published()
                 found = operate.read_status(self.office, "dam-desk")
                 self.assertEqual(found["days"][0]["state"], "stopped")
                 self.assertRegex(list(operate.status_lines(found))[2], "^  stopped: LostEntries: the desk's journal has 2 entries")
@@ -141,12 +141,12 @@ class SignedHeads(Office):
             async with self.running(self.writer()) as given:
                 await given.submit("GAS", 1, commands(*self.RECORDS))
                 records, replies = map(list, zip(*((entry.record, entry.reply) for entry in given.ledger.seal.entries)))
-                given.ledger.take_journal(records, replies)
+                given.ledger.enter_rest_of_journal(records, replies)
                 others = [record.replace("GAS", "OIL") for record in records], ["done"] * 3
                 self.assertNotIn("done", replies)
                 for changed in ((others[0], replies), (records, others[1]), (records[:2], replies[:2])):
                     with self.subTest(changed), self.assertRaisesRegex(Contradiction, "journal doesn't begin with the 3 entries"):
-                        given.ledger.take_journal(*changed)
+                        given.ledger.enter_rest_of_journal(*changed)
                 self.assertEqual(given.ledger.size, 3)
 
     async def test_a_start_notes_the_head_of_the_journal_that_it_serves(self):

@@ -24,7 +24,7 @@ from lib.tool import command, modules
 
 try:
     from lib.seal import signing
-    from lib.office import budgets, demo, desk, folder, guards, newest, observed, operate, programs, refusals, setup, tokens, web
+    from lib.office import admission, budgets, demo, desk, folder, guards, newest, observed, operate, programs, refusals, setup, tokens, web
     from lib.office import serve as serving
 except ImportError:  # without python3-aiohttp and the like, whose tests are skipped
     pass
@@ -238,7 +238,7 @@ class Setup(Office):
     def test_a_workbook_of_participants_is_read(self):
         if not modules.has_module("openpyxl"):
             self.skipTest("python3-openpyxl is missing")
-        made, path = sheets.writer_of_workbooks().Workbook(), self.office.path.parent / "p.xlsx"
+        made, path = sheets.import_openpyxl().Workbook(), self.office.path.parent / "p.xlsx"
         for row in (["Participant", "commands"], ["A", 100], [], ["GAS"]):
             made.active.append(row)
         made.create_sheet("notes", 0).append(["x"])
@@ -371,8 +371,8 @@ class Setup(Office):
             f"{guards.MOST_CONNECTIONS:,} connections, before",
             f"{guards.MOST_HEAD >> 10} KiB for a request's head",
             f"{guards.MOST_AHEAD} requests ahead",
-            f"{web.MOST_BODY >> 20} MiB a body",
-            f"{guards.IDLE_SECONDS} s for a head, {web.BODY_SECONDS} s for its body, {guards.BUSY_SECONDS} s until its answer",
+            f"{admission.MOST_BODY >> 20} MiB a body",
+            f"{guards.IDLE_SECONDS} s for a head, {admission.BODY_SECONDS} s for its body, {guards.BUSY_SECONDS} s until its answer",
             f"{budgets.COMMANDS_A_SECOND} commands and {budgets.READS_A_SECOND} other requests a second",
             f"(at first {budgets.MOST_COMMANDS:,} and {budgets.MOST_READS})",
             f"{budgets.LOOKS_A_SECOND} requests a second for each address (at first {budgets.MOST_LOOKS:,})",
@@ -519,7 +519,7 @@ class Setup(Office):
         asked = mock.Mock(match_info={"who": "GAS"}, headers={"Authorization": f"Bearer {token}"}, remote="127.0.0.1")
         with opener(Disk()), mock.patch.object(serving, "LOOK_SECONDS", 0.001):
             served = serving.Office(self.office, programs.Programs("dam", "dam-desk"), observed.Log(log))
-            answers = web.Web(served, False, False)
+            answers = admission.Admission(served, budgets.Budgets(behind_proxy=False))
             task = asyncio.create_task(served.take_up_days_forever())
             await self.until(lambda: DAY in served.writers and served.writers[DAY].is_ready.is_set() and served.is_healthy)
             self.assertEqual(answers.require_authorized(asked), "GAS")
@@ -602,7 +602,7 @@ class Setup(Office):
         with mock.patch("lib.tool.modules.has_zone", return_value=False):
             self.check_odd_terms(path, kept, f'{zone}"UTC"', False)
         path.write_bytes(kept)
-        self.assertEqual(self.office.list_days()[DAY].read_terms().value(), value)
+        self.assertEqual(self.office.list_days()[DAY].read_terms().json_value(), value)
 
     def check_odd_terms(self, path, data, words, by_status=True):
         """Terms whose fault has these words."""
@@ -639,7 +639,7 @@ class Setup(Office):
             with self.office.holding():
                 pass
             tokens.Register(self.office.path_of(folder.PARTICIPANTS)).write_new_participants(["GAS"])
-            operate.leave_request(self.office.list_days()[later], folder.CLOSE_NOW)
+            operate.write_request(self.office.list_days()[later], folder.CLOSE_NOW)
         owner = os.stat(self.office.path)
         self.assertEqual({call.args[1:] for call in chown.call_args_list}, {(owner.st_uid, owner.st_gid)})
         given = [call.args[0] for call in chown.call_args_list]
@@ -705,9 +705,9 @@ class Setup(Office):
             f"    server 127.0.0.1:{port};",
             f"zone=office_requests:10m rate={budgets.LOOKS_A_SECOND}r/s;",
             f"    limit_req zone=office_requests burst={budgets.MOST_LOOKS} nodelay;",
-            f"    client_max_body_size {web.MOST_BODY >> 20}m;",
+            f"    client_max_body_size {admission.MOST_BODY >> 20}m;",
             f"    client_header_timeout {guards.IDLE_SECONDS}s;",
-            f"    client_body_timeout {web.BODY_SECONDS}s;",
+            f"    client_body_timeout {admission.BODY_SECONDS}s;",
             "    add_header {} {} always;".format(*web.SECURE, *web.SECURE.values()),
         ):
             with self.subTest(line):

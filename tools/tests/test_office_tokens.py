@@ -152,14 +152,14 @@ class Tokens(Office):
         found = []
         for number in range(budgets.MOST_GUESSES + 5):
             with self.assertRaises(refusals.Refused) as caught:
-                made.require_authorized(asked(number, {"who": "GAS"}))
+                made.admission.require_authorized(asked(number, {"who": "GAS"}))
             found.append(caught.exception.fault)
         self.assertEqual((found[0], found[-1]), ("Token", "TooFast"))
         made.budgets.looks = guards.Buckets(0.001, 3, lambda: 0.0)
         for number in range(3):
-            made.budgets.refuse_too_many_looks(asked(number, {}))
+            made.budgets.charge_look_or_refuse(asked(number, {}))
         with self.assertRaises(refusals.Refused):
-            made.budgets.refuse_too_many_looks(asked(4, {}))
+            made.budgets.charge_look_or_refuse(asked(4, {}))
 
     async def test_an_expectation_passes_no_limit(self):
         """Also at a path or a method that the office doesn't know. It isn't repeated; a client that waits before its body is answered."""
@@ -195,22 +195,22 @@ class Tokens(Office):
     def test_guesses_are_slowed_down_and_others_are_not(self):
         now = [0.0]
         buckets = guards.Buckets(1, 3, lambda: now[0])
-        self.assertEqual([buckets.take("a") > 0 for _ in range(5)], [False, False, False, True, True])
-        self.assertEqual(buckets.take("b"), 0)
+        self.assertEqual([buckets.take_unless_in_debt("a") > 0 for _ in range(5)], [False, False, False, True, True])
+        self.assertEqual(buckets.take_unless_in_debt("b"), 0)
         now[0] = 1.0
-        self.assertEqual([buckets.take("a") > 0 for _ in range(2)], [False, True])
-        self.assertEqual(buckets.take("c", 1_000), 0)
-        self.assertGreater(buckets.take("c"), 900)
+        self.assertEqual([buckets.take_unless_in_debt("a") > 0 for _ in range(2)], [False, True])
+        self.assertEqual(buckets.take_unless_in_debt("c", 1_000), 0)
+        self.assertGreater(buckets.take_unless_in_debt("c"), 900)
         buckets.charge("c", 1_000)
-        self.assertGreater(buckets.take("c"), 1_900, "what is charged is owed, also in debt")
+        self.assertGreater(buckets.take_unless_in_debt("c"), 1_900, "what is charged is owed, also in debt")
         with mock.patch.object(guards, "MOST_BUCKETS", 5):
             for number in range(100):
                 now[0] += 10_000
-                buckets.take(number)
+                buckets.take_unless_in_debt(number)
             self.assertLessEqual(len(buckets.held), 6)
-            buckets.take("d", 2)
+            buckets.take_unless_in_debt("d", 2)
             for number in range(100):
-                buckets.take(number)
+                buckets.take_unless_in_debt(number)
         self.assertEqual(buckets.tokens_left("d"), 1, "many names don't fill a bucket again")
 
 

@@ -17,7 +17,8 @@ It may import: base, journal, lint, receipts, report, results, runs, seal, sheet
 | `refusals` | why a request is refused |
 | `programs` | the programs that an office runs |
 | `publishing`, `published` | making the files that are published; what participants see of them |
-| `requests`, `web` | commands in a request; the routes |
+| `requests`, `web`, `fixed_files` | commands in a request; the routes; the files that don't change |
+| `admission` | whether a request is answered |
 | `guards`, `budgets` | limits on connections; on requests |
 | `observed` | the log and the counts |
 | `serve`, `operate`, `demo` | the commands of tools/office |

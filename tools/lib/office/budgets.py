@@ -34,21 +34,21 @@ class Budgets:
         if not self.behind_proxy:
             self.looks.charge(address_or_network(request.remote), count // DAYS_OF_LOOK)
 
-    def refuse_too_many_looks(self, request):
-        """Limits how often an address asks for what all may see; other requests are limited by participant."""
+    def charge_look_or_refuse(self, request):
+        """Charges the address of a request for what all may see, or refuses it; other requests are charged to participants."""
         if "who" not in request.match_info:
-            self.refuse_address(self.looks, request, "too many requests")
+            self.charge_address_or_refuse(self.looks, request, "too many requests")
 
-    def refuse_too_many_guesses(self, request):
-        self.refuse_address(self.guesses, request, "too many wrong tokens")
+    def charge_guess_or_refuse(self, request):
+        self.charge_address_or_refuse(self.guesses, request, "too many wrong tokens")
 
-    def refuse_address(self, buckets, request, words):
-        if not self.behind_proxy and (seconds := buckets.take(address_or_network(request.remote))):
+    def charge_address_or_refuse(self, buckets, request, words):
+        if not self.behind_proxy and (seconds := buckets.take_unless_in_debt(address_or_network(request.remote))):
             request.protocol.is_deaf = True  # else the rest of many requests at once would be read too
             raise Refused("TooFast", words, seconds=seconds)
 
 
-def refuse_too_many(buckets, who, count):
+def charge_or_refuse(buckets, who, count):
     """Charges a participant's request, or refuses it."""
-    if seconds := buckets.take(who, count):
+    if seconds := buckets.take_unless_in_debt(who, count):
         raise Refused("TooFast", "too many requests", seconds=seconds)

@@ -30,7 +30,7 @@ class Clock:
 
 
 class DayWriter:
-    """A day that takes commands. `run` is its only task that writes."""
+    """A day that takes commands. `write_until_published` is its only task that writes."""
 
     def __init__(self, files, key, programs, clock, log, counts):
         self.files, self.terms = files, files.read_terms()
@@ -115,9 +115,9 @@ class DayWriter:
             else:
                 answer_entered(self.ledger, one)
 
-    async def run(self):
+    async def write_until_published(self):
         """Keeps the day until it is published. It ends earlier only if the journal contradicts the ledger or its head."""
-        closer = asyncio.create_task(self.close_in_time())
+        closer = asyncio.create_task(self.begin_close_in_time())
         try:
             with contextlib.suppress(OSError):
                 self.files.remove(folder.STOPPED_DAY)
@@ -126,7 +126,7 @@ class DayWriter:
                 self.require_signed_entries()
                 self.is_known.set()
             else:
-                await self.keep_desk()
+                await self.run_desk_until_closed()
                 await self.end_desk()
                 await publishing.write_missing_files(self)
             self.is_ready.set()
@@ -139,7 +139,7 @@ class DayWriter:
             try:
                 await asyncio.gather(*self.answering, return_exceptions=True)
             finally:  # also if it is cancelled here
-                self.newest.end_written()
+                self.newest.stop_and_write()
                 await self.end_desk()
 
     def stop_day(self, fault):
@@ -151,7 +151,7 @@ class DayWriter:
             folder.write_synced(self.files.path_of(folder.STOPPED_DAY), f"{fault}\n".encode())
         self.queue.refuse_all("Unavailable", STOPPED_WORDS)
 
-    async def keep_desk(self):
+    async def run_desk_until_closed(self):
         """Opens the desk, and again whenever it ends, and enters all that comes, until the close is entered."""
         pause, ends = FIRST_PAUSE, 0
         while not self.ledger.is_closed:
@@ -197,10 +197,10 @@ class DayWriter:
                 break
             except asyncio.TimeoutError:
                 if not (self.queue.waiting or self.queue.batch):
-                    await self.look_for_room()
+                    await self.clear_trouble_if_room()
         self.queue.wake.set()
 
-    async def look_for_room(self):
+    async def clear_trouble_if_room(self):
         with contextlib.suppress(OSError):
             await asyncio.to_thread(self.files.require_room)
             self.trouble = None
@@ -210,7 +210,7 @@ class DayWriter:
         path = str(self.files.path_of(folder.DESK))
         self.desk, records, replies = await Desk.open(self.programs.desk, path, self.terms.periods)
         self.watching = asyncio.create_task(self.watch_desk(self.desk))
-        self.ledger.take_journal(records, replies)
+        self.ledger.enter_rest_of_journal(records, replies)
         self.require_signed_entries()
         self.is_known.set()
         if self.ledger.size:
@@ -237,7 +237,7 @@ class DayWriter:
 
     # --- the close
 
-    async def close_in_time(self):
+    async def begin_close_in_time(self):
         """Closes the day at its time, or when the operator asks for it: after all commands that came before."""
         await self.is_ready.wait()
         while not self.ledger.is_closed:

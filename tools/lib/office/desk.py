@@ -32,15 +32,16 @@ class Locked(Ended):
 async def exchange_pipes(process, program, data=b""):
     """Gives the process of a program its input, and returns its output and the beginning of its standard error once it has ended. However
     much it prints, it takes little memory."""
-    parts = read_beginning(process.stdout, MOST_PRINTED), read_beginning(process.stderr, MOST_FAULT), write_input(process.stdin, data)
-    out, err, _ = await asyncio.gather(*parts)
+    out, err, _ = await asyncio.gather(
+        drain_for_first_bytes(process.stdout, MOST_PRINTED), drain_for_first_bytes(process.stderr, MOST_FAULT), write_input(process.stdin, data)
+    )
     await process.wait()
     if len(out) == MOST_PRINTED:
         raise OSError(errno.EFBIG, f"it printed {MOST_PRINTED:,} bytes or more", program)
     return out, err
 
 
-async def read_beginning(stream, most):
+async def drain_for_first_bytes(stream, most):
     """The first bytes of a stream, which is read to its end."""
     found = bytearray()
     while part := await stream.read(PART):
@@ -108,7 +109,7 @@ class Desk:
             lines = await desk.read_opening()
             if set(lines[:1] + lines[-1:]) != {day}:
                 raise Ended(f"the desk's file isn't of a day with {periods} periods, or isn't a journal")
-            replies = [desk.take_reply(line) for line in lines[1:-1]]
+            replies = [desk.parse_next_reply(line) for line in lines[1:-1]]
             records = (await run_for_records(program, path))[1:]
         except BaseException:
             await desk.close()
@@ -134,7 +135,7 @@ class Desk:
         kind = Locked if LOCKED in err else Ended
         return kind(f"the desk {end_words(status)}: {fault_line(err)}")
 
-    def take_reply(self, line):
+    def parse_next_reply(self, line):
         """The reply to the next entry, from its line."""
         found = REPLY.fullmatch(line)
         if not found or int(found[1]) != self.size + 1:
@@ -150,11 +151,11 @@ class Desk:
                 data = await self.process.stdout.readline()
                 if not data.endswith(b"\n"):
                     raise await self.wait_for_fault()
-                yield self.take_reply(data[:-1].decode("ascii"))
+                yield self.parse_next_reply(data[:-1].decode("ascii"))
 
     async def close(self):
-        """Ends the desk: it enters what it was given, and ends at the end of its input. Of one that was killed it doesn't read the rest, which
-        asyncio reports unless something waits for it."""
+        """Ends the desk: it enters what it was given, and ends at the end of its input. Of one that was killed it doesn't read the rest,
+        which asyncio reports unless something waits for it."""
         self.process.stdin.close()
         if self.process.returncode is None:
             try:

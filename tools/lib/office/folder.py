@@ -38,7 +38,7 @@ class Terms(NamedTuple):
     zone: str
     shares: dict  # how many commands each participant may enter
 
-    def value(self):
+    def json_value(self):
         return {**self._asdict(), "closes": self.closes.isoformat()}
 
 

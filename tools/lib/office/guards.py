@@ -47,7 +47,7 @@ class Buckets:
         """Takes tokens, also if there aren't as many: the bucket is in debt then."""
         self.held[name] = self.tokens_left(name) - count, self.now()
 
-    def take(self, name, count=1):
+    def take_unless_in_debt(self, name, count=1):
         """Takes tokens, if there is one; the bucket may be in debt afterwards. Returns the seconds until it isn't, or 0."""
         if len(self.held) >= MOST_BUCKETS:
             self.held = {other: bucket for other, bucket in self.held.items() if self.tokens_left(other) < self.most}
@@ -66,8 +66,8 @@ def body_length(message):
 
 def plain_message(message):
     """A request as the office answers it. The name of an office is left out: there is one, and to decode another may take seconds. So is an
-    expectation, but for that of a client that waits: aiohttp would refuse others before any limit, and repeat them; and a version that there
-    isn't, which would be the answer's."""
+    expectation, but for that of a client that waits: aiohttp would refuse others before any limit, and repeat them; and a version that
+    there isn't, which would be the answer's."""
     if message.version not in (HttpVersion10, HttpVersion11):
         message = message._replace(version=HttpVersion11)
     if message.url.is_absolute():

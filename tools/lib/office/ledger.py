@@ -41,8 +41,8 @@ class Ledger:
         if reply == heads.DONE:
             self.book.change(command)
 
-    def take_journal(self, records, replies):
-        """Takes the journal that a desk shows at its opening: it begins with the entries that are here."""
+    def enter_rest_of_journal(self, records, replies):
+        """Enters the rest of the journal that a desk shows at its opening: it begins with the entries that are here."""
         held = [(entry.record, entry.reply) for entry in self.seal.entries]
         if list(zip(records, replies, strict=True))[: len(held)] != held:
             raise Contradiction(f"the desk's journal doesn't begin with the {len(held)} entries that it has answered")
@@ -61,7 +61,8 @@ class Ledger:
         if head.size > self.size:
             raise Contradiction(f"LostEntries: the desk's journal has {self.size} entries, and the signed head in {where} {head.size}")
         if self.seal.tree.root(head.size) != head.root or (head.day, head.periods) != (self.seal.day, self.seal.periods):
-            raise Contradiction(f"OtherEntries: the desk's journal doesn't begin with the {head.size} entries of the signed head in {where}")
+            begins = f"doesn't begin with the {head.size} entries of the signed head in {where}"
+            raise Contradiction(f"OtherEntries: the desk's journal {begins}")
 
     def count(self, who):
         """How many commands of a participant are entered."""

@@ -25,7 +25,7 @@ def read_signed_head(path, key):
 
 
 class Newest:
-    """The file. `note` is called from the event loop alone."""
+    """The file. `note_head` is called from the event loop alone."""
 
     def __init__(self, path, log):
         self.path, self.log = path, log
@@ -41,16 +41,16 @@ class Newest:
 
     async def write_while_newer(self):
         while self.head is not self.written:
-            await asyncio.to_thread(self.write)
+            await asyncio.to_thread(self.write_if_newer)
             await asyncio.sleep(PAUSE)
 
-    def end_written(self):
-        """Writes the newest head now."""
+    def stop_and_write(self):
+        """Ends the task that writes, and writes the newest head now."""
         if self.task is not None:
             self.task.cancel()
-        self.write()
+        self.write_if_newer()
 
-    def write(self):
+    def write_if_newer(self):
         """Replaces the file, if there is a newer head. A file that can't be written keeps the old one, and is logged once."""
         with self.lock:
             head = self.head

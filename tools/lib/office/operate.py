@@ -81,7 +81,7 @@ def status_lines(found):
             yield f"  stopped: {day['stopped']}"
 
 
-def leave_request(files, name):
+def write_request(files, name):
     """Leaves a request of the operator, which stays."""
     if not files.has(name):
         folder.write_synced(files.path_of(name), b"")
@@ -93,7 +93,7 @@ def close_and_wait(office, day, files):
     is_served = office.is_served()
     if is_served and files.has(folder.STOPPED_DAY):
         raise command.Stop(f"{day} is stopped, and wasn't closed: {read_stop_reason(files)}")
-    leave_request(files, folder.CLOSE_NOW)
+    write_request(files, folder.CLOSE_NOW)
     if not is_served and not files.has(folder.RESULTS):
         return f"{day} will be closed once the office is served"
     began, told, tell_at = time.monotonic(), None, TELL_SECONDS
@@ -121,11 +121,11 @@ def find_why_waiting(day, files):
     return f"{day} has no {missing} yet: the office's log says why"
 
 
-def leave_publish_request(office, day, files):
+def write_publish_request(office, day, files):
     """Publishes the results of all orders, the journal and the replies of a day that has results."""
     if not files.has(folder.RESULTS):
         raise command.Stop(f"{day} has no results yet, and is published after them")
-    leave_request(files, folder.OPEN_JOURNAL)
+    write_request(files, folder.OPEN_JOURNAL)
     return f"the journal, the results and the replies of {day} are published"
 
 

@@ -57,7 +57,7 @@ def require_desk(named=None, may_compile=False):
     return require_runnable(path or (compile_unproved("dam_desk") if may_compile else None), "dam-desk", "--desk")
 
 
-def require_clearing(path):
+def run_and_require_clearing(path):
     """Clears an empty day: a program that can't, or is another one, ends the office now, not at the close."""
     try:
         with subprocess.Popen([path, "clear"], stdin=subprocess.PIPE, stdout=subprocess.PIPE) as process:
@@ -82,7 +82,7 @@ def require_clearing(path):
 def require_programs(dam=None, desk=None, may_compile=False):
     """The programs that an office runs."""
     found = Programs(require_dam(dam, may_compile), require_desk(desk, may_compile))
-    require_clearing(found.dam)
+    run_and_require_clearing(found.dam)
     return found
 
 

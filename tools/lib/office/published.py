@@ -107,7 +107,7 @@ def read_into_ledger(files, ledger):
     try:
         written, replies = files.read(folder.JOURNAL), files.read(folder.REPLIES)
         own = [line.partition(",")[2] for line in replies.decode("ascii").splitlines()[1:]]
-        ledger.take_journal(written.decode("ascii").splitlines()[1:], own)
+        ledger.enter_rest_of_journal(written.decode("ascii").splitlines()[1:], own)
         if (written, replies) != (ledger.journal_text(), ledger.replies_text()):
             raise Contradiction("the entries are right, and their files have other bytes")
         head = files.read(folder.HEAD)

@@ -58,7 +58,7 @@ class Office:
         for _, name, files in sorted(new, key=lambda one: one[:2]):
             with noting_unreadable(name, missed):
                 self.writers[name] = DayWriter(files, self.key, self.programs, self.clock, self.log, self.counts)
-                self.tasks.append(asyncio.create_task(self.writers[name].run()))
+                self.tasks.append(asyncio.create_task(self.writers[name].write_until_published()))
         return missed
 
     def log_missed(self, missed):
@@ -102,7 +102,6 @@ def is_loopback(host):
 
 def require_tls_context(tls):
     """The context of TLS, from a certificate and its key."""
-    asyncio.sslproto.SSLProtocol.max_size = TLS_BYTES
     context = ssl.create_default_context(ssl.Purpose.CLIENT_AUTH)
     context.minimum_version = ssl.TLSVersion.TLSv1_2
     try:
@@ -119,6 +118,11 @@ def raise_file_limit():
     most = wanted if hard == resource.RLIM_INFINITY else min(hard, wanted)
     if soft < most:
         resource.setrlimit(resource.RLIMIT_NOFILE, (most, hard))
+
+
+def limit_tls_reads():
+    """Lets a connection over TLS reserve little memory."""
+    asyncio.sslproto.SSLProtocol.max_size = TLS_BYTES
 
 
 def forbid_core_files():
@@ -139,6 +143,7 @@ def require_listening_socket(host, port):
 async def serve(office, host, port, tls=None, behind_proxy=False, demo=None, started=None):
     """Serves until it is stopped. `started` gets the port once it listens."""
     forbid_core_files()
+    limit_tls_reads()
     for name in ("aiohttp", "asyncio"):
         logging.getLogger(name).handlers = [observed.Defects(office.log)]
         logging.getLogger(name).propagate = False

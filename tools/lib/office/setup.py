@@ -99,7 +99,7 @@ def parse_participants(data, notes):
     found, lines, wrong = {}, {}, order_table.Faults()
     for line, cells in rows:
         row = order_table.Row(cells, table, None)
-        who, share = row.read(WHO, cell_values.read_participant), row.read(SHARE, parse_share)
+        who, share = row.parse_cell(WHO, cell_values.parse_participant), row.parse_cell(SHARE, parse_share)
         if who and who in lines:
             row.faults.append(f"column {WHO}: {who} is in line {lines[who]} too")
         found[who] = share
@@ -184,7 +184,7 @@ def making_day_folder(office, terms):
     try:
         files = folder.DayFolder(made)
         folder.write_synced(files.path_of(folder.SALTS), heads.line_of(sealing.new_salts(terms.day)))
-        folder.write_synced(files.path_of(folder.TERMS), folder.json_bytes(terms.value()))
+        folder.write_synced(files.path_of(folder.TERMS), folder.json_bytes(terms.json_value()))
         for path in (files.path_of(folder.SALTS), files.path_of(folder.TERMS), made):
             folder.give_to_owner_of(path, office.path)
         yield

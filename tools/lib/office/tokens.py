@@ -17,7 +17,7 @@ DIGEST = re.compile(r"[0-9a-f]{64}")
 NOBODY = hashlib.sha256(secrets.token_bytes(BYTES)).hexdigest()  # the digest of a random token, which nobody has
 
 
-def new_token(who):
+def draw_token(who):
     return f"{who}.{secrets.token_urlsafe(BYTES)}"
 
 
@@ -61,7 +61,7 @@ class Register:
 
     def write_new_token(self, who):
         """Gives the participant a new token in place of any earlier one, and returns it."""
-        token = new_token(who)
+        token = draw_token(who)
         with self.rewriting() as digests:
             digests[who] = digest_of(token)
         return token
@@ -69,7 +69,7 @@ class Register:
     def write_new_participants(self, names):
         """Gives a token to each of these who isn't a participant yet, and returns the tokens."""
         with self.rewriting() as digests:
-            tokens = {who: new_token(who) for who in names if who not in digests}
+            tokens = {who: draw_token(who) for who in names if who not in digests}
             digests.update((who, digest_of(token)) for who, token in tokens.items())
         return tokens
 
@@ -79,8 +79,8 @@ class Register:
 
     @contextlib.contextmanager
     def rewriting(self):
-        """The digests, which are written again at the end, in one piece. Other processes that change them wait until then, so that no change
-        is lost; the lock ends with the process."""
+        """The digests, which are written again at the end, in one piece. Other processes that change them wait until then, so that no
+        change is lost; the lock ends with the process."""
         lock = os.open(f"{self.path}.lock", os.O_RDWR | os.O_CREAT, 0o600)
         try:
             folder.give_to_owner_of(lock, self.path.parent)

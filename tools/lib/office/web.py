@@ -1,26 +1,18 @@
-"""The routes of the office. A request is looked at in this order: the token, the rate, the size, the content. An answer has fixed words and
-the participant's own data, nothing of another's."""
+"""The routes of the office, and its answers: they have fixed words and the participant's own data, nothing of another's."""
 
 import asyncio
 import json
 import os
 import time
-from pathlib import Path
 
-import async_timeout
 from aiohttp import web
 
-from markupsafe import Markup
-
-from ..base import clock, rules
-from ..journal import book
-from ..report import style
+from ..base import clock
 from ..seal import heads
-from . import budgets, folder, requests, tables
-from .refusals import STOPPED_WORDS, Refused, unread_tokens_refusal
+from . import budgets, fixed_files, folder, requests, tables
+from .admission import MOST_BODY, Admission, content_type, read_body, require_known, require_length, require_query_number
+from .refusals import Refused
 
-MOST_BODY = 1 << 20  # bytes
-BODY_SECONDS = 15  # for a body to come
 ANSWER_SECONDS = 30  # for the entries of commands
 LONG_BODY = 1 << 14  # bytes of a body that is read in a thread
 RECEIPTS_AT_ONCE = 8  # that are made before others get a turn
@@ -54,23 +46,6 @@ STATUSES = {
 DAY = r"/days/{day:[0-9A-Za-z._-]{1,32}}"
 OWN = r"/{who:[A-Z]{1,8}}"
 NUMBER = r"/{number:[1-9][0-9]{0,4}}"
-PARTS = {"/": ("office.html", "text/html"), "/office.css": ("office.css", "text/css"), "/office.js": ("office.js", "text/javascript")}
-# The numbers that the page checks an order by before it sends it, or shows.
-RULES = "LOWEST_PRICE", "HIGHEST_PRICE", "GREATEST_VOLUME", "LONGEST_NAME", "MOST_HOURLY", "MOST_BLOCKS"
-OPENAPI = Path(__file__).with_name("openapi.json")
-
-
-def openapi_text(is_demo):
-    """The requests of an office or of a demo, as OpenAPI. The file has both; it marks those that only a demo answers. It names the limits on
-    prices, whose numbers are those of the rules."""
-    words = OPENAPI.read_text(encoding="utf-8")
-    for name in ("LOWEST_PRICE", "HIGHEST_PRICE"):
-        words = words.replace(f'"{name}"', str(getattr(rules, name)))
-    api = json.loads(words)
-    api["paths"] = {path: methods for path, methods in api["paths"].items() if is_demo or not methods.get("x-demo")}
-    return json.dumps(api, indent=1) + "\n"
-
-
 def fault_response(name, words, seconds=None, **more):
     headers = {} if seconds is None else {"Retry-After": str(max(1, round(seconds)))}
     if name == "Token":
@@ -89,20 +64,13 @@ class Web:
         self.office, self.counts, self.log = office, office.counts, office.log
         self.headers = {**HEADERS, **(SECURE if is_secure else {})}
         self.budgets = budgets.Budgets(behind_proxy)
-        self.files = {path: (self.page_text(name), kind) for path, (name, kind) in PARTS.items()}
-        self.files["/openapi.json"] = openapi_text(is_demo=bool(demo)), "application/json"
+        self.admission = Admission(office, self.budgets)
+        self.files = {path: (fixed_files.page_text(name), kind) for path, (name, kind) in fixed_files.PARTS.items()}
+        self.files["/openapi.json"] = fixed_files.openapi_text(is_demo=bool(demo)), "application/json"
         self.files["/key"] = office.public_key, "application/x-pem-file"
         self.demo = demo
         self.tables = asyncio.Semaphore(TABLES_AT_ONCE)
         self.reading = set()  # the participants whose table is read, or waits for it
-
-    def page_text(self, name):
-        reasons = {word: reason.words for word, reason in book.REASONS.items()}
-        known = {"reasons": reasons, "rules": {name.lower(): getattr(rules, name) for name in RULES}}
-        made = {name: Markup(json.dumps(value)) for name, value in known.items()}
-        made["most_blocks"] = rules.MOST_BLOCKS
-        made["most_of_group"] = "one" if rules.MOST_OF_GROUP == 1 else rules.MOST_OF_GROUP
-        return style.read_style(name) if name.endswith(".css") else style.TEMPLATES.get_template(name).render(**made)
 
     def make_application(self):
         app = web.Application(middlewares=[self.answer_request], client_max_size=MOST_BODY)
@@ -139,7 +107,7 @@ class Web:
         """Answers each request: a fault as JSON, with fixed words."""
         request.protocol.note_busy()
         try:
-            self.budgets.refuse_too_many_looks(request)
+            self.budgets.charge_look_or_refuse(request)
             response = await handler(request)
         except Refused as refused:
             response = fault_response(refused.fault, str(refused), **refused.more)
@@ -164,80 +132,19 @@ class Web:
         self.counts.add("requests_total", '{method="%s",status="%d"}' % (method_label(request), response.status))
         return response
 
-    # --- who asks
-
     def charge_and_answer(self, who, text):
         """An answer of a participant's own data, which is charged by its length."""
         self.budgets.charge_bytes(who, len(text))
         return web.Response(text=text, content_type="application/json")
 
-    def require_writer(self, request):
-        writer = self.office.writers.get(request.match_info["day"])
-        if writer is None:
-            raise Refused("NotFound", "there is no such day")
-        return writer
-
-    def require_authorized(self, request):
-        """The participant whose token the request has, and whose name its path has; all others are refused alike."""
-        who = request.match_info["who"]
-        try:
-            is_authorized = self.is_authorized(request)
-        except folder.UNREADABLE:
-            raise unread_tokens_refusal() from None
-        if not is_authorized:
-            self.counts.add("wrong_tokens_total")
-            self.budgets.refuse_too_many_guesses(request)
-            raise Refused("Token", "the token isn't of this participant")
-        return who
-
-    def is_authorized(self, request):
-        """Whether the token is the participant's now."""
-        scheme, _, token = request.headers.get("Authorization", "").partition(" ")
-        known = self.office.register.is_token_of(request.match_info["who"], token)
-        return known and scheme.lower() == "bearer"
-
-    def admit_and_charge(self, request, buckets=None, count=1):
-        """The day and the participant of a request of its own data."""
-        who = self.require_authorized(request)
-        budgets.refuse_too_many(buckets or self.budgets.reads, who, count)
-        writer = self.require_writer(request)
-        if writer.fault:
-            raise Refused("Unavailable", STOPPED_WORDS)
-        self.require_known(writer)
-        return writer, who
-
-    def require_known(self, writer):
-        if not writer.is_known.is_set():
-            raise Refused("Unavailable", "the office is still reading the day's journal", seconds=1)
-
-    def require_length(self, request):
-        """The length of a body, which is known before it is read."""
-        # aiohttp puts the value of a header without a name before the next one: a length below 0 would fill the bucket
-        word = request.headers.get("Content-Length", "")
-        if not (word.isascii() and word.isdigit()):
-            raise Refused("Malformed", "the request needs a Content-Length")
-        length = int(word)
-        if length > MOST_BODY:
-            raise web.HTTPRequestEntityTooLarge(MOST_BODY, length)
-        return length
-
-    async def read_body(self, request):
-        if request.content.is_eof():  # it is here already
-            return await request.read()
-        try:
-            async with async_timeout.timeout(BODY_SECONDS):
-                return await request.read()
-        except asyncio.TimeoutError:
-            raise Refused("Malformed", f"the request didn't come whole within {BODY_SECONDS} s") from None
-
     # --- commands
 
     async def answer_commands(self, request):
-        writer, who = self.admit_and_charge(request, self.budgets.commands)
-        length = self.require_length(request)
+        writer, who = self.admission.admit_and_charge(request, self.budgets.commands)
+        length = require_length(request)
         self.budgets.commands.charge(who, length // budgets.BYTES_OF_COMMAND)  # before it is read, so that not many are at once
-        body = await self.read_body(request)
-        self.require_authorized(request)  # again: the token may have been revoked
+        body = await read_body(request)
+        self.admission.require_authorized(request)  # again: the token may have been revoked
         began = time.monotonic()
         first = int(request.match_info["number"])
         commands = await self.parse_commands(body, content_type(request), who, first)
@@ -255,7 +162,7 @@ class Web:
 
     async def enter_commands(self, writer, who, first, commands, request):
         """The numbers of the entries of commands, once they are on the disk. A token that was revoked by then enters nothing more."""
-        done = writer.submit(who, first, commands, lambda: self.is_authorized(request))
+        done = writer.submit(who, first, commands, lambda: self.admission.is_authorized(request))
         await asyncio.wait((done,), timeout=ANSWER_SECONDS)
         if not done.done():
             raise Refused("Unavailable", "the desk hasn't answered yet: send the same command again", seconds=1)
@@ -270,7 +177,7 @@ class Web:
         return jsonl_response(made)
 
     async def answer_receipt(self, request):
-        writer, who = self.admit_and_charge(request)
+        writer, who = self.admission.admit_and_charge(request)
         number, count = int(request.match_info["number"]), writer.ledger.count(who)
         if number > count:
             raise Refused("NotFound", "there is no such command", next=count + 1)
@@ -278,14 +185,14 @@ class Web:
 
     async def answer_own_receipts(self, request):
         """All receipts of a participant, under the newest head."""
-        writer, who = self.admit_and_charge(request)
+        writer, who = self.admission.admit_and_charge(request)
         self.budgets.reads.charge(who, writer.ledger.count(who) // budgets.RECEIPTS_OF_READ)
         answer = await self.answer_receipts(writer, list(writer.ledger.own.get(who, ())), writer.ledger.head())
         self.budgets.charge_bytes(who, len(answer.body))
         return answer
 
     async def answer_own_commands(self, request):
-        writer, who = self.admit_and_charge(request)
+        writer, who = self.admission.admit_and_charge(request)
         since = require_query_number(request, "since")
         self.budgets.reads.charge(who, max(0, writer.ledger.count(who) - since) // budgets.COMMANDS_OF_READ)
         names = ("number", "entry", "record", "reply")
@@ -294,7 +201,7 @@ class Web:
         return self.charge_and_answer(who, json.dumps(made))
 
     async def answer_own_orders(self, request):
-        writer, who = self.admit_and_charge(request)
+        writer, who = self.admission.admit_and_charge(request)
         self.budgets.reads.charge(who, writer.ledger.count(who) // budgets.ORDERS_OF_READ)
         found = []
         for place, (name, order) in enumerate(writer.ledger.orders(who), 1):
@@ -305,13 +212,13 @@ class Web:
 
     async def answer_table(self, request):
         """The records that a table makes. They aren't entered: the participant sees them first."""
-        writer, who = self.admit_and_charge(request, count=budgets.READS_OF_TABLE)
-        self.require_length(request)
+        writer, who = self.admission.admit_and_charge(request, count=budgets.READS_OF_TABLE)
+        require_length(request)
         if who in self.reading:
             raise Refused("TooFast", "your table before this one is still being read", seconds=TABLE_SECONDS)
         self.reading.add(who)
         try:
-            body = await self.read_body(request)
+            body = await read_body(request)
             async with self.tables:
                 if request.transport is None:  # the client is gone
                     raise ConnectionResetError
@@ -322,7 +229,7 @@ class Web:
         return self.charge_and_answer(who, json.dumps({"records": records, "notes": notes}))
 
     async def answer_statement(self, request):
-        writer, who = self.admit_and_charge(request)
+        writer, who = self.admission.admit_and_charge(request)
         found = await asyncio.to_thread(writer.published.read_statement_text, who)
         if found is None:
             raise Refused("NotFound", "there is no statement yet")
@@ -359,23 +266,15 @@ class Web:
         return web.json_response({"days": days, "demo": bool(self.demo)})
 
     async def answer_day(self, request):
-        writer = self.require_writer(request)
+        writer = self.admission.require_writer(request)
         periods = writer.terms.periods
         begins = [clock.begin_time(periods, number) for number in range(1, periods + 1)]
         return web.json_response({**self.day_record(writer), "begins": begins})
 
-    def require_unstopped(self, request):
-        """The day of a request. A stopped day shows nothing: its journal may differ from the one that earlier heads sign, or a file may
-        have changed."""
-        writer = self.require_writer(request)
-        if writer.fault:
-            raise Refused("Unavailable", STOPPED_WORDS)
-        return writer
-
     async def answer_head(self, request):
         """The newest head; with `since` the proof that it goes on from the head of this number of entries."""
-        writer = self.require_unstopped(request)
-        self.require_known(writer)
+        writer = self.admission.require_unstopped(request)
+        require_known(writer)
         ledger = writer.ledger
         if "since" not in request.query:
             return jsonl_response([heads.line_of(ledger.head())])
@@ -386,14 +285,14 @@ class Web:
 
     async def answer_prices(self, request):
         """The results without the orders and the welfare: the day, and each period's price and volume."""
-        writer = self.require_unstopped(request)
+        writer = self.admission.require_unstopped(request)
         if not writer.published.has_results:
             raise Refused("NotFound", "there are no results yet")
         return web.Response(text=writer.published.read_prices(writer.terms.periods), content_type="text/plain")
 
     async def answer_published(self, request):
         """The texts that have the orders of all: only if the operator publishes the journal."""
-        writer, name = self.require_unstopped(request), request.path.rpartition("/")[2]
+        writer, name = self.admission.require_unstopped(request), request.path.rpartition("/")[2]
         if not writer.published.has_results:
             raise Refused("NotFound", "there are no results yet")
         if not writer.published.has_journal:
@@ -432,28 +331,10 @@ class Web:
         return web.json_response({"participants": self.demo})
 
     async def close_demo_day(self, request):
-        writer = self.require_writer(request)
-        self.refuse_stranger_to_demo(request)
+        writer = self.admission.require_writer(request)
+        self.admission.refuse_stranger_to_demo(request)
         writer.begin_close()
         return web.json_response(self.day_record(writer))
-
-    def refuse_stranger_to_demo(self, request):
-        token = request.headers.get("Authorization", "").partition(" ")[2]
-        if not self.office.register.is_token_of(token.partition(".")[0], token):
-            raise Refused("Token", "the token isn't of a participant")
-
-
-def content_type(request):
-    """The type of a body. aiohttp's own reader of it takes as long as the rest of a request."""
-    return request.headers.get("Content-Type", "").partition(";")[0].strip().lower()
-
-
-def require_query_number(request, name):
-    word = request.query.get(name, "0")
-    if not (word.isascii() and word.isdigit() and len(word) <= 5):
-        raise Refused("Malformed", f"{name} should be a number up to 99999")
-    return int(word)
-
 
 def route_name(request):
     resource = request.match_info.route.resource

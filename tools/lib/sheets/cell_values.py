@@ -169,28 +169,28 @@ def parse_volumes(cell, numbers, decimal_comma):
 
 
 def word_parser(*words):
-    def read(cell):
+    def parse(cell):
         if cell.lower() not in words:
             raise BadOrders(f"{text.quoted(cell)} should be {' or '.join(words)}")
         return cell.lower()
 
-    return read
+    return parse
 
 
 def field_parser(name):
     """A name, as a field of a journal; for one that breaks its rule the message says the right form."""
 
     @functools.lru_cache(MOST_KEPT)
-    def read(cell):
+    def parse(cell):
         found, wrong = fields.parse_field(name, cell)
         if wrong:
             raise BadOrders(f"{text.quoted(cell)} {wrong.removeprefix('it ')}")
         return found
 
-    return read
+    return parse
 
 
-read_participant, read_name = field_parser("participant"), field_parser("order")
+parse_participant, parse_name = field_parser("participant"), field_parser("order")
 
 
 def parse_price(cell, decimal_comma):

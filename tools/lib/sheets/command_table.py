@@ -43,7 +43,7 @@ class Columns:
         """Whether a row adds no command to a day: it has none, or the close, before which the commands are put."""
         return not any(self.cell(cells, name) for name in (WHAT, *self.table.places)) or self.cell(cells, WHAT).lower() == "close"
 
-    def read(self, cells, periods):
+    def parse_row(self, cells, periods):
         """The command that a row adds to a day, None if it adds none; and the faults of the row."""
         row, what = order_table.Row(cells, self.table, periods), self.cell(cells, WHAT).lower()
         try:
@@ -75,17 +75,17 @@ def add_other_faults(row, what):
 def parse_command(row, what):
     """The command of a row: an order to submit, or the amend or cancel of one. Faults are added to the row's faults."""
     if what == "cancel":
-        return journal.Cancel(row.read("participant", cell_values.read_participant), row.read("order", cell_values.read_name))
+        return journal.Cancel(row.parse_cell("participant", cell_values.parse_participant), row.parse_cell("order", cell_values.parse_name))
     if what == "amend":
-        who, name = row.read("participant", cell_values.read_participant), row.read("order", cell_values.read_name)
-        price = row.read("price_eur_mwh", lambda cell: cell_values.parse_price(cell, row.decimal_comma))
-        numbers = row.read("periods", lambda cell: cell_values.parse_kept_periods(cell, row.periods))
-        volumes = row.read(
+        who, name = row.parse_cell("participant", cell_values.parse_participant), row.parse_cell("order", cell_values.parse_name)
+        price = row.parse_cell("price_eur_mwh", lambda cell: cell_values.parse_price(cell, row.decimal_comma))
+        numbers = row.parse_cell("periods", lambda cell: cell_values.parse_kept_periods(cell, row.periods))
+        volumes = row.parse_cell(
             "volume_mw", lambda cell: cell_values.parse_volumes(cell, numbers or row.periods_of_volumes(cell), row.decimal_comma)
         )
         return journal.Amend(who, name, price, volumes)
     if what in ("", "submit"):
-        return row.command()
+        return row.parse_command()
     row.faults.append(f"column {WHAT}: {text.quoted(what)} should be submit, amend or cancel")
     return None
 
@@ -99,7 +99,7 @@ class Commands:
 
     def __iter__(self):
         for line, cells in self.columns.table.rows:
-            command, _ = self.columns.read(cells, self.periods)
+            command, _ = self.columns.parse_row(cells, self.periods)
             if command:
                 yield line, command
 
@@ -115,7 +115,7 @@ def parse_commands(given, periods):
             wrong.add(line)
         raise wrong.as_one_fault() from None
     for line, cells in columns.table.rows:
-        _, faults = columns.read(cells, periods)
+        _, faults = columns.parse_row(cells, periods)
         for words in faults:
             wrong.add(order_table.row_fault(line, words))
     if wrong.count:

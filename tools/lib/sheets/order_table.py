@@ -95,23 +95,23 @@ class Row:
     def cell(self, name):
         return sheets.unescaped(self.given_cell(name).strip())
 
-    def read(self, name, reader):
-        """The value that a reader makes of a cell; None if it is wrong."""
+    def parse_cell(self, name, parser):
+        """The value that a parser makes of a cell; None if it is wrong, which is a fault of the row."""
         cell = self.cell(name)
         if self.raises and name in NAMES and cell.isascii() and cell != cell.upper() == self.probable_name(name):
             self.raised[cell] = cell = cell.upper()
         try:
             cell_values.refuse_unlike(self.given_cell(name), name in NAMES, shapes.unit_of(name))
-            return reader(cell)
+            return parser(cell)
         except BadOrders as fault:
             self.faults.append(f"column {name}: {fault}")
             return None
 
-    def read_link(self, name, kind):
+    def parse_link(self, name, kind):
         if self.cell(name) and kind == "hour":
             self.faults.append(f"column {name}: an hourly order has none")
             return None
-        return self.read(name, lambda cell: cell and cell_values.read_name(cell))
+        return self.parse_cell(name, lambda cell: cell and cell_values.parse_name(cell))
 
     def periods_of_volumes(self, cell):
         """As many periods as there are volumes, if the periods can't be read."""
@@ -121,18 +121,18 @@ class Row:
         """A name, or the one that was probably meant if it breaks its rule, so that other lines that name it aren't wrong too."""
         return fields.parse_field(name, self.cell(name))[0]
 
-    def command(self):
+    def parse_command(self):
         """The submit that the row is; of no use if something is wrong."""
-        who, name = self.read("participant", cell_values.read_participant), self.read("order", cell_values.read_name)
-        kind = self.read("kind", cell_values.word_parser(*KINDS))
-        side = self.read("side", cell_values.word_parser(*SIDES))
-        price = self.read("price_eur_mwh", lambda cell: cell_values.parse_price(cell, self.decimal_comma))
-        numbers = self.read("periods", lambda cell: cell_values.parse_kept_periods(cell, self.periods))
+        who, name = self.parse_cell("participant", cell_values.parse_participant), self.parse_cell("order", cell_values.parse_name)
+        kind = self.parse_cell("kind", cell_values.word_parser(*KINDS))
+        side = self.parse_cell("side", cell_values.word_parser(*SIDES))
+        price = self.parse_cell("price_eur_mwh", lambda cell: cell_values.parse_price(cell, self.decimal_comma))
+        numbers = self.parse_cell("periods", lambda cell: cell_values.parse_kept_periods(cell, self.periods))
         if kind == "hour" and numbers and len(numbers) != 1:
             self.faults.append(f"column periods: an hourly order has one period, not {len(numbers)}")
         of_volumes = lambda cell: cell_values.parse_volumes(cell, numbers or self.periods_of_volumes(cell), self.decimal_comma)
-        volumes = self.read("volume_mw", of_volumes)
-        parent, group = (self.read_link(name, kind) for name in OPTIONAL)
+        volumes = self.parse_cell("volume_mw", of_volumes)
+        parent, group = (self.parse_link(name, kind) for name in OPTIONAL)
         return journal.Submit(who, name, journal.Order(kind, side, price, volumes, parent, group))
 
 
@@ -147,7 +147,7 @@ class Entered:
             self.held.change(journal.Submit(owner, name, journal.Order(kind, "buy", 0, ())))
         self.lines = {}  # the line and the kind of each order, by participant and name
 
-    def enter(self, line, row, command):
+    def enter_or_note_faults(self, line, row, command):
         """Adds to the faults of a row why the book would refuse it."""
         who, name, parent = row.probable_name("participant"), row.probable_name("order"), command.order.parent
         if who and name and (who, name) in self.lines:
@@ -372,11 +372,11 @@ def parse_tables(sources, periods, who=None, raises=False, held=None):
             row = Row(cells, table, periods, raises)
             number += 1
             if who and row.probable_name("participant") != who:
-                row.read("participant", cell_values.read_participant)
+                row.parse_cell("participant", cell_values.parse_participant)
                 others += 1
             else:
-                command = row.command()
-                entered.enter(table.line(line), row, command)
+                command = row.parse_command()
+                entered.enter_or_note_faults(table.line(line), row, command)
                 submits += [] if row.faults else [(number, command)]
                 raised.update(row.raised)
             for words in row.faults:

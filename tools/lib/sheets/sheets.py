@@ -46,7 +46,7 @@ def parse_rows(data, needed=(), notes=None, most=None, is_long=False):
         found = Text(data, notes, most, MANY if is_long or most is None else 1)
         return found if is_long else list(found), found.has_decimal_comma
     try:
-        rows, note = reading.read_rows(data, PREFERRED, needed, most)
+        rows, note = reading.parse_rows(data, PREFERRED, needed, most)
     except limits.BadWorkbook as fault:
         raise BadTable(str(fault)) from None
     notes += [note] if note else []
@@ -129,7 +129,7 @@ class Count:
         self.most_cells, self.most_text = times * limits.MOST_CELLS, times * limits.MOST_TEXT
         self.cells = self.size = 0
 
-    def add(self, line, cells):
+    def add_or_refuse(self, line, cells):
         if len(cells) > limits.LAST_COLUMN:
             raise BadTable(f"line {line}: a row has at most {limits.LAST_COLUMN} cells")
         whole = "".join(cells)
@@ -147,8 +147,8 @@ class Count:
 
 
 class Text:
-    """The rows of a text that aren't empty, each with its number, in bounded memory and time: if they have more than `most` after the first,
-    only one more. A caller that goes through them again reads the text again."""
+    """The rows of a text that aren't empty, each with its number, in bounded memory and time: if they have more than `most` after the
+    first, only one more. A caller that goes through them again reads the text again."""
 
     def __init__(self, data, notes, most, times):
         """`times`: how many times the cells and the text of a workbook it may have."""
@@ -177,7 +177,7 @@ class Text:
                     cells = whole if len(whole) > width else cells
                     if not self.is_counted:
                         refuse_other_ends(lines.number, lines.line, cells)
-                        count.add(lines.number, cells)
+                        count.add_or_refuse(lines.number, cells)
                     found += 1
                     yield lines.number, cells
                 lines.line = ""
@@ -223,7 +223,7 @@ def unescaped(cell):
     return ESCAPED.sub(r"\1", cell) if "'" in cell else cell
 
 
-def writer_of_workbooks():
+def import_openpyxl():
     """The package that writes workbooks. Each sheet is first a temporary file; lxml wouldn't say why one can't be written."""
     os.environ["OPENPYXL_LXML"] = "False"
     import openpyxl
@@ -236,7 +236,7 @@ def workbook_bytes(tables):
     for name, rows in tables.items():
         if len(rows) > limits.LAST_ROW:
             raise BadTable(f"the table {name} has {len(rows):,} rows, but a sheet of an Excel workbook has at most {limits.LAST_ROW:,}")
-    openpyxl = writer_of_workbooks()
+    openpyxl = import_openpyxl()
     from openpyxl.styles import Font
     from openpyxl.utils import get_column_letter
 

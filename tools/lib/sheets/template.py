@@ -16,8 +16,8 @@ WORDS = {
     "order": f"the order's name, unique for the participant: {text.A_NAME}",
     "kind": "hour (one period) or block (one or more)",
     "side": "buy or sell",
-    "price_eur_mwh": f"the limit in EUR/MWh, from {text.eur_per_mwh(rules.LOWEST_PRICE)} to {text.eur_per_mwh(rules.HIGHEST_PRICE)}, with at most two"
-    " decimals",
+    "price_eur_mwh": f"the limit in EUR/MWh, from {text.eur_per_mwh(rules.LOWEST_PRICE)} to {text.eur_per_mwh(rules.HIGHEST_PRICE)},"
+    " with at most two decimals",
     "periods": "numbers or clock times, such as 8, 8-20, 1;3;5-7 or 07:00-20:00; the cells are texts, so that none becomes a date",
     "volume_mw": f"in MW, from 0.1 to {text.mw(rules.GREATEST_VOLUME)}, with at most one decimal: one for all periods, or one for each,"
     " such as 5;25",
@@ -33,7 +33,7 @@ ROWS = [
 
 def template_bytes():
     """The bytes of the workbook."""
-    book = sheets.writer_of_workbooks().Workbook()
+    book = sheets.import_openpyxl().Workbook()
     sheet = book.active
     sheet.title = ORDERS
     fill_sheet(sheet, [])

@@ -182,7 +182,7 @@ class Table:
             cell_values.refuse_unlike(self.columns.given(cells, SCENARIO), True)
         except order_table.BadOrders as fault:
             raise Fault(f"{self.name}: line {line}, column {SCENARIO}: {fault}") from None
-        command, faults = self.columns.read(cells, self.held.periods)
+        command, faults = self.columns.parse_row(cells, self.held.periods)
         if faults:
             wrong = "\n".join(order_table.row_fault(line, words) for words in faults)
             raise Fault(f"{self.name}: {changes.in_few_lines(wrong)}")

@@ -18,7 +18,7 @@ class Package:
         # The archive's directory is read whole, so its entries are counted first.
         if data.count(DIRECTORY) > MOST_PARTS:
             raise too_many(MOST_PARTS, "parts")
-        self.archive = unzipped(lambda: zipfile.ZipFile(io.BytesIO(data)))
+        self.archive = call_zipfile(lambda: zipfile.ZipFile(io.BytesIO(data)))
         self.parts = {}
         files = self.archive.infolist()
         if files and min(info.header_offset for info in files):
@@ -33,21 +33,21 @@ class Package:
     def has(self, name):
         return key(name) in self.parts
 
-    def read(self, name, part):
-        """Reads a part from its beginning to its end."""
+    def parse_part(self, name, part):
+        """Parses a part from its beginning to its end."""
         if not self.has(name):
             raise broken(f"it has no part {text.quoted(name)}")
         try:
-            part.read(self, self.chunks(self.parts[key(name)]))
+            part.parse(self, self.read_chunks(self.parts[key(name)]))
         except expat.ExpatError as fault:
             raise broken(f"{text.quoted(name)}: {fault}") from None
 
-    def chunks(self, info):
+    def read_chunks(self, info):
         if info.compress_type not in (zipfile.ZIP_STORED, zipfile.ZIP_DEFLATED):
             raise broken(f"{text.quoted(info.filename)} is compressed in another way than Excel does it")
         length = 0
-        with unzipped(lambda: self.archive.open(info)) as file:
-            while chunk := unzipped(lambda: file.read(CHUNK)):
+        with call_zipfile(lambda: self.archive.open(info)) as file:
+            while chunk := call_zipfile(lambda: file.read(CHUNK)):
                 length += len(chunk)
                 self.unpacked += len(chunk)
                 if self.unpacked > MOST_UNPACKED:
@@ -62,7 +62,7 @@ def key(name):
     return name.replace("\\", "/").lstrip("/").lower()
 
 
-def unzipped(call):
+def call_zipfile(call):
     """The result of a call of zipfile, which raises any exception if the archive is broken."""
     try:
         return call()

@@ -58,13 +58,13 @@ class Part:
         self.kept = {f"{space} {name}" for space in self.NAMESPACES for name in self.known - self.ELSEWHERE | self.REFUSED}
         self.taken, self.length = [], 0
 
-    def read(self, package, chunks):
+    def parse(self, package, chunks):
         names, self.package, self.namespaces = {}, package, 0
         self.parser = parser = expat.ParserCreate(None, " ", names)
         parser.buffer_text = True
         parser.XmlDeclHandler, parser.StartDoctypeDeclHandler = self.refuse_encoding, self.refuse_type
-        parser.StartNamespaceDeclHandler = self.declared
-        parser.StartElementHandler, parser.EndElementHandler = self.opened, self.closed
+        parser.StartNamespaceDeclHandler = self.count_namespace
+        parser.StartElementHandler, parser.EndElementHandler = self.open_element, self.close_element
         parser.CharacterDataHandler = self.refuse_text
         fed = seen = characters = 0
         try:
@@ -73,7 +73,7 @@ class Part:
                 fed += len(chunk)
                 if len(names) > MOST_NAMES:
                     raise too_many(MOST_NAMES, "names of elements")
-                characters += sum(map(checked, itertools.islice(names, seen, None)))
+                characters += sum(map(length_or_refuse, itertools.islice(names, seen, None)))
                 seen = len(names)
                 if characters > MOST_NAMED:
                     raise too_many(MOST_NAMED, "characters in the names of elements")
@@ -90,28 +90,28 @@ class Part:
     def refuse_type(self, *type):
         raise broken("it has a document type")
 
-    def declared(self, prefix, uri):
+    def count_namespace(self, prefix, uri):
         self.namespaces += 1
         if self.namespaces > MOST_NAMESPACES:
             raise too_many(MOST_NAMESPACES, "namespaces")
-        checked(uri)
+        length_or_refuse(uri)
 
-    def opened(self, name, attributes):
+    def open_element(self, name, attributes):
         self.package.elements += 1
         if self.package.elements > MOST_ELEMENTS:
             raise too_many(MOST_ELEMENTS, "elements: delete the rows and columns that the table doesn't need")
         if self.left_out:
-            self.leave_out(name)
+            self.pass_left_out(name)
             return
         if not self.prefix:
-            self.begin(name)
+            self.begin_root(name)
         within, is_own = self.within[-1], name.startswith(self.prefix)
         local = name[len(self.prefix) :] if is_own else name
         place = self.places[within].get(local) if is_own else None
         if place is None:
             self.refuse_stranger(within, local if is_own else ANY_OTHERS, local)
         else:
-            self.follow(within, local, place)
+            self.note_place_or_refuse(within, local, place)
         if place is None or local in LEFT_OUT:
             self.left_out, self.outside = 1, local
             self.parser.CharacterDataHandler = None
@@ -121,31 +121,31 @@ class Part:
         if call := self.opening[local]:
             call(attributes)
 
-    def leave_out(self, name):
-        """An element in one that is left out."""
+    def pass_left_out(self, name):
+        """Passes an element in one that is left out."""
         self.left_out += 1
         if self.left_out > DEEPEST:
             raise broken(f"more than {DEEPEST} elements stand in one another")
         if name in self.kept:
-            raise self.wrong(f"an element {text.quoted(name.rpartition(' ')[2])} stands in {text.quoted(self.outside)}")
+            raise self.fault(f"an element {text.quoted(name.rpartition(' ')[2])} stands in {text.quoted(self.outside)}")
 
     def refuse_stranger(self, within, kind, name):
         """Refuses an element that isn't a known one, unless it may stand here."""
         if kind not in self.BETWEEN.get(within, ()):
-            raise self.wrong(f"an element {text.quoted(name)} stands in {text.quoted(within)}")
+            raise self.fault(f"an element {text.quoted(name)} stands in {text.quoted(within)}")
         if EXTENSIONS in self.places[within] and self.ranks[-1] == self.places[within][EXTENSIONS].rank:
-            raise self.wrong(f"an element {text.quoted(name)} stands after the extensions of {text.quoted(within)}")
+            raise self.fault(f"an element {text.quoted(name)} stands after the extensions of {text.quoted(within)}")
 
-    def follow(self, within, name, place):
-        """Refuses an element that should stand once, or before the one that it follows."""
+    def note_place_or_refuse(self, within, name, place):
+        """Notes the place of an element, or refuses it: one that should stand once, or before the one that it follows."""
         if place.rank < self.ranks[-1]:
             last = next(other for other, each in self.places[within].items() if each.rank == self.ranks[-1])
-            raise self.wrong(f"an element {name!r} of {within!r} stands after {last!r}, but should stand before it")
+            raise self.fault(f"an element {name!r} of {within!r} stands after {last!r}, but should stand before it")
         if place.rank == self.ranks[-1] and not place.repeats:
-            raise self.wrong(f"two elements {name!r} stand in {within!r}")
+            raise self.fault(f"two elements {name!r} stand in {within!r}")
         self.ranks[-1] = place.rank
 
-    def closed(self, name):
+    def close_element(self, name):
         if self.left_out:
             self.left_out -= 1
             if not self.left_out:
@@ -157,26 +157,26 @@ class Part:
 
     def refuse_text(self, words):
         if words := words.strip(BLANK):
-            raise self.wrong(f"the text {text.quoted(words)} stands in {text.quoted(self.within[-1])}")
+            raise self.fault(f"the text {text.quoted(words)} stands in {text.quoted(self.within[-1])}")
 
-    def begin(self, name):
-        """The first element, which says the namespace."""
+    def begin_root(self, name):
+        """Takes the namespace of the first element, or refuses the element."""
         namespace, _, name = name.rpartition(" ")
         if namespace not in self.NAMESPACES or name != self.ROOT:
             raise broken(f"a part has {text.quoted(name)} instead of {self.ROOT!r} as its first element")
         self.prefix = f"{namespace} "
 
-    def wrong(self, words):
+    def fault(self, words):
         return broken(words)
 
     def keep_text(self):
         """From now on keeps the text of an element."""
-        self.parser.CharacterDataHandler = self.add
+        self.parser.CharacterDataHandler = self.keep_words
 
-    def add(self, words):
+    def keep_words(self, words):
         self.length += len(words)
         if self.length > LONGEST_CELL:
-            raise self.wrong(f"it has more than {LONGEST_CELL:,} characters")
+            raise self.fault(f"it has more than {LONGEST_CELL:,} characters")
         self.taken.append(words)
 
     def ignore_text(self):
@@ -187,8 +187,8 @@ class Part:
         """From now on there should be no text."""
         self.parser.CharacterDataHandler = self.refuse_text
 
-    def content(self):
-        """The text that was kept, which is kept no longer."""
+    def pop_text(self):
+        """Returns the text that was kept, which is kept no longer."""
         found = "".join(self.taken)
         self.taken, self.length = [], 0
         return found
@@ -205,7 +205,7 @@ def places_of(kind):
     return {**{name: {} for name in known}, **places}, known - LEFT_OUT
 
 
-def checked(name):
+def length_or_refuse(name):
     """The length of a name of XML, or of none, if it isn't too long."""
     length = len(name or "")
     if length > LONGEST_NAME:
@@ -253,7 +253,7 @@ class Texts(Part):
 
     def open_r(self, _):
         if self.is_whole:
-            raise self.wrong("it has two texts: a whole one, and one in runs")
+            raise self.fault("it has two texts: a whole one, and one in runs")
 
     def open_rPh(self, _):
         self.is_pronounced = True
@@ -261,8 +261,8 @@ class Texts(Part):
     def close_t(self):
         self.allow_no_text()
 
-    def whole_text(self):
-        words = self.content()
+    def pop_whole_text(self):
+        words = self.pop_text()
         if self.is_pronounced and not words:
-            raise self.wrong("its only text is how it is pronounced (rPh)")
+            raise self.fault("its only text is how it is pronounced (rPh)")
         return words

@@ -19,16 +19,16 @@ WITHOUT_CELLS, OF_MACROS = ("chartsheet", "dialogsheet"), ("xlMacrosheet", "xlIn
 KINDS = {WORKBOOK, SHEET, *WITHOUT_CELLS, *OF_MACROS, STRINGS, STYLES}
 
 
-def read_rows(data, preferred, needed=(), most=None):
-    """The rows of a workbook's sheet that aren't empty, with their numbers: of the preferred sheet, or else of the first with the needed names
-    in its first row, or else of the first. If there are `most`, more rows after the first are a fault. Also a note on the sheet, if there
-    are several."""
+def parse_rows(data, preferred, needed=(), most=None):
+    """The rows of a workbook's sheet that aren't empty, with their numbers: of the preferred sheet, or else of the first with the needed
+    names in its first row, or else of the first. If there are `most`, more rows after the first are a fault. Also a note on the sheet, if
+    there are several."""
     package = Package(data)
     book = Workbook(package)
-    name, part, note = book.chosen(preferred, needed)
+    name, part, note = book.choose_sheet(preferred, needed)
     sheet = Sheet(name, part, book, most)
-    package.read(sheet.part, sheet)
-    return sheet.whole(book.strings(sheet.needed)), note
+    package.parse_part(sheet.part, sheet)
+    return sheet.whole(book.parse_strings(sheet.needed)), note
 
 
 class Relations(Part):
@@ -81,19 +81,19 @@ class Workbook(Part):
         self.package, self.from_1904, self.is_computed, self.sheets, self.hidden = package, False, True, [], set()
         if not package.has("_rels/.rels"):
             raise broken("it isn't an Excel workbook (.xlsx), but another archive")
-        part = self.relations_of("").only(WORKBOOK)
+        part = self.parse_relations("").only(WORKBOOK)
         if part is None:
             raise broken("it has no sheets")
-        self.relations = self.relations_of(part)
-        package.read(part, self)
+        self.relations = self.parse_relations(part)
+        package.parse_part(part, self)
         styles = Styles()
         if part := self.relations.only(STYLES):
-            package.read(part, styles)
+            package.parse_part(part, styles)
         self.formats, self.styled, self.struck, self.conditional = styles.of_cells(), styles.of_texts(), styles.struck, styles.conditional
 
-    def relations_of(self, owner):
+    def parse_relations(self, owner):
         relations = Relations(owner)
-        self.package.read(relations.part, relations)
+        self.package.parse_part(relations.part, relations)
         return relations
 
     def open_workbookPr(self, attributes):
@@ -130,7 +130,7 @@ class Workbook(Part):
             raise broken("it has no sheets")
         return sheets
 
-    def chosen(self, preferred, needed):
+    def choose_sheet(self, preferred, needed):
         """The name and the part of the sheet that is read, and a note on it if there are several."""
         sheets = self.tables()
         if len(sheets) == 1:
@@ -139,27 +139,27 @@ class Workbook(Part):
         if named and sheets[named[0]] is None:
             raise broken(f"the sheet {text.quoted(named[0])} is one of macros: copy its table to another sheet")
         tables = {name: part for name, part in sheets.items() if part is not None}
-        found = named or self.having(tables, needed)
+        found = named or self.find_sheets_with(tables, needed)
         name = sorted([*found, *tables], key=lambda name: (name not in found, name in self.hidden))[0]
         others = [text.quoted(other) for other in found if other != name]
         more = f"; {', '.join(others)} {'has' if len(others) == 1 else 'have'} the columns of orders too" if others else ""
         return name, sheets[name], f"of {len(sheets)} sheets, {text.quoted(name)} was read{', a hidden one' * (name in self.hidden)}{more}"
 
-    def having(self, sheets, needed):
+    def find_sheets_with(self, sheets, needed):
         """The sheets with the needed names in their first rows."""
         rows, heads = {name: FirstRow(name, part, self, needed) for name, part in sheets.items()} if needed else {}, 0
         for row in rows.values():
-            row.begin_part()
+            row.parse_first_row()
             heads += len(row.needed)
             if heads > MOST_HEADS:
                 raise too_many(MOST_HEADS, "strings in the first rows of its sheets")
-        shared = self.strings(set().union(*(row.needed for row in rows.values())))
+        shared = self.parse_strings(set().union(*(row.needed for row in rows.values())))
         return [name for name, row in rows.items() if set(needed) <= row.names(shared)]
 
-    def strings(self, needed):
+    def parse_strings(self, needed):
         """The shared strings, of which those that are needed are read."""
         strings = Strings(needed)
         part = self.relations.only(STRINGS)
         if needed and part:
-            self.package.read(part, strings)
+            self.package.parse_part(part, strings)
         return strings

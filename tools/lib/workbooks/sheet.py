@@ -43,7 +43,7 @@ class Strings(Texts):
 
     def close_si(self):
         if self.is_taken:
-            words = unescaped(self.whole_text())
+            words = unescaped(self.pop_whole_text())
             self.size += size_of(words)
             if self.size > MOST_TEXT:
                 raise too_many(MOST_TEXT, "bytes of text in its cells")
@@ -51,7 +51,7 @@ class Strings(Texts):
             if self.is_marked:
                 self.styled.add(self.number)
 
-    def wrong(self, words):
+    def fault(self, words):
         return broken(f"string {self.number} of its cells: {words}")
 
 
@@ -96,7 +96,7 @@ class Sheet(Texts):
         self.first_formula = None  # its row and its column
         self.has_data = self.hides_zeros = False
 
-    def wrong(self, words):
+    def fault(self, words):
         column = name_of(self.column) if self.column else ""
         place = f", {'cell' if column else 'row'} {column}{self.row}" if self.row and self.cells is not None else ""
         if self.row and self.cells is None and self.within[-1] == "sheetData":
@@ -115,16 +115,16 @@ class Sheet(Texts):
             found = str(self.row + 1)
         number = int(found) if PLACE.fullmatch(found) else 0
         if not 1 <= number <= LAST_ROW:
-            raise self.wrong(f"a row has the number {text.quoted(found)}: they go from 1 to {LAST_ROW}")
+            raise self.fault(f"a row has the number {text.quoted(found)}: they go from 1 to {LAST_ROW}")
         last, self.row, self.column, self.cells = self.row, number, 0, []
         if number <= last:
-            raise self.wrong("it occurs twice" if number == last else f"it stands after row {last}, but the rows should increase")
+            raise self.fault("it occurs twice" if number == last else f"it stands after row {last}, but the rows should increase")
 
     def close_row(self):
         if self.cells:
             if len(self.rows) == self.last:
                 self.column = 0
-                raise self.wrong(f"a table has at most {self.last - 1:,} rows after its first")
+                raise self.fault(f"a table has at most {self.last - 1:,} rows after its first")
             self.rows.add(self.row, self.cells)
         self.column, self.cells = 0, None
 
@@ -137,13 +137,13 @@ class Sheet(Texts):
             letters = found.rstrip("0123456789")
             column = number_of(letters)
             if not column or found != f"{letters}{self.row}":
-                raise self.wrong(f"a cell of this row has the place {text.quoted(found)}")
+                raise self.fault(f"a cell of this row has the place {text.quoted(found)}")
             self.column = column
         if self.column > LAST_COLUMN:
-            raise self.wrong(f"a row has at most {LAST_COLUMN} cells")
+            raise self.fault(f"a row has at most {LAST_COLUMN} cells")
         if self.column <= last:
             words = f"it stands after {name_of(last)}{self.row}, but the cells of a row should increase"
-            raise self.wrong("it occurs twice" if self.column == last else words)
+            raise self.fault("it occurs twice" if self.column == last else words)
         self.kind, self.style = attributes.get("t", "n"), attributes.get("s", "0")
         self.value = self.formula = None
         self.is_marked = False
@@ -158,23 +158,23 @@ class Sheet(Texts):
 
     def refuse_value(self, is_other):
         if self.value is not None:
-            raise self.wrong("it has two values")
+            raise self.fault("it has two values")
         if is_other:
-            raise self.wrong(f"its value isn't of its type, {text.quoted(self.kind)}")
+            raise self.fault(f"its value isn't of its type, {text.quoted(self.kind)}")
 
     def open_f(self, _):
         self.keep_text()
 
     def close_v(self):
         self.allow_no_text()
-        self.value = self.content()
+        self.value = self.pop_text()
 
     def close_is(self):
-        self.value = self.whole_text()
+        self.value = self.pop_whole_text()
 
     def close_f(self):
         self.allow_no_text()
-        self.formula = self.content()
+        self.formula = self.pop_text()
         self.first_formula = self.first_formula or (self.row, self.column)
 
     def close_c(self):
@@ -183,18 +183,18 @@ class Sheet(Texts):
             return
         self.count_of_cells += self.column - len(self.cells)
         if self.count_of_cells > MOST_CELLS:
-            raise self.wrong(f"the sheet has more than {MOST_CELLS:,} cells before this one: delete those that the table doesn't need")
+            raise self.fault(f"the sheet has more than {MOST_CELLS:,} cells before this one: delete those that the table doesn't need")
         self.cells += [""] * (self.column - 1 - len(self.cells))
         self.cells.append(words)
         if isinstance(words, int):
             self.needed.add(words)
         else:
-            self.add_text(words)
+            self.count_text(words)
 
-    def add_text(self, words):
+    def count_text(self, words):
         self.size += size_of(words)
         if self.size > MOST_TEXT:
-            raise self.wrong(f"the sheet has more than {MOST_TEXT:,} bytes of text before this cell")
+            raise self.fault(f"the sheet has more than {MOST_TEXT:,} bytes of text before this cell")
 
     def words(self):
         """The content of a cell, as it would stand in a text; of a shared string its number. A formula that was saved without its value
@@ -208,7 +208,7 @@ class Sheet(Texts):
             return self.number(value.strip())
         if kind == "s":
             if not WHOLE.fullmatch(value) or not 0 <= int(value) < MOST_ELEMENTS:
-                raise self.wrong(f"it has no string {text.quoted(value)}")
+                raise self.fault(f"it has no string {text.quoted(value)}")
             return self.shown(int, StyledString, StruckString)(value)
         if kind in ("str", "inlineStr"):
             return self.shown(str, Styled, Struck)(unescaped(value))
@@ -218,7 +218,7 @@ class Sheet(Texts):
             return Truth(TRUTHS[value])
         if kind == "d" and (found := DATE.fullmatch(value) or CLOCK.fullmatch(value)):
             return Date(found[1])
-        raise self.wrong(f"{text.quoted(value)} isn't of its type, {text.quoted(kind)}")
+        raise self.fault(f"{text.quoted(value)} isn't of its type, {text.quoted(kind)}")
 
     def shown(self, plain, styled, struck):
         """Of the kinds of a text, the one that the cell is: shown as it is, in another way, or struck out."""
@@ -230,7 +230,7 @@ class Sheet(Texts):
     def number(self, value):
         """A number with the digits that Excel shows, or the date that it stands for."""
         if not NUMBER.fullmatch(value) or not math.isfinite(float(value)):
-            raise self.wrong(f"{text.quoted(value)} isn't a number")
+            raise self.fault(f"{text.quoted(value)} isn't a number")
         made = self.format()
         if self.hides_zeros and not float(value):
             return Hidden("0")
@@ -242,13 +242,13 @@ class Sheet(Texts):
         """How the cell's format shows numbers."""
         number, formats = self.style_number(), self.book.formats or [general]
         if number >= len(formats):
-            raise self.wrong(f"it has no format {text.quoted(self.style)}")
+            raise self.fault(f"it has no format {text.quoted(self.style)}")
         return formats[number]
 
     def style_number(self):
         number = unsigned(self.style)
         if number is None:
-            raise self.wrong(f"it has no format {text.quoted(self.style)}")
+            raise self.fault(f"it has no format {text.quoted(self.style)}")
         return number
 
     def date(self, serial):
@@ -264,20 +264,20 @@ class Sheet(Texts):
                 raise OverflowError
             return (first + datetime.timedelta(days)).isoformat()
         except OverflowError:
-            raise self.wrong(f"{serial:.15g} is no date, which its format shows") from None
+            raise self.fault(f"{serial:.15g} is no date, which its format shows") from None
 
     def open_sheetCalcPr(self, attributes):
         """As `Workbook.open_calcPr`, but after the cells."""
         if self.first_formula and is_due(attributes):
             (self.row, self.column), self.cells = self.first_formula, []
-            raise self.wrong("its formula was saved without its value: open the workbook in Excel, and save it")
+            raise self.fault("its formula was saved without its value: open the workbook in Excel, and save it")
 
     def open_mergeCell(self, attributes):
         """Of merged cells only the first has a value, so that a row could seem to have none."""
         ref = attributes.get("ref", "")
         found = RANGE.fullmatch(ref)
         if not found or not self.has_data:
-            raise self.wrong(f"the merged cells {text.quoted(ref)} can't be read")
+            raise self.fault(f"the merged cells {text.quoted(ref)} can't be read")
         if found[3] is None or not self.rows:
             return
         width = max(len(cells) for _, cells in self.rows) if self.width is None else self.width
@@ -285,7 +285,7 @@ class Sheet(Texts):
         (top, bottom), left = sorted((int(found[2]), int(found[4]))), min(number_of(found[1]), number_of(found[3]))
         is_apart = bottom < self.rows.numbers[0] or top > self.rows.numbers[-1] or left > width
         if not is_apart and (found[1], found[2]) != (found[3], found[4]):
-            raise self.wrong(f"the cells {ref} are merged, but each row of a table has its own")
+            raise self.fault(f"the cells {ref} are merged, but each row of a table has its own")
 
     def open_conditionalFormatting(self, attributes):
         self.ranges = attributes.get("sqref", "")
@@ -303,14 +303,14 @@ class Sheet(Texts):
     open_iconSet = open_dataBar
 
     def conditional_fault(self, kind):
-        return self.wrong(f"the cells {text.quoted(self.ranges)} have a conditional format {kind}: delete it")
+        return self.fault(f"the cells {text.quoted(self.ranges)} have a conditional format {kind}: delete it")
 
     width = None  # of the widest row, once it is needed
 
     def whole(self, shared):
         """The rows that aren't empty, with their shared strings."""
         if not self.has_data:
-            raise self.wrong("it has no table of cells")
+            raise self.fault("it has no table of cells")
         rows = Rows()
         for self.row, self.cells in self.rows:
             for at, cell in enumerate(self.cells):
@@ -318,9 +318,9 @@ class Sheet(Texts):
                     self.column = at + 1
                     words = shared.found.get(cell)
                     if words is None:
-                        raise self.wrong(f"it has no string '{cell}'")
+                        raise self.fault(f"it has no string '{cell}'")
                     self.cells[at] = text_of(cell, words, cell in shared.styled)
-                    self.add_text(words)
+                    self.count_text(words)
             if cells := trimmed(self.cells):
                 rows.add(self.row, cells)
         return rows
@@ -338,8 +338,8 @@ class Enough(Exception):
 
 
 class FirstRow(Sheet):
-    """The needed names in the first row of a sheet that isn't empty. A sheet that can't be read has none: if it is read as the table, it is a
-    fault."""
+    """The needed names in the first row of a sheet that isn't empty. A sheet that can't be read has none: if it is read as the table, it is
+    a fault."""
 
     def __init__(self, name, part, book, names):
         super().__init__(name, part, book, None)
@@ -355,9 +355,9 @@ class FirstRow(Sheet):
         if self.rows:
             raise Enough
 
-    def begin_part(self):
+    def parse_first_row(self):
         try:
-            self.book.package.read(self.part, self)
+            self.book.package.parse_part(self.part, self)
         except Enough:
             self.rows = [(row, list(set(cells))) for row, cells in self.rows]
         except BadWorkbook:

@@ -1,0 +1,104 @@
+"""Whether a request is answered, in this order: the token, the rate, the size. What isn't answered is refused by an exception."""
+
+import asyncio
+
+import async_timeout
+from aiohttp import web
+
+from . import budgets, folder
+from .refusals import STOPPED_WORDS, Refused, unread_tokens_refusal
+
+MOST_BODY = 1 << 20  # bytes
+BODY_SECONDS = 15  # for a body to come
+
+
+class Admission:
+    """Who may ask an office for what. `office` has its days, by name, and its participants."""
+
+    def __init__(self, office, limits):
+        self.office, self.counts, self.budgets = office, office.counts, limits
+
+    def require_writer(self, request):
+        writer = self.office.writers.get(request.match_info["day"])
+        if writer is None:
+            raise Refused("NotFound", "there is no such day")
+        return writer
+
+    def require_authorized(self, request):
+        """The participant whose token the request has, and whose name its path has; all others are refused alike."""
+        who = request.match_info["who"]
+        try:
+            is_authorized = self.is_authorized(request)
+        except folder.UNREADABLE:
+            raise unread_tokens_refusal() from None
+        if not is_authorized:
+            self.counts.add("wrong_tokens_total")
+            self.budgets.charge_guess_or_refuse(request)
+            raise Refused("Token", "the token isn't of this participant")
+        return who
+
+    def is_authorized(self, request):
+        """Whether the token is the participant's now."""
+        scheme, _, token = request.headers.get("Authorization", "").partition(" ")
+        known = self.office.register.is_token_of(request.match_info["who"], token)
+        return known and scheme.lower() == "bearer"
+
+    def admit_and_charge(self, request, buckets=None, count=1):
+        """The day and the participant of a request of its own data."""
+        who = self.require_authorized(request)
+        budgets.charge_or_refuse(buckets or self.budgets.reads, who, count)
+        writer = self.require_unstopped(request)
+        require_known(writer)
+        return writer, who
+
+    def require_unstopped(self, request):
+        """The day of a request. A stopped day shows nothing: its journal may differ from the one that earlier heads sign, or a file may
+        have changed."""
+        writer = self.require_writer(request)
+        if writer.fault:
+            raise Refused("Unavailable", STOPPED_WORDS)
+        return writer
+
+    def refuse_stranger_to_demo(self, request):
+        token = request.headers.get("Authorization", "").partition(" ")[2]
+        if not self.office.register.is_token_of(token.partition(".")[0], token):
+            raise Refused("Token", "the token isn't of a participant")
+
+
+def require_known(writer):
+    if not writer.is_known.is_set():
+        raise Refused("Unavailable", "the office is still reading the day's journal", seconds=1)
+
+
+def require_length(request):
+    """The length of a body, which is known before it is read."""
+    # aiohttp puts the value of a header without a name before the next one: a length below 0 would fill the bucket
+    word = request.headers.get("Content-Length", "")
+    if not (word.isascii() and word.isdigit()):
+        raise Refused("Malformed", "the request needs a Content-Length")
+    length = int(word)
+    if length > MOST_BODY:
+        raise web.HTTPRequestEntityTooLarge(MOST_BODY, length)
+    return length
+
+
+async def read_body(request):
+    if request.content.is_eof():  # it is here already
+        return await request.read()
+    try:
+        async with async_timeout.timeout(BODY_SECONDS):
+            return await request.read()
+    except asyncio.TimeoutError:
+        raise Refused("Malformed", f"the request didn't come whole within {BODY_SECONDS} s") from None
+
+
+def content_type(request):
+    """The type of a body. aiohttp's own reader of it takes as long as the rest of a request."""
+    return request.headers.get("Content-Type", "").partition(";")[0].strip().lower()
+
+
+def require_query_number(request, name):
+    word = request.query.get(name, "0")
+    if not (word.isascii() and word.isdigit() and len(word) <= 5):
+        raise Refused("Malformed", f"{name} should be a number up to 99999")
+    return int(word)
