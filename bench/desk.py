@@ -78,7 +78,8 @@ def time_desk(folder, batches):
     in_packets = max(map(len, batches)) <= device.PACKET
     ours, theirs = os.pipe2(os.O_CLOEXEC | (os.O_DIRECT if in_packets else 0))
     fcntl.fcntl(theirs, fcntl.F_SETPIPE_SZ, device.ROOM)
-    with subprocess.Popen([DESK, empty_folder_for_desk(folder)], stdin=ours, stdout=subprocess.PIPE) as desk, ThreadPoolExecutor(1) as reader:
+    words = [DESK, empty_folder_for_desk(folder)]
+    with subprocess.Popen(words, stdin=ours, stdout=subprocess.PIPE) as desk, ThreadPoolExecutor(1) as reader:
         os.close(ours)
 
         def enter(given):

@@ -162,12 +162,21 @@ THIN += [book_of_kind("odd", 0, 2, 4, 500), book_of_kind("base", 20, 6, 4, 1_500
 # The thin markets that took a search longest, of 2,575 that were drawn at random: by number of orders, spread and seed.
 ODD = {1_000: [(0, 249)], 800: [(0, 285)], 300: [(0, 242)]}
 RANDOM = {500: [(200, 686), (5, 30), (5, 284), (50, 347), (0, 109), (5, 752)], 800: [(300, 1)]}
-HARDEST = [book_of_kind(kind, *drawn, 4, orders) for kind, found in (("odd", ODD), ("random", RANDOM)) for orders, each in found.items() for drawn in each]
+HARDEST = [
+    book_of_kind(kind, *drawn, 4, orders)
+    for kind, found in (("odd", ODD), ("random", RANDOM))
+    for orders, each in found.items()
+    for drawn in each
+]
 BOUND = [book_of_kind("base", 20, 1, parts, orders, bonds) for bonds in list(BONDS)[1:] for parts, orders in ((1, 200), (4, 500))]
 # Deep markets with blocks of other kinds: mixed ones, and wide ones with two orders of each side in a period, or with many.
 DEEP = [book_of_kind("mixed", spread, 1, parts) for parts in (1, 4) for spread in (20, 50)]
 FEW = {1: 96, 4: 384}
-DEEP += [book_of_kind(WIDE, spread, 1, parts, orders) for parts, few in FEW.items() for spread, orders in ((0, few), (50, few), (0, HOURLY))]
+DEEP += [
+    book_of_kind(WIDE, spread, 1, parts, orders)
+    for parts, few in FEW.items()
+    for spread, orders in ((0, few), (50, few), (0, HOURLY))
+]
 MORE = THIN + HARDEST + BOUND + DEEP
 
 

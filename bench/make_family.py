@@ -114,7 +114,8 @@ def draw_ties(day, count, _volume):
     return [block_of_alpha(number, "sell", 6_000, dict.fromkeys(day.draw_span(1, 6), 1)) for number in range(count)]
 
 
-FAMILIES = {draw.__name__.removeprefix("draw_"): draw for draw in (draw_market, draw_paradox, draw_spread, draw_nearties, draw_links, draw_groups, draw_ties)}
+DRAWS = draw_market, draw_paradox, draw_spread, draw_nearties, draw_links, draw_groups, draw_ties
+FAMILIES = {draw.__name__.removeprefix("draw_"): draw for draw in DRAWS}
 
 
 class DrawnBook(NamedTuple):

@@ -48,7 +48,8 @@ def serve_and_load(kind):
 
 
 def record_comparison():
-    found = call_in_turns({"ours": lambda _: serve_and_load(ServedOffice), "theirs": lambda _: serve_and_load(ServedPlain)}, TURNS, math.inf)
+    loads_by_name = {"ours": lambda _: serve_and_load(ServedOffice), "theirs": lambda _: serve_and_load(ServedPlain)}
+    found = call_in_turns(loads_by_name, TURNS, math.inf)
     (our_rates, our_times), (their_rates, their_times) = (zip(*results) for results in found.values())
     what = f"an office compared with a plain one, {CONNECTIONS} connections"
     record_ratio(f"{what}, commands a second", our_rates, their_rates, least=1, shown=PER_SECOND)
@@ -60,7 +61,8 @@ def record_whole_day():
     with office_for_test(DAM, DESK, count=CONNECTIONS) as office:
         office.start()
         rate, _ = run_load(office, WHOLE_DAY)
-        record_figure(f"commands that an office takes, {commands:,} of a day", PER_SECOND(rate), f"at least {PER_SECOND(1_000)}", rate >= 1_000)
+        what = f"commands that an office takes, {commands:,} of a day"
+        record_figure(what, PER_SECOND(rate), f"at least {PER_SECOND(1_000)}", rate >= 1_000)
         office.kill("office", "desk")
         record_at_most(f"a start of an office after a crash, {commands:,} entries", office.start(), 1.0)
         record_at_most(f"from the close to the results, {commands:,} entries", office.close_day(), 2.0)

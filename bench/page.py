@@ -31,7 +31,8 @@ SHOWN = {
     "thin": r"(base|peaks|shaped|odd|random) 96, (500|1,500) orders, spread (0|20|50), seed 1: dam clear",
     "workers": r"(?:base|odd) .*the rate of 4 workers compared with 1",
     "looks": r"a look compared with a plain one, while [03] threads.*|a call, 4,000 orders held",
-    "desk": r"dam replay compared with a desk.*wall time|records that a desk keeps.*|opening .* on disk.*wall time|memory of a desk.*records",
+    "desk": r"dam replay compared with a desk.*wall time|records that a desk keeps.*|opening .* on disk.*wall time"
+    r"|memory of a desk.*records",
     "office": r".*",
 }
 # The contents of the cells of such a table, and the names of its columns.
@@ -42,8 +43,8 @@ CELLS = {
 # The figures of many books together, which the page shows of any part.
 TOGETHER = r"(?:deep|all thin) books together: .*"
 PICTURES = {
-    "growth": "Nodes: the plain twin's, each for the selections with its decisions. The further a family lies below the dashed line, the more\n"
-    "is left out.\n\n"
+    "growth": "Nodes: the plain twin's, each for the selections with its decisions. The further a family lies below the dashed line, the"
+    " more\nis left out.\n\n"
     "![Nodes of each family by the number of blocks, compared with 2^n](growth.svg)\n"
 }
 CIRCUMSTANCES = {1: "ran on {}", 2: "measured {}", 3: "had {}", 5: "used `{}`"}  # by columns of runs.csv
@@ -84,7 +85,8 @@ def query_facts_of_run(part):
     peers = f"HiGHS (of SciPy {query_version('python3-scipy')}) and CBC ({query_version('coinor-cbc')})"
     notes = []
     if part in ("blocks", "thin"):
-        notes = [f"{peers}: the time of solving alone, at most {limit} s"] * bool(limit) + [f"the program before is {before}"] * bool(before)
+        notes += [f"{peers}: the time of solving alone, at most {limit} s"] * bool(limit)
+        notes += [f"the program before is {before}"] * bool(before)
     machine = f"{os.cpu_count()} processors ({processors[0]})"
     return [part, str(datetime.date.today()), commit, machine, load, run_for_output("rt", "version"), "; ".join(notes)]
 
@@ -135,7 +137,8 @@ def table_of_part(part, rows):
     names, columns = (list(dict.fromkeys(pair[at] for pair in cells)) for at in (0, 1))
     what, column = CELLS[part]
     lines = [[name, *(cells.get((name, each), "") for each in columns)] for name in names]
-    return markdown_table([what, *(column.format(f"{int(each):,}" if each.isdigit() else each) for each in columns)], lines) if cells else ""
+    heads = [what, *(column.format(f"{int(each):,}" if each.isdigit() else each) for each in columns)]
+    return markdown_table(heads, lines) if cells else ""
 
 
 def table_of_names(names, rows):
@@ -182,7 +185,8 @@ def rows_of_missed(rows):
 def read_figures_into_section(part):
     """The figures that the page shows of a part; a table by books begins with the words that say which books these are."""
     words, rows = f"{read_description(part)}\n" if part in CELLS else None, read_rows(KEPT / f"{part}.csv")
-    return "\n".join(filter(None, [f"## `bench/run {part}`\n", words, table_of_part(part, rows), table_of_names(TOGETHER, rows), PICTURES.get(part)]))
+    tables = table_of_part(part, rows), table_of_names(TOGETHER, rows)
+    return "\n".join(filter(None, [f"## `bench/run {part}`\n", words, *tables, PICTURES.get(part)]))
 
 
 def read_row_of_run(part, load, notes):
@@ -215,7 +219,9 @@ def read_figures_into_page():
     circumstances += f"Notes: {notes}.\n" if notes else ""
     wrong = [[run[0], *each] for run in runs for each in rows_of_missed(read_rows(KEPT / f"{run[0]}.csv"))]
     wrong = markdown_table(["Part", "Missed", "How many", "Figures", "Target", "Worst"], wrong) if wrong else "None.\n"
-    return "\n".join([HEAD, when, textwrap.fill(circumstances, 140, break_on_hyphens=False) + "\n", "## Missed targets\n", wrong, *map(read_figures_into_section, (run[0] for run in runs))])
+    circumstances = textwrap.fill(circumstances, 140, break_on_hyphens=False) + "\n"
+    sections = (read_figures_into_section(run[0]) for run in runs)
+    return "\n".join([HEAD, when, circumstances, "## Missed targets\n", wrong, *sections])
 
 
 def main():

@@ -97,10 +97,10 @@ def write_control_files(root, clone, room):
     folder.mkdir(mode=0o755)
     words = {"VERSION": clone.version, "SIZE": str(size), "DEPENDS": run_for_dependencies(root, room)}
     texts = {"md5sums": sums}
-    for name, text in {"control": (HERE / "control").read_text(encoding="utf-8"), **SHORT}.items():
-        texts[name] = re.sub("|".join(words), lambda found: words[found[0]], text) if name in ("control", "shlibs") else text
-    for name, text in texts.items():
-        (folder / name).write_text(text, encoding="utf-8")
+    for name, content in {"control": (HERE / "control").read_text(encoding="utf-8"), **SHORT}.items():
+        texts[name] = re.sub("|".join(words), lambda found: words[found[0]], content) if name in ("control", "shlibs") else content
+    for name, content in texts.items():
+        (folder / name).write_text(content, encoding="utf-8")
         (folder / name).chmod(0o755 if name in ("postinst", "prerm") else 0o644)
         os.utime(folder / name, (clone.seconds, clone.seconds))
     for path in (folder, root):
@@ -134,27 +134,27 @@ def refuse_large(path, size):
         raise command.Stop(f"{command.shown(path)} isn't a package of dam: it unpacks to more than {file_io.MOST_BYTES:,} bytes")
 
 
-def within(path, file):
+def read_or_refuse_large(path, file):
     """The bytes of an open file, unless they are too many."""
     data = file_io.read_first_bytes(file, file_io.MOST_BYTES + 1)
     refuse_large(path, len(data))
     return data
 
 
-def unpacked(path, data):
+def decompress_or_refuse_large(path, data):
     """The tar archive in compressed bytes."""
     way = next((way for mark, way in COMPRESSED.items() if data.startswith(mark)), None)
     if way is None:
         return data
     with way(io.BytesIO(data)) as file:
-        return within(path, file)
+        return read_or_refuse_large(path, file)
 
 
 def run_for_debian_archive(path, way):
     """One of the two tar archives in a Debian package."""
     line = ["dpkg-deb", way, path.absolute()]
     with subprocess.Popen(line, env=made_of.environment(), stdout=subprocess.PIPE, stderr=subprocess.DEVNULL) as process:
-        data = within(path, process.stdout)
+        data = read_or_refuse_large(path, process.stdout)
     if process.returncode:
         raise tarfile.TarError(f"dpkg-deb ended with status {process.returncode}")
     return data
@@ -163,14 +163,14 @@ def run_for_debian_archive(path, way):
 KINDS = {tarfile.DIRTYPE: "folder", tarfile.SYMTYPE: "link", tarfile.LNKTYPE: "hard link"}
 
 
-def below(name, top):
+def name_below(name, top):
     """The name of a member of an archive below its top folder; with a `/` before it if the member isn't there."""
     if not top:
         return name
     return name[len(top) + 1 :] if f"{name}/".startswith(f"{top}/") else f"/{name}"
 
 
-def numbered(name, found, times):
+def number_if_found(name, found, times):
     """The name, or if it is found already, the name with a number. How often each occurs is counted, so that many take little time."""
     own = name
     while own in found:
@@ -179,7 +179,7 @@ def numbered(name, found, times):
     return own
 
 
-def entries(path, data, top=None, prefix=""):
+def parse_entries(path, data, top=None, prefix=""):
     """The contents of a tar archive, by name, below its top folder; if none is named, that is the folder of its first member. A member that
     is there again has a name of its own."""
     found, times, size = {}, {}, 0
@@ -191,24 +191,24 @@ def entries(path, data, top=None, prefix=""):
             kind = "file" if member.isfile() else KINDS.get(member.type, "device")
             name = member.name.removeprefix("./").rstrip("/").removesuffix(".")
             top = name.partition("/")[0] if top is None and name else top
-            name = numbered(prefix + below(name, top), found, times)
+            name = number_if_found(prefix + name_below(name, top), found, times)
             found[name] = Entry(kind, member.mode, (member.uid, member.gid), held)
     return found
 
 
-def read(path):
+def read_package_or_stop(path):
     """The files of a package by name: of the Debian package those of /usr and of its control, of the other archive those of its folder."""
     data = file_io.read_bytes(path)
     try:
         if path.name.endswith(".deb"):
             files, told = (run_for_debian_archive(path, way) for way in ("--fsys-tarfile", "--ctrl-tarfile"))
-            return {**entries(path, told, "", CONTROL), **entries(path, files, "usr")}
-        return entries(path, unpacked(path, data))
+            return {**parse_entries(path, told, "", CONTROL), **parse_entries(path, files, "usr")}
+        return parse_entries(path, decompress_or_refuse_large(path, data))
     except (OSError, tarfile.TarError, EOFError, ValueError, lzma.LZMAError, zlib.error):
         raise command.Stop(f"{command.shown(path)} isn't a package of dam: it is neither a Debian package nor a tar archive") from None
 
 
-def provenance_of(path, files):
+def parse_provenance_or_stop(path, files):
     """The provenance of a package."""
     try:
         found = json.loads(files[PROVENANCE].data)
@@ -227,7 +227,7 @@ def is_deep(value):
     return bool(level)
 
 
-def differing(there, here):
+def differing_entries(there, here):
     """Which entries of the provenance differ."""
     for key in sorted({*there, *here}):
         ours, theirs = here.get(key), there.get(key)
@@ -249,18 +249,18 @@ def differences(there, here):
         elif ours[:-1] != theirs[:-1]:
             yield f"{name} is {theirs}, made here {ours}"
         elif ours.data != theirs.data and it == PROVENANCE:
-            words = "; ".join(text.safe(words, LONGEST) for words in differing(json.loads(theirs.data), json.loads(ours.data)))
+            words = "; ".join(text.safe(words, LONGEST) for words in differing_entries(json.loads(theirs.data), json.loads(ours.data)))
             yield f"{name} differs: {words or 'in its sums, or in how it is written'}"
         elif ours.data != theirs.data:
             yield f"{name} differs: {len(theirs.data)} bytes, made here {len(ours.data)}"
 
 
-def compare(path, made):
+def read_and_compare(path, made):
     """Compares a package with one that was made here. Returns the lines to print, and whether they are the same."""
     name = text.safe(path.name, command.LONGEST_PATH)
     if file_io.read_bytes(path) == made.read_bytes():
         return [f"{name}: the same, byte for byte"], True
-    found = list(differences(read(path), read(made)))
+    found = list(differences(read_package_or_stop(path), read_package_or_stop(made)))
     if not found:
         return [f"{name}: each file is the same, byte for byte; only the packing differs"], True
     more = [f"and {len(found) - FEW} more"] if len(found) > FEW else []

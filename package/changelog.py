@@ -11,7 +11,7 @@ SECTION = re.compile(r"^## (\S+)\n(.*?)(?=^## |\Z)", re.MULTILINE | re.DOTALL)
 LINK = re.compile(r"\[([^\]]*)\]\([^)]*\)")
 
 
-def maintainer():
+def read_maintainer():
     text = (made_of.TOP / "package" / "control").read_text(encoding="utf-8")
     return re.search(r"^Maintainer: (.*)$", text, re.MULTILINE)[1]
 
@@ -21,11 +21,11 @@ def points(section):
     return [" ".join(point.split()) for point in re.findall(r"^- (.*?)(?=^- |\Z)", LINK.sub(r"\1", section), re.MULTILINE | re.DOTALL)]
 
 
-def text(seconds):
+def read_changelog_text(seconds):
     """The changelog. A version has no date of its own, so each entry has the commit's."""
     date, entries = email.utils.formatdate(seconds), []
     for version, section in SECTION.findall((made_of.TOP / "CHANGELOG.md").read_text(encoding="utf-8")):
         lines = (textwrap.fill(point, WIDTH, initial_indent="  * ", subsequent_indent="    ") for point in points(section))
-        head, end = f"dam ({version}) stable; urgency=medium", f" -- {maintainer()}  {date.replace('-0000', '+0000')}"
+        head, end = f"dam ({version}) stable; urgency=medium", f" -- {read_maintainer()}  {date.replace('-0000', '+0000')}"
         entries.append("\n".join([head, "", *lines, "", end, ""]))
     return "\n".join(entries)

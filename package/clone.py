@@ -52,13 +52,13 @@ class Clone:
     """A clone without changes, whose programs and libraries were built of its sources."""
 
     def __init__(self):
-        refuse_lack()
+        refuse_missing_commands()
         self.version, self.commit = VERSION, run_git("rev-parse", "HEAD").strip()
         self.seconds = int(run_git("log", "-1", "--format=%ct"))
         self.date = datetime.datetime.fromtimestamp(self.seconds, datetime.timezone.utc).strftime("%Y-%m-%dT%H:%M:%SZ")
         self.tracked = [name for name in run_git("ls-files", "-z").split("\0") if name]
         refuse_changes()
-        refuse_old()
+        refuse_old_builds()
         self.records = {name: sources.read_record(TOP / name) for name in BUILT}
 
     def below(self, folder, *endings):
@@ -75,7 +75,7 @@ def refuse_changes():
         raise command.Stop(f"the clone has changes: commit or remove {', '.join(changed[:SHOWN])}{more}")
 
 
-def refuse_old():
+def refuse_old_builds():
     """Ends the tool if something that was built is missing, or not of the present sources."""
     for name, crate in BUILT.items():
         fault = sources.read_stale_words(TOP / name, crate)
@@ -83,7 +83,7 @@ def refuse_old():
             raise command.Stop(f"{fault}: run {MADE_BY[name]}")
 
 
-def totals_of(path, commit):
+def read_totals_or_stop(path, commit):
     """The totals of a check of this commit. If no file is named, that is the last check of this clone, or None if it was of another
     commit."""
     try:
@@ -100,7 +100,7 @@ def totals_of(path, commit):
     raise command.Stop(f"{command.shown(path)} is of {'changed files' if of is None else f'commit {of}'}, and this clone of {commit}")
 
 
-def refuse_lack():
+def refuse_missing_commands():
     """Ends the tool if a command that it needs is missing."""
     for name, debian in NEEDED.items():
         if not shutil.which(name):
@@ -109,7 +109,7 @@ def refuse_lack():
     site.refuse_lack()
 
 
-def made_with():
+def run_for_versions():
     """The versions of the programs that make the files of a package here; other ones may make others. git makes none, and go-md2man doesn't
     tell its version."""
     return {name: sources.run_for_first_line([name, "--version"]) for name in NEEDED if name not in ("git", "go-md2man")}

@@ -38,7 +38,7 @@ def listed(found):
     return "".join(f"{row[0]}\n: {told(row)}\n\n" for row in rows)
 
 
-def words(page):
+def read_page_words(page):
     """A page of the manual as go-md2man takes it: with installed commands, and without links."""
     text = pages.COMMENT.sub("", (TOP / page).read_text(encoding="utf-8")).partition("\n")[2]
     text = OF_CLONES.sub("", text)
@@ -51,7 +51,7 @@ def run_for_page(name, version):
     """A man page."""
     source, about, others = PAGES[name]
     see = ", ".join(f"**{other}**(1)" for other in others)
-    text = f"# {name}\n\n# NAME\n\n{name} - {about}\n\n# DESCRIPTION\n\n{words(source)}\n# SEE ALSO\n\n{see}\n\n{MANUAL}\n"
+    text = f"# {name}\n\n# NAME\n\n{name} - {about}\n\n# DESCRIPTION\n\n{read_page_words(source)}\n# SEE ALSO\n\n{see}\n\n{MANUAL}\n"
     ran = subprocess.run(["go-md2man"], input=text.encode(), capture_output=True, env=environment())
     if ran.returncode:
         raise command.Stop(f"go-md2man failed: {ran.stderr.decode(errors='replace')}", command.FAILED)

@@ -44,7 +44,7 @@ WITH_EXAMPLES = (
 VERSION = ".PP\nThis is version {}.\n.B dam\\-audit \\-\\-version\nprints it; {} itself has no such option."
 
 
-def run_help(bin_folder, words):
+def run_for_help(bin_folder, words):
     """The help of a command, which is given with its words."""
     ran = subprocess.run([bin_folder / words[0], *words[1:], "--help"], capture_output=True, env=environment())
     if ran.returncode:
@@ -78,7 +78,7 @@ def statuses(paragraph):
     return "\n".join(found)
 
 
-def statuses_of_program(words, text):
+def read_statuses_of_program(words, text):
     """The statuses of the program, or of one of its commands, as the manual has them. A command whose help has no limit on nodes can't
     reach one."""
     without = {OF_THE_LAUNCHER, *([OF_A_LIMIT] if len(words) > 1 and "--nodes" not in text else [])}
@@ -87,7 +87,7 @@ def statuses_of_program(words, text):
     return "\n".join([*kept, roff(MORE)])
 
 
-def statuses_of_desk():
+def read_statuses_of_desk():
     """The statuses of dam-desk, as the manual has them: why, and how to go on."""
     rows = DESK_STATUS.findall(DESK_STATUSES.search(DESK.read_text(encoding="utf-8"))[1])
     kept = [f".TP\n.B {status}\n{roff_line(why)}\n.br\nDo: {roff_line(how)}" for status, why, how in rows]
@@ -144,9 +144,9 @@ def run_for_page(words, helps, clone, room):
     shown.write_text(f"#!/bin/sh\nexec cat {name}.help\n", encoding="utf-8")
     shown.chmod(0o755)
     if words[0] == "dam":
-        sections["EXIT STATUS"] = [statuses_of_program(words, text)]
+        sections["EXIT STATUS"] = [read_statuses_of_program(words, text)]
     if name == "dam-desk":
-        sections["EXIT STATUS"] = [statuses_of_desk()]
+        sections["EXIT STATUS"] = [read_statuses_of_desk()]
     if name in ("dam", "dam-desk"):
         sections["VERSION"] = [VERSION.format(clone.version, roff_line(name))]
     # in a section that help2man writes too, this comes first
@@ -166,12 +166,12 @@ def see_also(words, helps):
     return f"{listed}\n.PP\n{formats.MANUAL}"
 
 
-def helps(bin_folder):
+def run_for_helps(bin_folder):
     """The help of each command by its words."""
-    of_dam = tuple(shells.commands(run_help(bin_folder, ("dam",))))
+    of_dam = tuple(shells.commands(run_for_help(bin_folder, ("dam",))))
     every = [(name, *rest) for name, words in {**COMMANDS, "dam": of_dam}.items() for rest in [(), *((word,) for word in words)]]
     with concurrent.futures.ThreadPoolExecutor() as pool:
-        return dict(zip(every, pool.map(lambda words: run_help(bin_folder, words), every)))
+        return dict(zip(every, pool.map(lambda words: run_for_help(bin_folder, words), every)))
 
 
 def run_for_pages(found, clone, room):

@@ -116,7 +116,7 @@ def fish(main, helps):
     return "".join(f"{line}\n" for line in lines)
 
 
-def made(helps):
+def completions_by_place(helps):
     """The completions of `dam` by their place, from the helps of all commands by their words."""
     main, of_words = helps["dam",], {words[1]: text for words, text in helps.items() if words[0] == "dam" and len(words) == 2}
     return {PLACES[shell].format("dam"): of(main, of_words).encode() for shell, of in (("bash", bash), ("zsh", zsh), ("fish", fish))}

@@ -47,7 +47,7 @@ DEFINITIONS = "docs/DEFINITIONS.md"
 COMMANDS = re.compile(r"^```(?:sh|text)\n.*?^```$", re.MULTILINE | re.DOTALL)
 
 
-def taken(clone):
+def sources_by_target(clone):
     """Where each file comes from, by where it goes."""
     found = dict(TAKEN)
     for folder, target, *endings in (
@@ -70,7 +70,7 @@ def page(data, target, held):
     return text.encode()
 
 
-def metadata(version):
+def read_metadata(version):
     """The files by which pip knows the module: as of a wheel, but without a list of the files, which belong to the package."""
     text = (made_of.TOP / "pyproject.toml").read_text(encoding="utf-8")
     of = lambda key: re.search(rf'^{key} = (?:{{ text = )?"(.*?)"', text, re.MULTILINE)[1]
@@ -83,13 +83,13 @@ def metadata(version):
     return {f"{PYTHON}-{version}.dist-info/{name}": "".join(f"{line}\n" for line in told).encode() for name, told in texts.items()}
 
 
-def write(path, data, mode=0o644):
+def write_file(path, data, mode=0o644):
     path.parent.mkdir(parents=True, exist_ok=True)
     path.write_bytes(data)
     path.chmod(mode)
 
 
-def script(tool):
+def read_script(tool):
     """A tool as a command of Debian's Python, which has the packages that it needs."""
     first, rest = (made_of.TOP / "tools" / tool).read_bytes().split(b"\n", 1)
     assert first == b"#!/usr/bin/env -S python3 -I -S", first
@@ -110,45 +110,45 @@ def write_manual(folder, files):
     room.mkdir()
     made = site.build(own, drawn, room)
     for path in (path for path in made.rglob("*") if path.is_file()):
-        write(folder / MANUAL / path.relative_to(made), path.read_bytes())
+        write_file(folder / MANUAL / path.relative_to(made), path.read_bytes())
 
 
 def run_gzip(data):
     return subprocess.run(["gzip", "-9n"], input=data, stdout=subprocess.PIPE, env=made_of.environment(), check=True).stdout
 
 
-def make(clone, folder, totals):
+def make_tree(clone, folder, totals):
     """Makes the files of the package in a folder. `totals` are those of the check, or None."""
-    files = taken(clone)
+    files = sources_by_target(clone)
     held = {*files, *LINKS}
     for target, name in files.items():
         data = run_for_definitions() if name == DEFINITIONS else (made_of.TOP / name).read_bytes()
         mode = 0o755 if target in PROGRAMS or name.endswith(".sh") else 0o644
-        write(folder / target, page(data, target, held) if name.endswith(".md") else data, mode)
+        write_file(folder / target, page(data, target, held) if name.endswith(".md") else data, mode)
     for tool in TOOLS:
-        write(folder / PYTHON / tool, script(tool), 0o755)
+        write_file(folder / PYTHON / tool, read_script(tool), 0o755)
     with_version = (made_of.TOP / HERE / "dam.pc").read_text(encoding="utf-8").replace("VERSION", clone.version)
-    write(folder / LIBRARY / "pkgconfig" / "dam.pc", with_version.encode())
-    for name, data in metadata(clone.version).items():
-        write(folder / name, data)
+    write_file(folder / LIBRARY / "pkgconfig" / "dam.pc", with_version.encode())
+    for name, data in read_metadata(clone.version).items():
+        write_file(folder / name, data)
     subprocess.run(["strip", "--strip-unneeded", *(folder / name for name in STRIPPED)], env=made_of.environment(), check=True)
-    write(folder / DOC / "changelog.gz", run_gzip(changelog.text(clone.seconds).encode()))
+    write_file(folder / DOC / "changelog.gz", run_gzip(changelog.read_changelog_text(clone.seconds).encode()))
     for name, target in LINKS.items():
         (folder / name).parent.mkdir(parents=True, exist_ok=True)
         (folder / name).symlink_to(target)
     room = folder.parent / "pages"
     room.mkdir()
-    helps = pages.helps(folder / "bin")
-    for target, data in shells.made(helps).items():
-        write(folder / target, data)
+    helps = pages.run_for_helps(folder / "bin")
+    for target, data in shells.completions_by_place(helps).items():
+        write_file(folder / target, data)
     for name, data in pages.run_for_pages(helps, clone, room).items():
-        write(folder / "share/man/man1" / f"{name}.1.gz", run_gzip(data))
+        write_file(folder / "share/man/man1" / f"{name}.1.gz", run_gzip(data))
     for name, data in formats.run_for_pages(clone.version).items():
-        write(folder / "share/man/man5" / f"{name}.5.gz", run_gzip(data))
+        write_file(folder / "share/man/man5" / f"{name}.5.gz", run_gzip(data))
     write_manual(folder, files)
-    told = provenance(clone, folder, totals)
-    write(folder / PROVENANCE, (json.dumps(told, indent=2) + "\n").encode())
-    settle(folder, clone.seconds)
+    told = read_provenance(clone, folder, totals)
+    write_file(folder / PROVENANCE, (json.dumps(told, indent=2) + "\n").encode())
+    set_times_and_modes(folder, clone.seconds)
 
 
 def recorded_of(clone, name):
@@ -156,7 +156,7 @@ def recorded_of(clone, name):
     return {key: it for key, it in clone.records[name].items() if key != "sources"}
 
 
-def provenance(clone, folder, totals):
+def read_provenance(clone, folder, totals):
     """The sources of a package, and the sum of each of its files but this one."""
     files = sorted(path for path in folder.rglob("*") if path.is_file() and not path.is_symlink())
     return {
@@ -168,12 +168,12 @@ def provenance(clone, folder, totals):
         "built": {target: recorded_of(clone, name) for target, name in TAKEN.items() if name in clone.records},
         "sources": {crate: it for told in clone.records.values() for crate, it in sorted(told["sources"].items())},
         "check": totals,
-        "made_with": {**made_of.made_with(), "mkdocs": site.generator(folder / MANUAL)},
+        "made_with": {**made_of.run_for_versions(), "mkdocs": site.generator(folder / MANUAL)},
         "sha256": {os.fspath(path.relative_to(folder)): read_file_sum(path) for path in files},
     }
 
 
-def settle(folder, seconds):
+def set_times_and_modes(folder, seconds):
     """Gives every file and folder the commit's time, and every folder the usual mode."""
     for path in [folder, *folder.rglob("*")]:
         if path.is_dir() and not path.is_symlink():

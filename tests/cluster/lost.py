@@ -55,7 +55,7 @@ def wait_for(found, what):
 
 
 @contextlib.contextmanager
-def started_scheduler(folder):
+def running_scheduler(folder):
     """A scheduler, and its address."""
     log = folder / "scheduler"
     words = [sys.executable, "-m", "distributed.cli.dask_scheduler", "--host", "127.0.0.1", "--port", "0", "--no-dashboard"]
@@ -102,7 +102,7 @@ def stop_one(processes):
 
 
 def check_without_workers(counts, folder, program):
-    with started_scheduler(folder) as (_, address), running_whatif(folder, address, program) as running:
+    with running_scheduler(folder) as (_, address), running_whatif(folder, address, program) as running:
         check_ended(counts, "no workers", running, 3, f"whatif: the cluster {address} has no workers\n", SECONDS)
 
 
@@ -111,7 +111,7 @@ def check_in_the_middle(counts, folder, program, what, deed, status, said, withi
     words = [sys.executable, "-m", "distributed.cli.dask_worker", "--nworkers", "2", "--nthreads", "1", "--no-dashboard"]
     own = {**os.environ, "PYTHONPATH": str(TOP / "tools"), "DAM": str(write_slow_program(folder, program))}
     own.pop("DAM_LIBRARY", None)
-    with started_scheduler(folder) as (ruling, address), open(os.devnull, "wb") as null:
+    with running_scheduler(folder) as (ruling, address), open(os.devnull, "wb") as null:
         with running_process([*words, "--local-directory", folder, address], stdout=null, stderr=null, env=own) as working:
             (folder / "mark").unlink(missing_ok=True)
             with running_whatif(folder, address, program) as running:

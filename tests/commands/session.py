@@ -55,7 +55,8 @@ def make_environment(home, more, root=Path("/")):
     browser.write_text(BROWSER)
     browser.chmod(0o755)
     kept = {name: os.environ[name] for name in ("LANG", "LC_ALL", "TZ") if name in os.environ}
-    own = {"HOME": str(path_inside(home, root)), "BROWSER": f"{path_inside(browser, root)} %s", "PORT": str(find_free_port()), "VERSION": VERSION}
+    own = {"HOME": str(path_inside(home, root)), "BROWSER": f"{path_inside(browser, root)} %s"}
+    own |= {"PORT": str(find_free_port()), "VERSION": VERSION}
     return {**kept, **own, **more}
 
 
@@ -129,14 +130,16 @@ def steps_or_raise(name, text, form):
             continue
         if at in given:
             yield PageStep(f"{about}: what it takes as given", given[at])
-        yield PageStep(about, edited_commands(runnable(block.kind, commands), scene.edits), block.quoted, says.get(at, ""), commands == block.commands)
+        made = edited_commands(runnable(block.kind, commands), scene.edits)
+        yield PageStep(about, made, block.quoted, says.get(at, ""), commands == block.commands)
         if at in then:
             yield PageStep(f"{about}: what came of it", then[at])
     if scene.spans:
         yield PageStep(f"{form}: {name}: what its sentences and tables take as given", scene.for_spans)
     for command, span in scene.spans.items():
         if kept_lines(command, left_out):
-            yield PageStep(f"{form}: {name}: {command}", with_status_test(edited_commands(as_in(form, command), scene.edits), span.status), says=span.says)
+            made = with_status_test(edited_commands(as_in(form, command), scene.edits), span.status)
+            yield PageStep(f"{form}: {name}: {command}", made, says=span.says)
 
 
 def runnable(kind, commands):
@@ -181,7 +184,7 @@ def is_line(line, wanted):
     return line.startswith(wanted.removesuffix(CUT)) if wanted.endswith(CUT) else line == wanted
 
 
-def run_commands(counts, name, reader, room):
+def run_and_check_commands(counts, name, reader, room):
     """Runs the commands of a page in the folder home of a room, and checks each block. Returns the outputs by the quoted ones."""
     try:
         made = list(steps_or_raise(name, (reader.pages / name).read_text(encoding="utf-8"), reader.form))

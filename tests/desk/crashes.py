@@ -160,7 +160,7 @@ class Crashes:
             elif parse_marked_lines(file.read_bytes()) != self.journal.marked(len(self.journal)):
                 self.note_fault(case, "the rest of the input isn't in the file as given")
 
-    def run(self, sample=None):
+    def check_moments(self, sample=None):
         """Opens a sample of the files by the program, or all, and looks at each of them. Returns the faults."""
         ran = self.run_whole_input()
         chosen, next_ones = [], []
@@ -191,8 +191,8 @@ class Crashes:
         for case, opened in zip(cases, self.desk.run_on_each([case.image for case in cases])):
             self.check_opened(case, opened, crash_again=self.rng.random() < OPENED_TWICE / max(OPENED_TWICE, self.opened))
 
-    def run_whole(self, sample=None):
-        self.run(sample)
+    def check_moments_and_repairs(self, sample=None):
+        self.check_moments(sample)
         self.check_repaired()
         return self.wrong
 
@@ -208,11 +208,11 @@ def draw_inputs(dam, whole):
             yield f"random day {seed}", journals.draw_input(dam, seed, journals.draw_day, 60)
 
 
-def run(counts, desk, dam, whole):
+def check_crashes(counts, desk, dam, whole):
     files = opened = second = killed = 0
     for about, given in draw_inputs(dam, whole):
         crashes = Crashes(desk, about, given, about)
-        wrong = crashes.run_whole(None if whole else 2_000)
+        wrong = crashes.check_moments_and_repairs(None if whole else 2_000)
         counts.passed += crashes.opened - min(crashes.opened, len(wrong))
         counts.failed += len(wrong)
         print("".join(f"differs: {line}\n" for line in wrong[:SHOWN]), end="")

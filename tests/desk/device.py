@@ -94,8 +94,8 @@ class DeskProgram:
             surroundings["DESK_REFUSE"] = " ".join(map(str, refusal))
         ours, theirs = start_feeding(batches_in_packets(batches))
         try:
-            ran = subprocess.run([*self.words, *words, str(file)], stdin=source or ours, stdout=stdout, stderr=subprocess.PIPE, env=surroundings,
-                                 timeout=SECONDS)
+            how = {"stdin": source or ours, "stdout": stdout, "stderr": subprocess.PIPE, "env": surroundings, "timeout": SECONDS}
+            ran = subprocess.run([*self.words, *words, str(file)], **how)
         finally:
             os.close(ours)
             theirs.join()

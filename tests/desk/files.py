@@ -87,7 +87,7 @@ def refused_files():
         yield about, file_of_records(*records), NOT_WRITTEN
 
 
-def run(counts, desk, dam, whole):
+def check_files(counts, desk, dam, whole):
     begun = time.monotonic()
     before = counts.passed + counts.failed
     files = FileTests(counts, desk, dam)
@@ -230,7 +230,8 @@ class FileTests:
         self.check_run("a folder that may only be read", self.run_on_text([file], **own), 4, b"", fault_of_error(13))
         self.check_run("a new file in such a folder", self.run_on_text([folder / "new"], **own), 4, b"", fault_of_error(13))
         self.check_run("--journal in such a folder", self.run_on_text(["--journal", file], **own), 0, DAY, b"")
-        self.counts.check("nothing was made", [it.name for it in folder.iterdir()] == ["plain"] and file.read_bytes() == file_of_records(DAY))
+        is_alone = [it.name for it in folder.iterdir()] == ["plain"]
+        self.counts.check("nothing was made", is_alone and file.read_bytes() == file_of_records(DAY))
 
     def check_command_lines(self):
         """Command lines that aren't the desk's."""
@@ -262,7 +263,8 @@ class FileTests:
         """A file of the greatest length, most of which doesn't count."""
         file = write_desk_file(self.desk.make_folder(), file_of_records(DAY).ljust(MOST))
         self.check_run("a file of the greatest length", self.run_on_text([file]), 0, b"day,24\n1,done\n", b"")
-        self.counts.check("a file of the greatest length holds both lines", parse_marked_lines(file.read_bytes()) == b"+" + DAY + b"+" + CLOSE)
+        held = parse_marked_lines(file.read_bytes())
+        self.counts.check("a file of the greatest length holds both lines", held == b"+" + DAY + b"+" + CLOSE)
         file.write_bytes((file_of_records(DAY) + b"\n" * 9).ljust(MOST, b"+"))
         self.check_run("a file with line ends after its mark", self.run_on_text([file]), 0, b"day,24\n1,done\n", b"")
         self.counts.check("a file with line ends after its mark is at rest", is_at_rest(file.read_bytes()))
@@ -273,7 +275,8 @@ class FileTests:
         for length in range(len(text) + 1):
             file = self.desk.make_folder() / "day.desk"
             reader = streams.expected_of(text[:length])
-            self.check_run(f"an input of {length} bytes", self.run_on_text([file], text[:length]), 0, b"".join(reader.run_dam_for_output(self.dam)), b"")
+            right = b"".join(reader.run_dam_for_output(self.dam))
+            self.check_run(f"an input of {length} bytes", self.run_on_text([file], text[:length]), 0, right, b"")
             marked = b"".join(b"+" + record for record in reader.records)
             self.counts.check(f"the file after {length} bytes", parse_marked_lines(file.read_bytes()) == marked)
 
@@ -379,7 +382,8 @@ class FileTests:
 
     def check_many_lines(self):
         """The same for more lines, which are all there at once: each read moves the two bytes of one."""
-        file, refusal = write_desk_file(self.desk.make_folder(), file_of_records(DAY)), " ".join(map(str, RefusedFileCalls(INPUT, 1, EVERY, most=2)))
+        file = write_desk_file(self.desk.make_folder(), file_of_records(DAY))
+        refusal = " ".join(map(str, RefusedFileCalls(INPUT, 1, EVERY, most=2)))
         got = self.run_on_text([file], b"A\n" * LINES, env=self.desk.environment_for(file, DESK_REFUSE=refusal))
         right = b"day,24\n" + b"".join(b"fault,%d,FieldCount\n" % number for number in range(1, LINES + 1))
         about = f"{LINES:,} lines in as many reads: status {got.status}, {got.stderr[:80]!r}, {got.stdout[-60:]!r}"

@@ -80,7 +80,7 @@ class Kills:
         process.stdout.close()
         return text
 
-    def run_round(self, may_be_at_once=True):
+    def check_round(self, may_be_at_once=True):
         if self.file is None:
             self.file, self.files = self.desk.make_folder() / "day.desk", self.files + 1
         before = self.read_held() or 0
@@ -120,12 +120,12 @@ def write_planted_desk(desk, dam_journal, room):
     return [sys.executable, "-B", str(EARLY), str(replies), *desk.words]
 
 
-def run(counts, desk, dam, whole):
+def check_kills(counts, desk, dam, whole):
     given = run_dam_for_journal(dam)
     begun, rounds = time.monotonic(), MANY if whole else ROUNDS
     kills = Kills(desk, desk.words, given, "kills")
     for _ in range(rounds):
-        kills.run_round()
+        kills.check_round()
     kills.check_last_file()
     counts.passed += rounds + 1 - min(rounds + 1, len(kills.wrong))
     counts.failed += len(kills.wrong)
@@ -134,7 +134,7 @@ def run(counts, desk, dam, whole):
     counts.check(f"{kills.unanswered} records were kept without an answer", not whole or kills.unanswered > 0)
     early = Kills(desk, write_planted_desk(desk, given, desk.room), given, "planted")
     for _ in range(PLANTED):
-        early.run_round(may_be_at_once=False)
+        early.check_round(may_be_at_once=False)
     counts.check(f"answers before the desk's are found by {PLANTED} kills", bool(early.wrong))
     print(f"kills: {rounds} of {kills.files} files, {kills.acknowledged:,} records acknowledged, {kills.unanswered:,} others kept; "
           f"{len(early.wrong)} of {PLANTED} find the planted early answers; {time.monotonic() - begun:.1f} s", flush=True)

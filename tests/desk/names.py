@@ -29,7 +29,7 @@ def run_new_again_and_journal(program, desk, records, refusal):
         yield run_for_instructions(program, words, data, refusal)
 
 
-def run(counts, desk, dam, whole):
+def check_names(counts, desk, dam, whole):
     if not shutil.which("valgrind"):
         counts.leave_out("a desk with names that collide: valgrind, which counts instructions, is missing", 1)
         return

@@ -108,7 +108,7 @@ class OpeningTests:
         self.counts.check(f"the journal of {about}: status {shown.status}, {shown.stderr[:80]!r}", is_right)
 
 
-def run(counts, desk, dam, whole):
+def check_openings(counts, desk, dam, whole):
     begun_at, before = time.monotonic(), counts.passed + counts.failed
     tests = OpeningTests(counts, desk, dam)
     for about, bytes_, after in files_with_calls():

@@ -24,11 +24,20 @@ from journals import DamProgram
 from shared.counts import Counts
 from shared.parts import parse_parts_or_exit
 
-PARTS = {"stand_ins": stand_ins, "crashes": crashes, "kills": kills, "refused": refused, "files": files, "openings": openings,
-         "streams": streams, "names": names, "shapes": shape_costs}  # fmt: skip
+PARTS = {
+    "stand_ins": stand_ins.check_stand_ins,
+    "crashes": crashes.check_crashes,
+    "kills": kills.check_kills,
+    "refused": refused.check_refused_calls,
+    "files": files.check_files,
+    "openings": openings.check_openings,
+    "streams": streams.check_streams,
+    "names": names.check_names,
+    "shapes": shape_costs.check_shape_costs,
+}
 
 
-def used_processor_time():
+def read_processor_time():
     both = (resource.getrusage(who) for who in (resource.RUSAGE_SELF, resource.RUSAGE_CHILDREN))
     return sum(used.ru_utime + used.ru_stime for used in both)
 
@@ -39,11 +48,11 @@ def main():
     counts, dam = Counts(), DamProgram(os.environ["DAM"])
     desk = DeskProgram([Path(room) / "dam-desk"], room)
     if asked.counts_only:
-        return shape_costs.write_counted(desk)
+        return shape_costs.run_and_write_tables(desk)
     for name in asked.names:
-        begun = time.monotonic(), used_processor_time()
-        PARTS[name].run(counts, desk, dam, asked.is_whole)
-        print(f"{name}: {time.monotonic() - begun[0]:.0f} s, {used_processor_time() - begun[1]:.0f} s of a processor", flush=True)
+        begun = time.monotonic(), read_processor_time()
+        PARTS[name](counts, desk, dam, asked.is_whole)
+        print(f"{name}: {time.monotonic() - begun[0]:.0f} s, {read_processor_time() - begun[1]:.0f} s of a processor", flush=True)
     return counts.print_totals()
 
 

@@ -126,7 +126,8 @@ class RunsWithRefusals(crashes.Crashes):
         """Whether the run wasn't disturbed by a short write. A write of nothing is a fault."""
         if refusal.most:
             return self.is_whole(refusal, ran)
-        line = b"file: the file can't be written: write zero\n" if refusal.kind == WRITE else b"device: write after %d bytes\n" % len(ran.stdout)
+        of_output = b"device: write after %d bytes\n" % len(ran.stdout)
+        line = b"file: the file can't be written: write zero\n" if refusal.kind == WRITE else of_output
         return ran.status == MACHINE and ran.stderr == line and self.is_front(ran.stdout, True)
 
     def refusals_with_checks(self, made):
@@ -141,7 +142,7 @@ class RunsWithRefusals(crashes.Crashes):
             for most in SHORT[1:]:
                 yield RefusedFileCalls(kind, 1, EVERY, 0, most), self.is_short
 
-    def run(self):
+    def check_refusals(self):
         """Refuses each call in turn, and returns the faults."""
         ran = self.desk.run(self.write_held_file(), self.given.batches)
         made = {}
@@ -177,7 +178,7 @@ class RunsWithoutMemory(RunsWithRefusals):
         self.runs += 1
         return made
 
-    def run(self):
+    def check_refusals(self):
         made = self.run_refusing_memory((EVERY, EVERY))
         if made < 10:
             self.wrong.append(f"{self.about}: {made} growths are counted")
@@ -275,12 +276,12 @@ def batches_after(given, held):
     return found
 
 
-def run(counts, desk, dam, whole):
+def check_refused_calls(counts, desk, dam, whole):
     runs = files = 0
     for about, given, start in draw_inputs(dam, whole):
         for kind in (RunsWithRefusals, RunsWithoutMemory):
             row = kind(desk, about, given, start)
-            wrong = row.run()
+            wrong = row.check_refusals()
             counts.passed += row.runs - min(row.runs, len(wrong))
             counts.failed += len(wrong)
             print("\n".join(f"differs: {line}" for line in wrong[: crashes.SHOWN]), end="\n" if wrong else "", flush=True)

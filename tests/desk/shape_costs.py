@@ -26,7 +26,7 @@ TORN = (20_000, 500_000, 10_000_000)  # bytes after the end of a file's lines
 DAY = b"day,24,,,,,,,\n"
 
 
-def yield_journals():
+def journals_by_name():
     """Yields a journal of each shape, each command and each refusal."""
     for shape in (shapes.SHORT, shapes.LONG, *shapes.OTHERS):
         first, kinds = list(shape.submits_of_book()), list(shapes.commands_by_name(shape))
@@ -34,7 +34,7 @@ def yield_journals():
             yield f"{shape.periods}: {about}", journal_text([*first, *itertools.islice(records, shapes.COMMANDS)], True, shape.periods)
 
 
-def yield_longer_journals():
+def longer_journals_by_name():
     """Yields a journal of each length of a day, and a full one."""
     for periods, count in COMMANDS.items():
         shape = shapes.Shape(periods, "BRAVO", "N-%d", False)
@@ -104,18 +104,21 @@ def run_for_costs_of_small_reads(program, desk):
 
 def run_for_costs(desk):
     program = HostileProgram(desk.words[0], desk.room)
-    tried = [(run_for_costs_of_journal, it) for it in yield_journals()] + [(run_for_costs_of_longer, it) for it in yield_longer_journals()]
-    tried += [(run_for_costs_of_torn, [count]) for count in TORN] + [(run_for_costs_of_lines, [length]) for length in LINES] + [(run_for_costs_of_small_reads, [])]
+    tried = [(run_for_costs_of_journal, it) for it in journals_by_name()]
+    tried += [(run_for_costs_of_longer, it) for it in longer_journals_by_name()]
+    tried += [(run_for_costs_of_torn, [count]) for count in TORN]
+    tried += [(run_for_costs_of_lines, [length]) for length in LINES]
+    tried.append((run_for_costs_of_small_reads, []))
     with ThreadPoolExecutor() as pool:
         found = pool.map(lambda it: list(it[0](program, desk, *it[1])), tried)
         return list(itertools.chain.from_iterable(found))
 
 
-def write_counted(desk):
+def run_and_write_tables(desk):
     write_tables(HERE, run_for_costs(desk))
 
 
-def run(counts, desk, dam, whole):
+def check_shape_costs(counts, desk, dam, whole):
     if shutil.which("valgrind"):
         check_costs(counts, HERE, run_for_costs(desk))
     else:

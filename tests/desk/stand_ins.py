@@ -19,7 +19,7 @@ IN_USE = b"file: another process has it\n"
 
 def find_by_crashes(desk, given):
     """The files that a crash leaves, opened and crashed again."""
-    return crashes.Crashes(desk, "crashes", given, "stand-ins").run(OPENED)
+    return crashes.Crashes(desk, "crashes", given, "stand-ins").check_moments(OPENED)
 
 
 def find_by_refused_syncs(desk, given):
@@ -42,7 +42,7 @@ def find_by_kills(desk, given):
     """Kills at random moments. Whether one finds a fault depends on the load of the machine, so it may take several."""
     row = kills.Kills(desk, desk.words, given.journal, "stand-ins")
     for _ in range(MOST_KILLS if desk.surroundings["STAND_IN"] else KILLS):
-        row.run_round(may_be_at_once=False)
+        row.check_round(may_be_at_once=False)
         if row.wrong:
             break
     return row.wrong
@@ -93,7 +93,7 @@ def draw_inputs(dam):
     return short, journals.DeskInput(journals.Journal(records, dam), [b"".join(records)], [True] * len(records))
 
 
-def run(counts, desk, dam, _):
+def check_stand_ins(counts, desk, dam, _):
     begun = time.monotonic()
     short, long = draw_inputs(dam)
 

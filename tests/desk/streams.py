@@ -22,8 +22,10 @@ from lib.journal import journal as format_of
 IN_USE = b"file: another process has it\n"
 LONGEST = 65_536  # bytes of a line
 FEW, MANY = 300, 1_000
-MUTATIONS = [hostile.draw_front, hostile.draw_rest, hostile.with_insertion, hostile.with_gap, hostile.with_changed_byte, hostile.with_number,
-             hostile.on_fields(hostile.in_quotes), hostile.on_fields(hostile.with_odd_quotes)]  # fmt: skip
+MUTATIONS = [
+    hostile.draw_front, hostile.draw_rest, hostile.with_insertion, hostile.with_gap, hostile.with_changed_byte, hostile.with_number,
+    hostile.on_fields(hostile.in_quotes), hostile.on_fields(hostile.with_odd_quotes),
+]  # fmt: skip
 
 
 class LineFault(Exception):
@@ -167,10 +169,10 @@ class RandomStreams:
         expected = reader.run_dam_for_output(self.dam)
         self.lines, self.entries = self.lines + len(expected), self.entries + reader.entries
         self.faults += sum(line.startswith(b"fault,") for line in expected)
-        yield from self.run_whole(rng, text, reader, expected)
-        yield from self.run_halves(rng, text, reader, expected)
+        yield from self.run_for_faults_of_whole(rng, text, reader, expected)
+        yield from self.run_for_faults_of_halves(rng, text, reader, expected)
 
-    def run_whole(self, rng, text, reader, expected):
+    def run_for_faults_of_whole(self, rng, text, reader, expected):
         file = self.desk.make_folder() / "day.desk"
         ran = self.desk.run(file, draw_cuts(rng, text))
         if (ran.status, ran.stdout, ran.stderr) != (0, b"".join(expected), b""):
@@ -188,7 +190,7 @@ class RandomStreams:
         if (printed.returncode, printed.stdout, printed.stderr) != (0, b"".join(reader.records), b""):
             yield f"--journal: status {printed.returncode}, {printed.stderr[:80]!r}, {printed.stdout[-80:]!r}"
 
-    def run_halves(self, rng, text, reader, expected):
+    def run_for_faults_of_halves(self, rng, text, reader, expected):
         """The same input in two runs, which both number their lines from 1."""
         lines = text.split(b"\n")
         half = rng.randrange(len(lines))
@@ -302,7 +304,7 @@ def check_many_starts(counts, desk, given):
     counts.check(f"eight desks at once: statuses {[it[0] for it in ends]}", ends == right)
 
 
-def run(counts, desk, dam, whole):
+def check_streams(counts, desk, dam, whole):
     begun, streams = time.monotonic(), RandomStreams(desk, dam)
     count = MANY if whole else FEW
     with ThreadPoolExecutor(desk.jobs) as pool:

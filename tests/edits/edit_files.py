@@ -1,9 +1,8 @@
 """The edits of must-fail/ and wrong-bodies/: each makes a wrong text of a right one.
 
-A file of must-fail/ is one edit. A file of wrong-bodies/ has several, each below a line with its name and in the order of their first source
-files and their names, or is one, too. The file
-tests/rattle/wrong-bodies.edit has those that contracts allow and a test finds. There a line 'test: CRATE TEST' names the test, and the
-paths begin with crates/CRATE/."""
+A file of must-fail/ is one edit. A file of wrong-bodies/ has several, each below a line with its name and in the order of their first
+source files and their names, or is one, too. The file tests/rattle/wrong-bodies.edit has those that contracts allow and a test finds. There
+a line 'test: CRATE TEST' names the test, and the paths begin with crates/CRATE/."""
 
 import os
 import re

@@ -73,7 +73,8 @@ class Edits(unittest.TestCase):
         low, high = edit("MOST - 4", "2"), edit("MOST - 1", "MOST")
         above = edit("MOST - 4", "2", "src/above.rt")
         good = f"name: z\n{above}name: high\n{high}name: low\n{low}"
-        for text, misplaced in (good, {}), (f"name: low\n{low}name: high\n{high}", {"high": "low"}), (f"{good}name: a\n{above}", {"a": "low"}):
+        turned = f"name: low\n{low}name: high\n{high}"
+        for text, misplaced in (good, {}), (turned, {"high": "low"}), (f"{good}name: a\n{above}", {"a": "low"}):
             write_text(f"{self.crate}/wrong-bodies/all.edit", text)
             faults = {it.name: it.fault for it in read_edits(self.crate, ("wrong-bodies",)) if it.fault}
             wanted = {name: f"it stands after {other}, and not in the order of files and names" for name, other in misplaced.items()}
@@ -102,7 +103,8 @@ class Edits(unittest.TestCase):
 
     def test_faults_of_a_file_of_several_edits(self):
         body = edit("MOST - 4", "2")
-        write_text(f"{self.crate}/wrong-bodies/all.edit", f"{body}name: b\n{body}name: b\n{body}name: c\nname:\n{body}name: d\n{edit('no', 'x')}")
+        text = f"{body}name: b\n{body}name: b\n{body}name: c\nname:\n{body}name: d\n{edit('no', 'x')}"
+        write_text(f"{self.crate}/wrong-bodies/all.edit", text)
         found = [(it.name, it.place.partition(":")[2], it.fault) for it in read_edits(self.crate, ("wrong-bodies",))]
         self.assertEqual(found, [
             ("", "13", "a 'name:' line names nothing"),
@@ -158,7 +160,10 @@ class EditsThatTestsFind(unittest.TestCase):
             (self.GOOD + self.GOOD, "it has no name, or another's"),
             ("x\n" + self.GOOD, "it has no name, or another's"),
             (self.GOOD + other.replace("test: b_tests low::is_1\n", ""), "it needs one 'test:' line, and 'file:' lines of one crate"),
-            (self.GOOD + other + edit("MOST - 1", "MOST", "crates/b/src/lib.rt"), "it needs one 'test:' line, and 'file:' lines of one crate"),
+            (
+                self.GOOD + other + edit("MOST - 1", "MOST", "crates/b/src/lib.rt"),
+                "it needs one 'test:' line, and 'file:' lines of one crate",
+            ),
             (self.GOOD + other.replace("MOST - 4", "MOST - 5"), "an 'old:' text stands 0 times in src/lib.rt, and not once: MOST - 5"),
         ]:
             with self.subTest(text=text):

@@ -89,7 +89,10 @@ IMPLS = {
     "mod plain": "plain::go",
 }
 OWNED = "pub struct Hour {\n    step: Step,\n}\n\nimpl Hour {\n    fn len(&self) -> u64 { 0 }\n}\n"
-MORE = "use crate::hour::Hour;\nimpl Hour {\n    fn len(&self) -> u64 { 0 }\n}\nimpl Len for Hour {\n    fn more(&self) {}\n}\nfn free() {}\n"
+MORE = (
+    "use crate::hour::Hour;\nimpl Hour {\n    fn len(&self) -> u64 { 0 }\n}\n"
+    "impl Len for Hour {\n    fn more(&self) {}\n}\nfn free() {}\n"
+)
 
 
 class Names(unittest.TestCase):

@@ -146,12 +146,12 @@ class Trial:
 
     def run_check(self, what):
         """Checks the crate as its files are now, and says how long that took."""
-        began, before = time.time(), used_processor_time()
+        began, before = time.time(), read_processor_time()
         printed = subprocess.run(
             self.command, cwd=self.folder, stdin=subprocess.DEVNULL, stdout=subprocess.PIPE, stderr=subprocess.STDOUT, errors="replace"
         ).stdout
         self.checks += 1
-        took, used = time.time() - began, used_processor_time() - before
+        took, used = time.time() - began, read_processor_time() - before
         print(f"{self.crate}: {what}: checked in {took:.0f} s ({used:.0f} s of a processor)", flush=True)
         if self.logs:
             os.makedirs(self.logs, exist_ok=True)
@@ -163,7 +163,7 @@ class NotProved(Exception):
     """The last output of a check about a crate that is not proved as it stands."""
 
 
-def used_processor_time():
+def read_processor_time():
     """Returns the seconds of a processor that the checks took so far."""
     used = resource.getrusage(resource.RUSAGE_CHILDREN)
     return used.ru_utime + used.ru_stime

@@ -44,7 +44,7 @@ def periods_by_hour(periods):
 
 
 class Profiles:
-    """What draws the volumes of a day's blocks, as a number for each period, as users have them: over the whole day, its peak or its night, by
+    """Draws the volumes of a day's blocks, as a number for each period, as users have them: over the whole day, its peak or its night, by
     one shape, by the hour, or in each period. Many periods have the same volumes then, some of them by chance, and some all but one."""
 
     def __init__(self, rng, periods, volume):
@@ -53,7 +53,8 @@ class Profiles:
         self.sizes = [volume() for _ in range(rng.choice([1, 2, 4, 30]))]
         self.shape = {hour: rng.randint(1, 3) for hour in range(len(self.hours))}
         every = [self.draw_base, self.draw_peak, self.draw_night, self.draw_span, self.draw_shaped, self.draw_by_hour, self.draw_by_period]
-        self.kinds = rng.choice([[self.draw_base], [self.draw_base, self.draw_peak, self.draw_night], [self.draw_shaped], rng.sample(every, 2), every])
+        usual = [self.draw_base, self.draw_peak, self.draw_night]
+        self.kinds = rng.choice([[self.draw_base], usual, [self.draw_shaped], rng.sample(every, 2), every])
         self.change = rng.choice([0, 0, 0.2, 0.6])
 
     def draw(self):
@@ -149,7 +150,7 @@ class Draft:
         idle, pairs = rng.choice([0] * 7 + [1, self.periods // 2, self.periods]), rng.choice([1, 2, 4])
         for period in rng.sample(self.active, self.periods - idle):
             for side in ["buy", "sell"] * pairs:
-                self.add_hour_of(*self.next_name("H"), side, period)
+                self.add_hour_of(*self.take_next_name("H"), side, period)
         self.hourly = rng.choice([0, 5, self.periods])
         self.profiles = Profiles(rng, self.periods, self.block_volume)
         if market == "wide":
@@ -164,9 +165,9 @@ class Draft:
         """A name that may be taken, now and then by the participant itself."""
         if self.named and self.rng.random() < 0.04:
             return self.rng.choice(self.named)
-        return self.next_name(prefix)
+        return self.take_next_name(prefix)
 
-    def next_name(self, prefix):
+    def take_next_name(self, prefix):
         who = self.rng.choice(self.participants)
         # A number of the participant's own: others have orders of the same names.
         return who, f"{prefix}{1 + self.numbers[who]}"

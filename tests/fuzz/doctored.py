@@ -95,7 +95,8 @@ def write_and_audit(folder, data, text):
     for path, content in zip(paths, (data, text)):
         path.write_bytes(content)
     options = argparse.Namespace(
-        journal=str(paths[0]), results=str(paths[1]), best=True, by=None, seconds=60, jobs=None, replies=False, sent=None, head=None, quiet=True
+        journal=str(paths[0]), results=str(paths[1]), best=True, by=None, seconds=60, jobs=None, replies=False, sent=None, head=None,
+        quiet=True,
     )
     audit = verdict.Audit(options)
     try:
@@ -155,7 +156,8 @@ def with_end_cut(rng, data):
 
 def draw_doctored(rng, data):
     """In words what was changed, and the changed text."""
-    return rng.choice([with_changed_byte, with_changed_field, with_changed_field, with_changed_line, with_changed_line, with_end_cut])(rng, data)
+    changes = [with_changed_byte, with_changed_field, with_changed_field, with_changed_line, with_changed_line, with_end_cut]
+    return rng.choice(changes)(rng, data)
 
 
 def draw_other_encoding(rng, data):
@@ -173,8 +175,8 @@ def draw_other_encoding(rng, data):
 
 
 def decoded_or_none(data):
-    """The text in the encoding of results, without what concerns only how it is encoded; None if it isn't one. Python's own modules read it,
-    and nothing of `lib`."""
+    """The text in the encoding of results, without what concerns only how it is encoded; None if it isn't one. Python's own modules read
+    it, and nothing of `lib`."""
     for mark, encoding in ((b"\xef\xbb\xbf", "utf-8-sig"), (b"\xff\xfe", "utf-16"), (b"\xfe\xff", "utf-16")):
         if data.startswith(mark):
             break
@@ -224,7 +226,7 @@ def draw_changed_pair(rng, pairs, data, text):
     return data, other, f"{words} of the results"
 
 
-def fault_of_audit(folder, pairs, data, text):
+def run_for_fault_of_audit(folder, pairs, data, text):
     """The fault of the audit of a pair; nothing if all is right."""
     right = run_for_right_status(pairs, data, text)
     try:
@@ -248,7 +250,7 @@ def main():
             pairs.other = pairs.draw_cleared(random.Random(f"other {args.seed} {number}"))
             pair = pairs.draw_cleared(rng)
             data, text, words = draw_changed_pair(rng, pairs, *pair)
-            status, wrong = fault_of_audit(folder, pairs, data, text)
+            status, wrong = run_for_fault_of_audit(folder, pairs, data, text)
             seen[status] += 1
             if wrong:
                 failed += 1

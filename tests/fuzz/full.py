@@ -6,8 +6,8 @@ with only two orders of each side in a period; one with a single price; one whos
 net volumes; and one with all hourly orders in one period. In every second book each block has another volume in each
 period. The blocks are free, linked, in groups, or both. Three of the books come from journals of 10,000 commands, which amend and cancel
 orders, submit them again, and submit orders that the book refuses; the replies to these journals are compared too. Each book is cleared
-under three plans, whose results must be equal, with a limit of a few nodes, which either changes nothing or ends the search, and with one of
-a node, which ends it in a piece that is known. The last line is 'N passed, M failed'."""
+under three plans, whose results must be equal, with a limit of a few nodes, which either changes nothing or ends the search, and with one
+of a node, which ends it in a piece that is known. The last line is 'N passed, M failed'."""
 
 import argparse
 import math

@@ -10,8 +10,9 @@ LIMITS = [rules.LOWEST_PRICE, rules.HIGHEST_PRICE, rules.GREATEST_VOLUME, *rules
 FIELDS = [
     b"", b"-0", b"+1", b"007", b"00", b"0", b"-", b"1", b"26", b"96", b"101",
     *(b"%d" % cents for cents in (rules.HIGHEST_PRICE, rules.HIGHEST_PRICE + 1, rules.LOWEST_PRICE, rules.LOWEST_PRICE - 1)),
-    b"99999999999999999999", b"9" * 5_000, b"1:1;1:1", b"2:1;1:1", b"1:1;", b";1:1", b"1:", b":1", b"1:0", b"0:1", b"26:1", b"101:1", b"100:99999", b"1:100000", b"1:1:1",
-    b"1:01", b"day", b"submit", b"amend", b"cancel", b"close", b"Close", b"hour", b"block", b"buy", b"sell", b"SELL", b"ABCDEFGH",
+    b"99999999999999999999", b"9" * 5_000, b"1:1;1:1", b"2:1;1:1", b"1:1;", b";1:1", b"1:", b":1", b"1:0", b"0:1", b"26:1", b"101:1",
+    b"100:99999", b"1:100000", b"1:1:1", b"1:01",
+    b"day", b"submit", b"amend", b"cancel", b"close", b"Close", b"hour", b"block", b"buy", b"sell", b"SELL", b"ABCDEFGH",
     b"ABCDEFGHI", b"ABCDEFGHIJKL", b"ABCDEFGHIJKLM", b"A1", b"a", b"A B", b"A-1", b'"', b'""', b'"x"y', b'a"b', b'"a,b"', b'"a\nb"',
     b"\xef\xbb\xbf", b"\xc3\xa9",
 ]  # fmt: skip
@@ -123,9 +124,11 @@ def with_other_end(rng, line):
 
 
 CHANGES = [
-    draw_front, draw_rest, with_insertion, with_insertion, with_gap, with_changed_byte, with_changed_byte, with_part_doubled, with_quotes_anywhere, with_lines_shuffled, on_lines(with_other_end),
+    draw_front, draw_rest, with_insertion, with_insertion, with_gap, with_changed_byte, with_changed_byte, with_part_doubled,
+    with_quotes_anywhere, with_lines_shuffled, on_lines(with_other_end),
     on_fields(lambda rng, field: rng.choice(FIELDS)), on_fields(lambda rng, field: rng.choice(FIELDS)),
-    with_number, with_number, on_lines(widened_line), on_fields(in_quotes), on_fields(with_odd_quotes), on_fields(with_insertion), on_fields(with_gap),
+    with_number, with_number, on_lines(widened_line), on_fields(in_quotes), on_fields(with_odd_quotes), on_fields(with_insertion),
+    on_fields(with_gap),
 ]  # fmt: skip
 
 

@@ -58,7 +58,7 @@ class RetryingRuns:
         begun = {1 + at * first // SPREAD for at in range(SPREAD)} if first else set()
         return sorted(begun | set(range(first + 1, total + 2)))
 
-    def run_row(self, row):
+    def check_row(self, row):
         """Refuses one call for memory after another. The first ones come before the row's calls; the others come from these, each of
         which is refused once and then answered."""
         check = self.runs.check
@@ -168,7 +168,7 @@ def check_copies_of_books(runs, room):
         runs.check(about, counts == least)
 
 
-def run_rows(runs, room, rows):
+def check_rows(runs, room, rows):
     runs.check("dam_refusals is built", REFUSALS.exists())
     if not REFUSALS.exists():
         return
@@ -176,6 +176,6 @@ def run_rows(runs, room, rows):
     refusals = RetryingRuns(runs, room)
     again, count = 0, 0
     for row in rows:
-        again += refusals.run_row(row)
+        again += refusals.check_row(row)
         count += 1
     print(f"memory refused to the calls of {count} rows: {again} calls made again", flush=True)

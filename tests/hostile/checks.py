@@ -34,7 +34,8 @@ def check_devices(runs):
     """Standard streams that are closed or full, or that no program reads."""
     for words, data in [(["replay"], AUCTION), (["clear"], AUCTION), (["day"], OPEN_AUCTION), (["--help"], b"")]:
         runs.check(f"{words[0]} to a closed stream", is_failed_write(run_with_closed_stream(runs.program, words, data, ">&-")))
-        runs.check(f"{words[0]} with no standard error", run_with_closed_stream(runs.program, words, data, ">&- 2>&-").status == judge.MACHINE)
+        status = run_with_closed_stream(runs.program, words, data, ">&- 2>&-").status
+        runs.check(f"{words[0]} with no standard error", status == judge.MACHINE)
         if data:
             runs.check(f"{words[0]} of a closed stream", run_with_closed_stream(runs.program, words, data, "<&-") == judge.READ)
         with open("/dev/full", "wb") as full:

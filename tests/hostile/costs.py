@@ -98,7 +98,8 @@ def check_seed_bytes(runs):
 
     counts = list(runs.pool.map(lambda it: run(*it), asked))
     slow, quick = counts[: len(engines)], counts[len(engines) :]
-    took = f"names that collide under the seed of given random bytes take {min(slow) / max(quick):.1f} times as long as if a byte is another"
+    times = min(slow) / max(quick)
+    took = f"names that collide under the seed of given random bytes take {times:.1f} times as long as if a byte is another"
     print(took, flush=True)
     runs.check(f"{took}: {slow}, {quick}", min(slow) > TIMES * max(quick))
 

@@ -1,4 +1,5 @@
-"""parts.py ROOM PROGRAM [--all | --count] [PART..]: runs the parts of the tests of a hostile system, with ROOM/refuse.so and ROOM/collide."""
+"""parts.py ROOM PROGRAM [--all | --count] [PART..]: runs the parts of the tests of a hostile system, with ROOM/refuse.so and
+ROOM/collide."""
 
 import shutil
 import sys
@@ -19,21 +20,21 @@ from shared.parts import parse_parts_or_exit
 from shared.preload import HostileProgram
 
 
-def run_memory(runs):
-    runs.run_rows("memory refused once in the worked cases", rows.rows_of_cases())
-    runs.run_rows("memory refused from one call on in the worked cases", rows.rows_of_cases_without_memory())
-    runs.run_rows("memory refused in days and other runs", rows.rows_of_memory())
+def check_memory(runs):
+    runs.check_rows("memory refused once in the worked cases", rows.rows_of_cases())
+    runs.check_rows("memory refused from one call on in the worked cases", rows.rows_of_cases_without_memory())
+    runs.check_rows("memory refused in days and other runs", rows.rows_of_memory())
 
 
-def run_calls(runs):
-    runs.run_rows("threads refused", rows.rows_of_threads())
-    runs.run_rows("random bytes refused", rows.rows_of_random_bytes())
-    runs.run_rows("reads and writes that fail", rows.rows_of_devices())
+def check_calls(runs):
+    runs.check_rows("threads refused", rows.rows_of_threads())
+    runs.check_rows("random bytes refused", rows.rows_of_random_bytes())
+    runs.check_rows("reads and writes that fail", rows.rows_of_devices())
     checks.check_devices(runs)
 
 
-def run_retries(runs):
-    again.run_rows(runs, runs.program.room, rows.rows_of_calls(runs.program))
+def check_retries(runs):
+    again.check_rows(runs, runs.program.room, rows.rows_of_calls(runs.program))
 
 
 def check_texts(runs):
@@ -58,9 +59,9 @@ def check_shapes(runs):
 
 
 PARTS = {
-    "memory": run_memory,
-    "calls": run_calls,
-    "retries": run_retries,
+    "memory": check_memory,
+    "calls": check_calls,
+    "retries": check_retries,
     "threads": check_threads,
     "texts": check_texts,
     "books": check_books,

@@ -46,7 +46,8 @@ def faulty_texts():
     yield "one field with doubled quotes", filled_text(DAY_RECORD + b'"', b"A" * 1_000 + b'""', b'"'), line
     yield "one field, quoted in part", filled_text(DAY_RECORD + b'"A"', b"A"), line
     yield "quotes alone", filled_text(b"", b'"'), b"input: NotDay\n"
-    yield "a long name", filled_text(DAY_RECORD + b'cancel,A,"', b"A" * 1_000 + b'""', b'",,,,,,\n'), b"input: BadField in record 2 field 3\n"
+    long_name = filled_text(DAY_RECORD + b'cancel,A,"', b"A" * 1_000 + b'""', b'",,,,,,\n')
+    yield "a long name", long_name, b"input: BadField in record 2 field 3\n"
     yield "many records", filled_text(DAY_RECORD, CLOSE), b"input: TooManyRecords\n"
     last = DAY_RECORD + CLOSE * (rules.MOST_RECORDS - 2) + CLOSE.replace(b"\n", b"x\n")
     yield "a bad field in the last record", filled_text(last, b"\n"), b"input: BadField in record %d field 9\n" % rules.MOST_RECORDS
@@ -85,7 +86,8 @@ def long_journals():
     yield "a full book, closed", short + CLOSE, [REPLAY, CLEAR]
     yield "short commands", DAY_RECORD + b"cancel,A,X,,,,,,\n" * rules.MOST_DAY_COMMANDS, [REPLAY, DAY]
     whose = itertools.cycle(b",%c," % code for code in b"ABCDEFGH"[: rules.MOST_DAY_PARTICIPANTS])
-    shared = b"".join([DAY_RECORD, *(record.replace(b",A,", who, 1) for record, who in zip(hourly_submits(rules.MOST_DAY_COMMANDS), whose))])
+    submits = zip(hourly_submits(rules.MOST_DAY_COMMANDS), whose)
+    shared = b"".join([DAY_RECORD, *(record.replace(b",A,", who, 1) for record, who in submits)])
     yield "commands of all participants by turns", shared, [REPLAY, DAY]
     few = b"".join([DAY_RECORD, *(b"cancel,%c,X,,,,,,\n" % code for code in b"ABCDEFGH"[: rules.MOST_DAY_PARTICIPANTS])])
     yield "a command of each participant", few, [REPLAY, DAY]

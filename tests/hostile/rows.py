@@ -86,16 +86,20 @@ CLOSED_FIRST = DAY + CLOSE + b"submit,A,B1,hour,buy,5000,1:10,,\namend,A,B1,,,50
 CUTTINGS = [["--workers", "1", "--cut", "0"], ["--workers", "2", "--cut", "3"], ["--workers", "8", "--cut", "8"]]
 
 
+def row_of_growths(about, words, data, **how):
+    return RowOfRuns(about, words, data, "memory", judge.is_right_without_memory, **how)
+
+
 def rows_of_cases():
     """One call for memory refused in the worked cases: each in turn, but in a few large ones."""
     for about, words, data in read_worked_cases():
-        yield RowOfRuns(f"{about}, one growth", words, data, "memory", judge.is_right_without_memory, each=SMALL)
+        yield row_of_growths(f"{about}, one growth", words, data, each=SMALL)
 
 
 def rows_of_cases_without_memory():
     """All calls for memory refused from one on, in the worked cases."""
     for about, words, data in read_worked_cases():
-        yield RowOfRuns(f"{about}, all growths from one on", words, data, "memory", judge.is_right_without_memory, last=EVERY, each=0, some=8)
+        yield row_of_growths(f"{about}, all growths from one on", words, data, last=EVERY, each=0, some=8)
 
 
 def rows_of_memory():
@@ -123,8 +127,8 @@ def rows_of_memory():
                for plan in CUTTINGS for word, data in [("clear", AUCTION), ("day", OPEN_AUCTION)]]
     for about, words, data, some in inputs:
         each = ANY if some == ANY else FEW
-        yield RowOfRuns(f"{about}, one growth", words, data, "memory", judge.is_right_without_memory, each=each, some=some)
-        yield RowOfRuns(f"{about}, all growths from one on", words, data, "memory", judge.is_right_without_memory, last=EVERY, each=each, some=some // 2)
+        yield row_of_growths(f"{about}, one growth", words, data, each=each, some=some)
+        yield row_of_growths(f"{about}, all growths from one on", words, data, last=EVERY, each=each, some=some // 2)
 
 
 def rows_of_calls(program):
@@ -161,14 +165,15 @@ def rows_of_devices():
     for words, data, each in jobs:
         for most in [0, 1, 64]:
             about = f"{words[0]} of {len(data)} bytes, " + (f"{most} at a time" if most else "as they come")
+            how = {"most": most, "each": each}
             for error in [errno.EIO, errno.EINTR, errno.EAGAIN]:
                 named = errno.errorcode[error]
-                yield RowOfRuns(f"{about}, a read with {named}", words, data, "read", judge.is_right_after_read, error=error, most=most, each=each)
-            yield RowOfRuns(f"{about}, a read of 0 bytes", words, data, "read", is_right_at_end_of_input, most=most, each=each)
+                yield RowOfRuns(f"{about}, a read with {named}", words, data, "read", judge.is_right_after_read, error=error, **how)
+            yield RowOfRuns(f"{about}, a read of 0 bytes", words, data, "read", is_right_at_end_of_input, **how)
             for error in [errno.EIO, errno.ENOSPC, errno.EINTR, errno.EAGAIN]:
                 named = errno.errorcode[error]
-                yield RowOfRuns(f"{about}, a write with {named}", words, data, "write", judge.is_right_after_write, error=error, most=most, each=each)
-            yield RowOfRuns(f"{about}, a write of 0 bytes", words, data, "write", judge.is_right_after_write, most=most, each=each)
+                yield RowOfRuns(f"{about}, a write with {named}", words, data, "write", judge.is_right_after_write, error=error, **how)
+            yield RowOfRuns(f"{about}, a write of 0 bytes", words, data, "write", judge.is_right_after_write, **how)
     for words, data in [(["replay"], BROKEN), (["clear"], OPEN_AUCTION), (["day"], AUCTION), (["clear", "--cut", "9"], b"")]:
         for error in [errno.EIO, 0]:
             about = f"{' '.join(words)} with a fault, its line with " + (errno.errorcode.get(error) or "0 bytes taken")
@@ -214,7 +219,7 @@ class RunsOfRows(Counts):
             return None
         return f"differs: {row.about}: call {number}: status {got.status}, {len(got.stdout)} bytes, {got.stderr[:80]!r}"
 
-    def run_row(self, row):
+    def check_row(self, row):
         begun = time.monotonic()
         answer = self.run_for_answer(row.words, row.data)
         _, total = self.program.run(row.words, row.data, row.refused_calls(EVERY))
@@ -235,12 +240,12 @@ class RunsOfRows(Counts):
             print(f"{row.about}: {len(numbers)} runs of {total + 1}, {len(wrong)} wrong, {time.monotonic() - begun:.1f} s")
         print("\n".join(wrong[:SHOWN]), end="\n" if wrong else "", flush=True)
 
-    def run_rows(self, about, rows):
+    def check_rows(self, about, rows):
         """Runs the rows. Says in how many of them each call was refused, and how many runs were left out in the others."""
         begun, passed, failed = time.monotonic(), self.passed, self.failed
         before = self.tried, self.calls, self.rows, self.whole_rows
         for row in rows:
-            self.run_row(row)
+            self.check_row(row)
         after = self.tried, self.calls, self.rows, self.whole_rows
         tried, calls, count, whole = (now - then for now, then in zip(after, before))
         shown = f"each call in {whole} of {count} rows; {tried} of {calls} runs, {calls - tried} left out"

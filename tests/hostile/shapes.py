@@ -249,7 +249,7 @@ def runs_of_texts():
         yield f"{words[0]} {shape.periods}: a fault", Run(words, text[:-1] + b",\n", (1,))
 
 
-def runs_of_every_kind():
+def make_runs_of_every_kind():
     books = [runs_of_commands(), runs_of_full_books(), runs_of_participants(), runs_of_small_books(), runs_of_closes(), runs_of_gaps()]
     searches = [make_runs_by_workers(), runs_of_searches(), make_runs_of_blocks(), make_runs_of_one_sided_books(), runs_of_walks()]
     return dict(itertools.chain(*books, *searches, runs_of_texts(), runs_of_long_texts()))
@@ -267,5 +267,5 @@ def run_for_cost(program, run):
 
 def run_for_costs(runs):
     """Yields the name of each run, and its cost."""
-    tried = runs_of_every_kind()
+    tried = make_runs_of_every_kind()
     yield from zip(tried, runs.pool.map(lambda run: run_for_cost(runs.program, run), tried.values()))

@@ -49,9 +49,9 @@ class CheckTests(RepositoryCase):
         for name in ("low", "left", "right"):
             self.at.write(f"crates/{name}/out/rlib/{name}.rlib/checked", name)
         crates = check.Crates(f"{self.at.top}/copied")
-        crates.take_line("rt: low proved")
-        crates.take_line("rt: left is kept: an earlier run on this machine proved the same files over the same libraries")
-        crates.take_line("rt: right NOT PROVED")
+        crates.note_line("rt: low proved")
+        crates.note_line("rt: left is kept: an earlier run on this machine proved the same files over the same libraries")
+        crates.note_line("rt: right NOT PROVED")
         rows = list(crates.stop_and_list_rows())
         self.assertEqual(sorted(os.listdir(f"{self.at.top}/copied")), ["left.rlib", "low.rlib"])
         self.assertEqual(self.at.read("copied/left.rlib/checked"), "left")
@@ -77,7 +77,7 @@ class CheckTests(RepositoryCase):
             crates = check.Crates(f"{self.at.top}/copied")
             counted = {("low", False, str(proof.pid)), ("low", True, str(edit.pid))}
             self.wait_for(lambda: {it for it, seconds in list(crates.seconds.items()) if seconds} == counted)
-            crates.take_line("rt: low proved")
+            crates.note_line("rt: low proved")
             self.assertEqual(len(list(crates.stop_and_list_rows())), 1)
             self.assertEqual(set(crates.seconds), counted)
 

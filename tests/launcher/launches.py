@@ -97,7 +97,8 @@ class LaunchTests(DamCase):
             name = "crates/dam_cli/out/dam_cli was built of other sources"
             status, out, error = self.at.run_dam("x", given="text")
             if path != "crates.txt":
-                self.assertEqual((status, out, error), (0, "words: x\ntext", self.line_of_unproved(f"{name}: {changed} changed since")), path)
+                line = self.line_of_unproved(f"{name}: {changed} changed since")
+                self.assertEqual((status, out, error), (0, "words: x\ntext", line), path)
                 self.assertEqual(self.read_verbs().count("try"), count + 1)
                 status, out, error = self.at.run_dam("--proved", "x", given="text")
                 self.assertEqual((status, out), (70, ""))
@@ -136,7 +137,8 @@ class LaunchTests(DamCase):
     def test_unproved_runs_nothing_that_is_proved(self):
         self.prove_program()
         line = self.line_of_unproved("--unproved asks for this")
-        self.assertEqual(self.at.run_dam("--unproved", "x", "a b", "--", "--unproved", given="text"), (0, "words: x a b -- --unproved\ntext", line))
+        ended = self.at.run_dam("--unproved", "x", "a b", "--", "--unproved", given="text")
+        self.assertEqual(ended, (0, "words: x a b -- --unproved\ntext", line))
         self.assertEqual(self.read_verbs().count("try"), 1)
 
     def test_without_python(self):

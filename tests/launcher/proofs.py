@@ -138,7 +138,8 @@ class ProveTests(RepositoryCase):
         path = f"{self.at.top}/crates/{name}/out/{name}"
         asked = f"from lib.crates import sources; print(sources.read_stale_words({path!r}, {name!r}) or '')"
         with FORKING:
-            process = subprocess.Popen([sys.executable, "-Bc", asked], cwd=f"{self.at.top}/tools", stdout=subprocess.PIPE, universal_newlines=True)
+            how = {"cwd": f"{self.at.top}/tools", "stdout": subprocess.PIPE, "universal_newlines": True}
+            process = subprocess.Popen([sys.executable, "-Bc", asked], **how)
         return process.communicate()[0].rstrip("\n") or None
 
     def test_the_record_of_the_sources(self):

@@ -152,7 +152,8 @@ def there_is_a_worst_limit(market, book, rng):
     if not book.blocks:
         return
     row = rng.choice(book.blocks)
-    drawn = {limit for _ in range(3) for move in (books.draw_better_limit, books.draw_worse_limit) if (limit := move(rng, row.order)) is not None}
+    moves = 3 * (books.draw_better_limit, books.draw_worse_limit)
+    drawn = {limit for move in moves if (limit := move(rng, row.order)) is not None}
     limits = sorted(drawn, key=lambda limit: signed_by_side(row.order, limit))
     accepted = [market.run_for_results(other).accepts(book_row(other, row)) for other in (book.with_limit(row, limit) for limit in limits)]
     if accepted != sorted(accepted):

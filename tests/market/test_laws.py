@@ -29,33 +29,35 @@ class FixedMarket:
         return self.printed if book == self.book else self.others
 
 
-def wrong(law, printed, others=None, book=BOOK):
+def faults_of_law(law, printed, others=None, book=BOOK):
     """The faults that a law finds by several changes of the book."""
     return [text for seed in range(10) for text in law(FixedMarket(book, printed, others), book, random.Random(seed))]
 
 
 class Laws(unittest.TestCase):
-    def check(self, law, right, breaking, book=BOOK):
+    def check_law(self, law, right, breaking, book=BOOK):
         """The law holds for the first pair of results, and not for the second."""
-        self.assertEqual(wrong(law, *right, book=book), [])
-        self.assertNotEqual(wrong(law, *breaking, book=book), [])
+        self.assertEqual(faults_of_law(law, *right, book=book), [])
+        self.assertNotEqual(faults_of_law(law, *breaking, book=book), [])
 
     def test_welfare_is_shared_out(self):
-        self.check(laws.welfare_is_shared_out, [RIGHT], [RIGHT._replace(welfare=20_001)])
+        self.check_law(laws.welfare_is_shared_out, [RIGHT], [RIGHT._replace(welfare=20_001)])
 
     def test_money_balances(self):
-        self.check(laws.money_balances, [RIGHT], [RIGHT._replace(orders={**RIGHT.orders, TOWN.key: 19})])
-        self.check(laws.money_balances, [RIGHT], [RIGHT._replace(volumes=[40])])
+        self.check_law(laws.money_balances, [RIGHT], [RIGHT._replace(orders={**RIGHT.orders, TOWN.key: 19})])
+        self.check_law(laws.money_balances, [RIGHT], [RIGHT._replace(volumes=[40])])
 
     def test_nobody_loses(self):
-        self.check(laws.nobody_loses, [RIGHT], [RIGHT._replace(prices=[5_001])])
-        self.check(laws.nobody_loses, [RIGHT], [RIGHT._replace(prices=[3_999])])
+        self.check_law(laws.nobody_loses, [RIGHT], [RIGHT._replace(prices=[5_001])])
+        self.check_law(laws.nobody_loses, [RIGHT], [RIGHT._replace(prices=[3_999])])
 
     def test_a_family_may_not_lose(self):
         child = OrderRow("GEN", "NEXT", Order("block", "sell", 5_010, ((1, 20),), parent="UNIT"))
         book = MarketBook(1, (UNIT, child, TOWN))
         printed = RIGHT._replace(orders={**RIGHT.orders, child.key: (False, -200)})
-        self.check(laws.nobody_loses, [printed], [printed._replace(welfare=19_800, orders={**printed.orders, child.key: (True, -200)})], book)
+        self.check_law(
+            laws.nobody_loses, [printed], [printed._replace(welfare=19_800, orders={**printed.orders, child.key: (True, -200)})], book
+        )
 
     def test_the_better_of_two_blocks(self):
         start = START._replace(order=UNIT.order._replace(price=3_000))
@@ -64,17 +66,17 @@ class Laws(unittest.TestCase):
         breaking = right._replace(orders={UNIT.key: (True, 20_000), start.key: (False, 40_000), TOWN.key: 20})
         keys = (UNIT.key, start.key, ("GEN", "MORE"), ("GAS", "MORE"))
         others = right._replace(orders={key: (True, 0) for key in keys})
-        self.check(laws.the_better_of_two_blocks_goes_first, [right, others], [breaking, others], book)
+        self.check_law(laws.the_better_of_two_blocks_goes_first, [right, others], [breaking, others], book)
 
     def test_fair_in_a_period(self):
         two = MarketBook(1, (UNIT, TOWN, MILL))
         first = RIGHT._replace(orders={**RIGHT.orders, MILL.key: 0})
-        self.check(laws.a_period_is_fair, [first], [first._replace(orders={**first.orders, TOWN.key: 0, MILL.key: 20})], two)
-        self.check(laws.a_period_is_fair, [RIGHT], [RIGHT._replace(prices=[4_999], orders={**RIGHT.orders, TOWN.key: 19})])
-        self.check(laws.a_period_is_fair, [RIGHT], [RIGHT._replace(prices=[5_001])])
+        self.check_law(laws.a_period_is_fair, [first], [first._replace(orders={**first.orders, TOWN.key: 0, MILL.key: 20})], two)
+        self.check_law(laws.a_period_is_fair, [RIGHT], [RIGHT._replace(prices=[4_999], orders={**RIGHT.orders, TOWN.key: 19})])
+        self.check_law(laws.a_period_is_fair, [RIGHT], [RIGHT._replace(prices=[5_001])])
 
     def test_a_better_limit_keeps_a_block(self):
-        self.check(laws.a_better_limit_keeps_a_block, [RIGHT, RIGHT], [RIGHT, NOTHING])
+        self.check_law(laws.a_better_limit_keeps_a_block, [RIGHT, RIGHT], [RIGHT, NOTHING])
 
     def test_there_is_a_worst_limit(self):
         class Best(FixedMarket):
@@ -86,13 +88,13 @@ class Laws(unittest.TestCase):
 
     def test_a_worse_limit_keeps_a_rejection(self):
         other = NOTHING._replace(orders={**NOTHING.orders, UNIT.key: (False, 10_000)})
-        self.check(laws.a_worse_limit_keeps_a_rejection, [NOTHING, other], [NOTHING, RIGHT])
-        self.check(laws.a_worse_limit_keeps_a_rejection, [NOTHING, other], [NOTHING, other._replace(prices=[4_999])])
+        self.check_law(laws.a_worse_limit_keeps_a_rejection, [NOTHING, other], [NOTHING, RIGHT])
+        self.check_law(laws.a_worse_limit_keeps_a_rejection, [NOTHING, other], [NOTHING, other._replace(prices=[4_999])])
 
     def test_a_rejected_block_withdrawn_changes_nothing(self):
         alone = NOTHING.lines_but(UNIT.key)
-        self.check(laws.a_rejected_block_withdrawn_changes_nothing, [NOTHING, alone], [NOTHING, alone._replace(prices=[0])])
-        self.check(laws.a_rejected_block_withdrawn_changes_nothing, [NOTHING, alone], [NOTHING, alone._replace(orders={TOWN.key: 1})])
+        self.check_law(laws.a_rejected_block_withdrawn_changes_nothing, [NOTHING, alone], [NOTHING, alone._replace(prices=[0])])
+        self.check_law(laws.a_rejected_block_withdrawn_changes_nothing, [NOTHING, alone], [NOTHING, alone._replace(orders={TOWN.key: 1})])
 
     def test_a_block_more_never_lowers_welfare(self):
         class Sized:
@@ -113,10 +115,12 @@ class Laws(unittest.TestCase):
         given = RIGHT._replace(orders={**RIGHT.orders, MILL.key: 0, START.key: (False, 0)})
         turned = RIGHT._replace(orders={**given.orders, TOWN.key: 0, MILL.key: 20})
         other = given._replace(orders={**given.orders, UNIT.key: (False, 0), START.key: (True, 0)})
-        self.check(laws.book_order_of_hourly_orders_decides_only_ties, [given, turned], [given, turned._replace(prices=[4_500])], hourly)
-        self.check(laws.book_order_of_hourly_orders_decides_only_ties, [given, turned], [given, other], hourly)
-        self.check(laws.book_order_of_blocks_decides_only_ties, [given, other], [given, other._replace(welfare=1)], hourly)
-        self.check(laws.book_order_of_blocks_decides_only_ties, [given, given], [given, turned], hourly)
+        self.check_law(
+            laws.book_order_of_hourly_orders_decides_only_ties, [given, turned], [given, turned._replace(prices=[4_500])], hourly
+        )
+        self.check_law(laws.book_order_of_hourly_orders_decides_only_ties, [given, turned], [given, other], hourly)
+        self.check_law(laws.book_order_of_blocks_decides_only_ties, [given, other], [given, other._replace(welfare=1)], hourly)
+        self.check_law(laws.book_order_of_blocks_decides_only_ties, [given, given], [given, turned], hourly)
 
 
 class Books(unittest.TestCase):

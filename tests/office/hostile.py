@@ -50,6 +50,11 @@ def status_of(answer):
     return int(answer[9:12]) if answer.startswith((b"HTTP/1.1 ", b"HTTP/1.0 ")) else None
 
 
+def send_for_status(office, method, path, headers=(), body=b""):
+    """Sends a request, and returns the status of its answer."""
+    return status_of(send_for_answer(office, request_bytes(method, path, headers, body)))
+
+
 def read_peak_memory(office):
     """The greatest memory of the office so far, in KiB."""
     return int(re.search(r"VmHWM:\s+(\d+) kB", Path(f"/proc/{office.process.pid}/status").read_text())[1])
@@ -76,15 +81,15 @@ def check_tokens(office, counts):
         counts.check(f"{name} of another are refused", status_of(answer) == 401)
     body = f"cancel,{other},A,,,,,,".encode()
     headers = [f"Authorization: Bearer {right}", "Content-Type: text/csv"]
-    counts.check("a command of another is refused", status_of(send_for_answer(office, request_bytes("PUT", f"{path}/1", headers, body))) == 400)
+    counts.check("a command of another is refused", send_for_status(office, "PUT", f"{path}/1", headers, body) == 400)
     answer = send_for_answer(office, request_bytes("PUT", f"/days/{office.day}/commands/{other}/1", headers, body))
     counts.check("and so is one under its name", status_of(answer) == 401)
     counts.check(
-        "a right token is taken after many wrong ones", all(status_of(send_for_answer(office, request_bytes("GET", path, headers))) == 200 for _ in range(3))
+        "a right token is taken after many wrong ones", all(send_for_status(office, "GET", path, headers) == 200 for _ in range(3))
     )
-    many = [status_of(send_for_answer(office, request_bytes("GET", path, ["Authorization: Bearer x"]))) for _ in range(60)]
+    many = [send_for_status(office, "GET", path, ["Authorization: Bearer x"]) for _ in range(60)]
     counts.check("many wrong ones are slowed down", set(many) == {401, 429})
-    counts.check("and the right one isn't", status_of(send_for_answer(office, request_bytes("GET", path, headers))) == 200)
+    counts.check("and the right one isn't", send_for_status(office, "GET", path, headers) == 200)
 
 
 def check_paths(office, counts):
@@ -115,7 +120,7 @@ def check_paths(office, counts):
         head = answer.partition(b"\r\n\r\n")[0]
         counts.check(f"GET {path}", is_right and secret not in answer and b"script>" not in answer and b"\nx-evil" not in head.lower())
     for method in ("DELETE", "POST", "TRACE", "CONNECT", "PATCH", "FOO", "get"):
-        counts.check(f"{method} /days", status_of(send_for_answer(office, request_bytes(method, "/days"))) in (400, 404, 405, 501))
+        counts.check(f"{method} /days", send_for_status(office, method, "/days") in (400, 404, 405, 501))
 
 
 def check_messages(office, counts):
@@ -140,7 +145,7 @@ def check_messages(office, counts):
     ):
         answer = send_for_answer(office, data, wait=False)
         counts.check(f"{words} is refused", status_of(answer) in (400, 404, 413, 431, None) and b"<script>" not in answer)
-    counts.check("a head of 32 KiB is taken", status_of(send_for_answer(office, request_bytes("GET", "/days", wide_headers(32_768)))) == 200)
+    counts.check("a head of 32 KiB is taken", send_for_status(office, "GET", "/days", wide_headers(32_768)) == 200)
     for odd in (": x", ": -9"):  # it comes before the length
         answer = send_for_answer(office, request_bytes("PUT", path, [token, "Content-Type: text/csv", odd], body))
         counts.check(f"a length behind {odd} is refused: {status_of(answer)}", status_of(answer) == 400)
@@ -169,7 +174,9 @@ def check_messages(office, counts):
     counts.check("a body that is a bomb is refused", status_of(send_for_answer(office, data)) == 400)
     counts.check("a body that is a bomb takes no memory", read_peak_memory(office) - before < 50 << 10)
     many = send_for_answer(office, b"GET /days HTTP/1.1\r\nHost: x\r\n\r\n" * 200_000)
-    counts.check("requests without end aren't answered, and take no memory", len(many) < 10 << 20 and read_peak_memory(office) - before < 100 << 10)
+    counts.check(
+        "requests without end aren't answered, and take no memory", len(many) < 10 << 20 and read_peak_memory(office) - before < 100 << 10
+    )
     chunks = b"".join(b"1000\r\n" + b"a" * 4096 + b"\r\n" for _ in range(400)) + b"0\r\n\r\n"
     counts.check("a body without a length isn't read", status_of(send_for_answer(office, request_bytes("PUT", path, both) + chunks)) == 400)
     with contextlib.ExitStack() as stack:
@@ -187,9 +194,12 @@ def check_messages(office, counts):
             wide = request_bytes("GET", "/openapi.json", [f"X-{number}: {'a' * 4_000}" for number in range(100)])
             with contextlib.suppress(OSError):
                 one.sendall(request_bytes("GET", "/openapi.json") * 4 + wide * 60)
-        counts.check(f"answers that aren't read keep no memory: {read_peak_memory(office) - before} KiB", read_peak_memory(office) - before < 30 << 10)
-    counts.check("a body of 2 MB is refused", status_of(send_for_answer(office, request_bytes("PUT", path, [token], b"a" * (2 << 20)))) == 413)
-    counts.check("without a token it isn't read", status_of(send_for_answer(office, request_bytes("PUT", path, [], b"a" * (2 << 20)))) == 401)
+        counts.check(
+            f"answers that aren't read keep no memory: {read_peak_memory(office) - before} KiB",
+            read_peak_memory(office) - before < 30 << 10,
+        )
+    counts.check("a body of 2 MB is refused", send_for_status(office, "PUT", path, [token], b"a" * (2 << 20)) == 413)
+    counts.check("without a token it isn't read", send_for_status(office, "PUT", path, [], b"a" * (2 << 20)) == 401)
     counts.check("nothing was entered", office.client_of(who).next(office.day) == 1)
 
 
@@ -207,7 +217,8 @@ def check_slow(office, counts):
     """Half a head and half a body: the connection ends, and others are served in the meantime."""
     who = office.who[0]
     token = f"Authorization: Bearer {office.tokens[who]}"
-    halves = [b"GET /days HTT", request_bytes("PUT", f"/days/{office.day}/commands/{who}/1", [token, "Content-Length: 100"])[:-2] + b"\r\ncancel"]
+    put = request_bytes("PUT", f"/days/{office.day}/commands/{who}/1", [token, "Content-Length: 100"])
+    halves = [b"GET /days HTT", put[:-2] + b"\r\ncancel"]
     with contextlib.ExitStack() as stack:
         slow = [
             stack.enter_context(contextlib.closing(socket.create_connection(("127.0.0.1", office.port), timeout=SECONDS)))
@@ -228,7 +239,8 @@ def check_slow(office, counts):
 def check_tables(office, counts):
     """A participant has one table read at a time, and another one's isn't kept waiting."""
     rows = "".join(f"{{who}},A{number},hour,buy,1,1-2,1\n" for number in range(3_000)).replace("1-2", "1")
-    answers, tables = [], {who: ("participant,order,kind,side,price_eur_mwh,periods,volume_mw\n" + rows).format(who=who) for who in office.who[:2]}
+    form = "participant,order,kind,side,price_eur_mwh,periods,volume_mw\n" + rows
+    answers, tables = [], {who: form.format(who=who) for who in office.who[:2]}
 
     def send(who):
         answers.append((who, office.request(f"/days/{office.day}/tables/{who}", office.bearer_header(who), "POST", tables[who])[0]))
@@ -240,7 +252,9 @@ def check_tables(office, counts):
         time.sleep(0.05)
     for thread in threads:
         thread.join()
-    counts.check(f"one table of a participant is read at a time: {answers}", sorted(code for one, code in answers if one == who) == [200, 429, 429])
+    counts.check(
+        f"one table of a participant is read at a time: {answers}", sorted(code for one, code in answers if one == who) == [200, 429, 429]
+    )
     counts.check("and another's in the meantime", (other, 200) in answers)
 
 
@@ -386,4 +400,4 @@ def check_tls(office, cert, counts):
         "the client enters a command over TLS",
         client.enter(office.day, f"cancel,{office.who[0]},A,,,,,,")[0]["reply"] == "refused,UnknownOrder",
     )
-    counts.check("plain HTTP gets nothing", status_of(send_for_answer(office, request_bytes("GET", "/days"))) != 200)
+    counts.check("plain HTTP gets nothing", send_for_status(office, "GET", "/days") != 200)

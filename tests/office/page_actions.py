@@ -36,11 +36,11 @@ async def click(page, selector):
     await page.evaluate(f"document.querySelector('{selector}').click()")
 
 
-async def text_of(page, name):
+async def read_text(page, name):
     return await page.evaluate(f"document.getElementById('{name}').textContent")
 
 
-async def focused_name(page):
+async def read_focused_name(page):
     return await page.evaluate("document.activeElement.id")
 
 
@@ -49,7 +49,7 @@ async def wait_for_message(page, words):
     await page.wait_until(f"document.getElementById('message').textContent.includes({words!r})")
 
 
-async def cells_of(page, name):
+async def read_cells(page, name):
     """The cells of a table's rows."""
     script = f"[...document.querySelectorAll('#{name} tbody tr')].map((row) => [...row.cells].map((cell) => cell.textContent))"
     return await page.evaluate(script)

@@ -1,6 +1,6 @@
 """Faults at the fields: a wrong one is reported in the trader's units, and nothing is sent."""
 
-from page_actions import cells_of, check_shown, choose, click, focus_on, focused_name, text_of, type_into
+from page_actions import read_cells, check_shown, choose, click, focus_on, read_focused_name, read_text, type_into
 from page_results import ON_SCREEN
 
 RIGHT = """[limitRule('4000').value, limitRule('-500').value, limitRule('12,5').value, volumeRule('0.1').value, volumeRule('9999,9').value,
@@ -37,14 +37,14 @@ PASTE = """{ const clipboardData = new DataTransfer(); const place = cells()[%d]
 
 async def check_faults(page, counts, pictures):
     """A wrong field is reported in the trader's units at the field, and nothing is sent."""
-    before = len(await cells_of(page, "commands-table"))
+    before = len(await read_cells(page, "commands-table"))
     counts.check("right values are right", await page.evaluate(RIGHT) == "400000 -50000 1250 1 99999 - ABCDEFGHIJ-9 ")
     await click(page, "input[value=hour]")
     counts.check(
         "the rules are there before a fault",
-        "0.1 to 9999.9" in await text_of(page, "volume-help") and "to 12" in await text_of(page, "name-help"),
+        "0.1 to 9999.9" in await read_text(page, "volume-help") and "to 12" in await read_text(page, "name-help"),
     )
-    counts.check("and so is the comma", "4000.00, with a point or a comma" in await text_of(page, "price-help"))
+    counts.check("and so is the comma", "4000.00, with a point or a comma" in await read_text(page, "price-help"))
     for name, words, fault in WRONG:
         for field, right in (("name", "NEW"), ("price", "1"), ("volume", "1"), (name, words)):
             await type_into(page, field, right)
@@ -52,7 +52,7 @@ async def check_faults(page, counts, pictures):
         await click(page, "#enter")
         is_marked, told = await page.evaluate(MARKED % name)
         counts.check(f"{name} {words or 'empty'} is told at its field: {told}", is_marked == "true" and fault in told)
-    counts.check("the message says so too", "Nothing was sent" in await text_of(page, "message"))
+    counts.check("the message says so too", "Nothing was sent" in await read_text(page, "message"))
     await type_into(page, "name", "NEW")
     gone = await page.evaluate("[byId('name-fault').textContent, byId('message').textContent, byId('name').ariaInvalid]")
     counts.check(f"a fault goes when its field is changed: {gone}", gone == ["", "", None])
@@ -71,28 +71,30 @@ async def check_faults(page, counts, pictures):
     for filled in ("1", ""):
         await page.evaluate(f"cells()[4].value = '{filled}'")
         await click(page, "#enter")
-        told = await text_of(page, "fill-fault")
+        told = await read_text(page, "fill-fault")
         unfilled = "30 MW for periods 11 to 12 isn't filled in: press Fill in, or empty the box."
-        counts.check(f"a volume that isn't filled in isn't lost: {told}", told == unfilled and await focused_name(page) == "fill-volume")
+        counts.check(
+            f"a volume that isn't filled in isn't lost: {told}", told == unfilled and await read_focused_name(page) == "fill-volume"
+        )
     await choose(page, "fill-volume", "30,55")
     for button in ("#fill", "#enter"):
         await click(page, button)
-        told = await text_of(page, "fill-fault")
+        told = await read_text(page, "fill-fault")
         counts.check(f"one that can't be filled in has its fault after {button}: {told}", told == "Write at most 1 digit after the point.")
     await choose(page, "fill-volume", 30)
     await choose(page, "fill-to", 10)
     await click(page, "#enter")
-    told = await text_of(page, "fill-fault")
+    told = await read_text(page, "fill-fault")
     counts.check(f"also if its periods are the wrong way round: {told}", told == "Period 11 is after period 10: 30 MW isn't filled in.")
     await choose(page, "fill-volume", "")
     await click(page, "#enter")
-    counts.check("a block without volumes", "at least one period" in await text_of(page, "grid-fault"))
+    counts.check("a block without volumes", "at least one period" in await read_text(page, "grid-fault"))
     await page.evaluate("cells()[4].focus()")
     await page.type_text("0")
     await click(page, "#enter")
     counts.check(
         "a volume of a period",
-        (await text_of(page, "grid-fault")).startswith("Period 5: It should be from 0.1")
+        (await read_text(page, "grid-fault")).startswith("Period 5: It should be from 0.1")
         and await page.evaluate("document.activeElement === cells()[4]"),
     )
     await page.evaluate(PASTE % (4, "1\\r\\n\\r\\n2,5\\r\\n"))
@@ -107,7 +109,7 @@ async def check_faults(page, counts, pictures):
     await choose(page, "fill-from", 9)
     await choose(page, "fill-to", 8)
     await click(page, "#fill")
-    counts.check("periods the wrong way round", "Period 9 is after period 8" in await text_of(page, "fill-fault"))
+    counts.check("periods the wrong way round", "Period 9 is after period 8" in await read_text(page, "fill-fault"))
     for name in ("name", "price"):
         await type_into(page, name, "x_x")
     await click(page, "#enter")
@@ -116,7 +118,9 @@ async def check_faults(page, counts, pictures):
     await click(page, "input[value=hour]")
     await type_into(page, "volume", "0")
     await click(page, "#enter")
-    counts.check("a fault is on a small screen", all([await page.evaluate(ON_SCREEN % name) for name in ("volume", "volume-fault", "message")]))
+    counts.check(
+        "a fault is on a small screen", all([await page.evaluate(ON_SCREEN % name) for name in ("volume", "volume-fault", "message")])
+    )
     await page.set_screen(1_280, "light")
     await page.evaluate("change(null)")
-    counts.check("a wrong field sends nothing", len(await cells_of(page, "commands-table")) == before)
+    counts.check("a wrong field sends nothing", len(await read_cells(page, "commands-table")) == before)

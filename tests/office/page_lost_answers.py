@@ -1,6 +1,6 @@
 """Answers that are lost, held or another tab's: the page loses no order and no word of one."""
 
-from page_actions import NEVER, cells_of, click, text_of, type_into, wait_for_message, wait_for_rows
+from page_actions import NEVER, read_cells, click, read_text, type_into, wait_for_message, wait_for_rows
 
 # Loses the answer to the next command, which the office enters.
 LOSE = """{ const real = window.fetch; window.lost = false; window.fetch = async (path, how) => { const answer = await real(path, how);
@@ -17,7 +17,7 @@ GONE = "{ what: 'submit', order: 'GONE', kind: 'hour', side: 'sell', price: 100,
 
 async def check_lost_answer(page, counts):
     """The page sends the command again under the same number, also if it has looked at its commands in the meantime."""
-    before = len(await cells_of(page, "commands-table"))
+    before = len(await read_cells(page, "commands-table"))
     await page.evaluate(LOSE)
     await type_into(page, "name", "ONCE")
     await type_into(page, "price", "1")
@@ -26,7 +26,7 @@ async def check_lost_answer(page, counts):
     await page.wait_until("window.lost")
     await page.evaluate("look()")
     await wait_for_message(page, "ONCE entered: ")
-    counts.check("a command whose answer is lost is entered once", len(await cells_of(page, "commands-table")) == before + 1)
+    counts.check("a command whose answer is lost is entered once", len(await read_cells(page, "commands-table")) == before + 1)
     await page.evaluate(NEVER)
     await type_into(page, "name", "GONE")
     await type_into(page, "price", "1")
@@ -35,10 +35,10 @@ async def check_lost_answer(page, counts):
     await wait_for_message(page, UNSURE)
     await page.evaluate("unanswered = 0; look()")
     counts.check("an order that may be lost stays in the form", await page.evaluate("byId('name').value") == "GONE")
-    counts.check("and so does its message", await page.evaluate("unanswered > 0") and await text_of(page, "message") == UNSURE)
+    counts.check("and so does its message", await page.evaluate("unanswered > 0") and await read_text(page, "message") == UNSURE)
     await page.evaluate("fetch = real; setTimeout = timeout; change(null)")
     await page.evaluate("look()")
-    counts.check(f"until the office answers: {await text_of(page, 'message')}", await text_of(page, "message") == NOT_YET)
+    counts.check(f"until the office answers: {await read_text(page, 'message')}", await read_text(page, "message") == NOT_YET)
     counts.check("an order that comes late", await page.evaluate(OTHER % GONE))
     await wait_for_message(page, "GONE entered: sell, 1.0 MW in period 1, at 1.00 EUR/MWh. It is on the disk, with a signed receipt.")
     counts.check("is told by the next look", await page.evaluate("byId('message').className") == "right")
@@ -47,7 +47,7 @@ async def check_lost_answer(page, counts):
     twice = "(async (one) => await enter([one]) && await enter([one]))({ what: 'amend', order: 'ONCE', price: 100, volumes: [[1, 10]] })"
     counts.check("commands can follow at once", await page.evaluate(twice))
     await page.evaluate("enter([{ what: 'cancel', order: 'a' }])")
-    counts.check("a command that the office refuses is named", (await text_of(page, "message")).startswith("a wasn't cancelled: "))
+    counts.check("a command that the office refuses is named", (await read_text(page, "message")).startswith("a wasn't cancelled: "))
     await wait_for_rows(page, "commands-table", before + 3)
     await check_two_tabs(page, counts)
 
@@ -59,28 +59,28 @@ async def check_two_tabs(page, counts):
     """An entry of another tab of the participant in the meantime is reported before it is lost."""
     await click(page, '[aria-label="Amend ONCE"]')
     await page.evaluate("look()")
-    counts.check("an order that stays as it is isn't overtaken", await text_of(page, "overtaken") == "")
+    counts.check("an order that stays as it is isn't overtaken", await read_text(page, "overtaken") == "")
     counts.check("another tab amends", await page.evaluate(OTHER % (ONCE % 900)))
     await page.wait_until("byId('overtaken').textContent")
-    told = await text_of(page, "overtaken")
+    told = await read_text(page, "overtaken")
     words = "ONCE was changed in the meantime: in the book its limit is 9.00 EUR/MWh, and its volumes by period are 1: 1.0 MW."
     counts.check(f"an order that is changed meanwhile: {told}", told == words)
     await type_into(page, "price", "2")
     await click(page, "#enter")
     await page.wait_until("byId('sure').open")
-    counts.check("isn't amended without a question", "Amend it to the values of this form?" in await text_of(page, "sure-words"))
+    counts.check("isn't amended without a question", "Amend it to the values of this form?" in await read_text(page, "sure-words"))
     await click(page, "#no")
     await page.wait_until("document.activeElement.id === 'price'")
-    counts.check("to which no is an answer", (await cells_of(page, "commands-table"))[0][6] == "9.00")
+    counts.check("to which no is an answer", (await read_cells(page, "commands-table"))[0][6] == "9.00")
     await click(page, "#enter")
     await page.wait_until("byId('sure').open")
     await click(page, "#yes")
     await wait_for_message(page, "ONCE amended")
-    counts.check("and so is yes", await text_of(page, "overtaken") == "")
+    counts.check("and so is yes", await read_text(page, "overtaken") == "")
     await page.wait_until("byId('commands-table').querySelector('tbody tr').cells[6].textContent === '2.00'")
     await page.evaluate("state.next = 1; enter([%s])" % (ONCE % 100))  # as if no look had seen a command
     same = "ONCE wasn't amended: another command of yours came first. Look in Your commands, and send it again."
-    counts.check(f"commands at the same time: {await text_of(page, 'message')}", await text_of(page, "message") == same)
+    counts.check(f"commands at the same time: {await read_text(page, 'message')}", await read_text(page, "message") == same)
     counts.check("and sent again", await page.evaluate("enter([%s])" % (ONCE % 100)))
     counts.check("another tab enters", await page.evaluate(OTHER % GONE))
     await page.wait_until("inBook('GONE')")
@@ -88,7 +88,7 @@ async def check_two_tabs(page, counts):
     counts.check("another tab cancels", await page.evaluate(OTHER % "{ what: 'cancel', order: 'GONE' }"))
     await page.wait_until("byId('overtaken').textContent === `GONE isn't in the book any more.`")
     await click(page, "#keep")
-    counts.check("a form that is left has no such words", await text_of(page, "overtaken") == "")
+    counts.check("a form that is left has no such words", await read_text(page, "overtaken") == "")
     await check_silence(page, counts)
 
 
@@ -129,7 +129,7 @@ async def check_other_day(page, counts):
         await page.wait_until(f"!byId('sure').open && byId('message').textContent === '{told}'")
         kept = await page.evaluate("[byId('days').value === state.day, byId('name').value]")
         counts.check(f"{answer} is an answer: {kept}", kept == [True, "HALF"])
-    count = len(await cells_of(page, "orders-table"))
+    count = len(await read_cells(page, "orders-table"))
     await page.evaluate("say('unsure', 'wrong', 'unsure'); byId('days').dispatchEvent(new Event('change'))")  # as if it were another day
     await click(page, "#yes")
     await page.wait_until("!byId('sure').open && byId('message').textContent === '' && byId('name').value === ''")

@@ -1,6 +1,6 @@
 """Orders by the keyboard: entered, amended, cancelled, and half written."""
 
-from page_actions import cells_of, choose, click, focus_on, text_of, type_into, wait_for_rows
+from page_actions import read_cells, choose, click, focus_on, read_text, type_into, wait_for_rows
 from page_signing_in import BLOCK, FIELDS
 
 
@@ -13,10 +13,10 @@ async def check_entering(page, who, counts):
     await type_into(page, "volume", "50,1")
     await page.press_key("Enter", 13)
     await wait_for_rows(page, "orders-table", 1)
-    first = (await cells_of(page, "commands-table"))[0]
+    first = (await read_cells(page, "commands-table"))[0]
     counts.check(f"an hourly order: {first}", first == ["1", "enter", "UNIT-8", "done", "hourly", "sell", "60.50", "8: 50.1", "", "2"])
     entered = "UNIT-8 entered: sell, 50.1 MW in period 8, at 60.50 EUR/MWh. It is on the disk, with a signed receipt."
-    counts.check("the entry says the order", await text_of(page, "message") == entered)
+    counts.check("the entry says the order", await read_text(page, "message") == entered)
     counts.check(
         "the next order has its side, and the focus is on its name",
         await page.evaluate("byId('side').value + document.activeElement.id") == "sellname",
@@ -35,8 +35,8 @@ async def check_entering(page, who, counts):
     await click(page, "#enter")
     await wait_for_rows(page, "orders-table", 2)
     entered = "RUN entered: block, buy, 30.0 MW in periods 8-9, at -3.00 EUR/MWh, group EVE. It is on the disk, with a signed receipt."
-    counts.check("its message", await text_of(page, "message") == entered)
-    counts.check("a block", (await cells_of(page, "commands-table"))[0][4:9] == ["block", "buy", "-3.00", "8-9: 30.0", "group EVE"])
+    counts.check("its message", await read_text(page, "message") == entered)
+    counts.check("a block", (await read_cells(page, "commands-table"))[0][4:9] == ["block", "buy", "-3.00", "8-9: 30.0", "group EVE"])
     counts.check(
         "the next order is a block too",
         await page.evaluate(FIELDS) == BLOCK and await page.evaluate("byId('fill-to').value + byId('side').value") == "9buy",
@@ -50,9 +50,9 @@ async def check_entering(page, who, counts):
     counts.check("Enter in a period goes to the next one", await page.evaluate("document.activeElement.dataset.period") == "10")
     await click(page, "#enter")
     await wait_for_rows(page, "orders-table", 3)
-    counts.check("a link", (await cells_of(page, "commands-table"))[0][6:9] == ["75.00", "9: 5.0", "parent RUN"])
+    counts.check("a link", (await read_cells(page, "commands-table"))[0][6:9] == ["75.00", "9: 5.0", "parent RUN"])
     linked = "MORE entered: block, buy, 5.0 MW in period 9, at 75.00 EUR/MWh, parent RUN. It is on the disk, with a signed receipt."
-    counts.check("which its message names", await text_of(page, "message") == linked)
+    counts.check("which its message names", await read_text(page, "message") == linked)
 
 
 async def check_changing(page, counts):
@@ -61,28 +61,30 @@ async def check_changing(page, counts):
     looks = await page.evaluate("['name', 'side', 'price'].map((id) => getComputedStyle(byId(id)).backgroundColor)")
     counts.check(
         "an amend says how to change the rest",
-        "cancel the order" in await text_of(page, "fixed") and await page.evaluate("byId('fixed').checkVisibility()"),
+        "cancel the order" in await read_text(page, "fixed") and await page.evaluate("byId('fixed').checkVisibility()"),
     )
-    counts.check("and that the order keeps its place", "keeps its place" in await text_of(page, "fixed"))
+    counts.check("and that the order keeps its place", "keeps its place" in await read_text(page, "fixed"))
     counts.check("fields that can't be changed look so", looks[0] == looks[1] != looks[2])
     await type_into(page, "price", "61")
     await page.press_key("Enter", 13)
     await wait_for_rows(page, "commands-table", 4)
-    first, *_, last = await cells_of(page, "commands-table")
+    first, *_, last = await read_cells(page, "commands-table")
     counts.check("an amend", first[1:4] + first[6:8] == ["amend", "UNIT-8", "done", "61.00", "8: 50.1"])
     amended = "UNIT-8 amended: 50.1 MW in period 8, at 61.00 EUR/MWh. It is on the disk, with a signed receipt."
-    counts.check("the message says it", await text_of(page, "message") == amended)
+    counts.check("the message says it", await read_text(page, "message") == amended)
     counts.check("what is changed says by which command of one's own", last[3] == "done; changed by your command 4" and last[-1] == "2")
     await click(page, '[aria-label="Cancel RUN"]')
     await click(page, "#no")
     await page.evaluate("look()")
-    counts.check("a cancel asks first", len(await cells_of(page, "commands-table")) == 4 and not await page.evaluate("byId('sure').open"))
+    counts.check("a cancel asks first", len(await read_cells(page, "commands-table")) == 4 and not await page.evaluate("byId('sure').open"))
     await click(page, '[aria-label="Cancel RUN"]')
     await click(page, "#yes")
     await wait_for_rows(page, "commands-table", 5)
     reason = "blocks name this one as their parent"
-    counts.check("a refusal is in words", (await cells_of(page, "commands-table"))[0][1:4] == ["cancel", "RUN", f"refused: {reason}"])
-    counts.check("and the message names it", (await text_of(page, "message")).startswith(f"RUN wasn't cancelled: {reason}: MORE. Cancel it first."))
+    counts.check("a refusal is in words", (await read_cells(page, "commands-table"))[0][1:4] == ["cancel", "RUN", f"refused: {reason}"])
+    counts.check(
+        "and the message names it", (await read_text(page, "message")).startswith(f"RUN wasn't cancelled: {reason}: MORE. Cancel it first.")
+    )
     await page.wait_until("document.activeElement.id === 'orders-title'")
     counts.check("each reason is to the participant", await page.evaluate(REASONS) == TOLD)
 

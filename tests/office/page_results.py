@@ -2,7 +2,7 @@
 
 import asyncio
 
-from page_actions import cells_of, text_of, type_into
+from page_actions import read_cells, read_text, type_into
 
 # Whether a part is on the screen as a whole, and nothing covers it.
 ON_SCREEN = """(() => { const part = byId('%s'), {top, bottom, left} = part.getBoundingClientRect();
@@ -16,17 +16,19 @@ STOPS = """[...document.querySelectorAll('.wide')].filter((one) => one.checkVisi
 async def check_close_and_results(page, office, who, other, counts):
     office.client_of(other).enter(office.day, f"submit,{other},B,hour,buy,10000,8:300,,", f"submit,{other},S,hour,sell,1000,1:200,,")
     await page.evaluate("announce(601); announce(599)")
-    counts.check("the time left is announced", await text_of(page, "announced") == "10 minutes left")
+    counts.check("the time left is announced", await read_text(page, "announced") == "10 minutes left")
     await page.evaluate("announce(61); announce(59)")
-    counts.check("and again", await text_of(page, "announced") == "1 minute left")
+    counts.check("and again", await read_text(page, "announced") == "1 minute left")
     await type_into(page, "name", "LATE")
     await asyncio.to_thread(office.close_day)
     await page.wait_until("document.activeElement.id === 'results-title'")
     counts.check("the focus is at the results, which are seen", await page.evaluate(ON_SCREEN % "results-title"))
-    counts.check("an unfinished order isn't lost without a word", await text_of(page, "unsent") == "Your unfinished order LATE wasn't sent.")
+    counts.check(
+        "an unfinished order isn't lost without a word", await read_text(page, "unsent") == "Your unfinished order LATE wasn't sent."
+    )
     told = await page.evaluate("[byId('message').textContent, byId('message').className, document.querySelector('#message a').hash]")
     counts.check(f"the results are no fault: {told}", told == ["The results are out.", "right", "#results"])
-    statement, prices, commands = [await cells_of(page, name) for name in ("statement", "prices", "commands-table")]
+    statement, prices, commands = [await read_cells(page, name) for name in ("statement", "prices", "commands-table")]
     found = {row[0]: row[1:] for row in statement}
     in_book = ["UNIT-8", "RUN", "MORE", "T-1", "T-2", "T-3", "ONCE"]
     counts.check(f"each order has its result, in the order of the book: {list(found)}", [row[0] for row in statement] == in_book)
@@ -40,26 +42,30 @@ async def check_close_and_results(page, office, who, other, counts):
     counts.check("many runs don't make the table broader", wraps == "normal")
     numbers = [row[0] for row in commands]
     counts.check("commands have their own numbers", numbers == [str(number) for number in range(len(commands), 0, -1)])
-    counts.check("and no other", "command 2" not in await text_of(page, "statement"))
+    counts.check("and no other", "command 2" not in await read_text(page, "statement"))
     counts.check("each period has its price", len(prices) == 24 and prices[7] == ["8 (07:00)", "61.00", "30.0"])
     counts.check(f"also one without trade: {prices[8]}", prices[8] == ["9 (08:00)", "1,750.00 (nominal)", "0.0"])
     totals = await page.evaluate("[...document.querySelectorAll('#totals dd')].map((one) => one.textContent)")
     executed = [float(row[7].replace(",", "").replace("\u2212", "-")) for row in found.values() if row[7]]
     counts.check(f"the totals are the sums: {totals}", totals == expected_totals(executed))
-    position = await cells_of(page, "position")
+    position = await read_cells(page, "position")
     counts.check(f"the position has each period of one's own: {position}", ["8 (07:00)", "0.0", "30.0", "\u221230.0"] in position)
     saved = (await page.evaluate("csv(state.results)")).splitlines()
     counts.check(f"the results can be saved: {saved[1]}", saved[1].startswith("UNIT-8,hour,sell,61,8,50.1,,,in part,30,1830,at-the-price,"))
-    counts.check("a cell isn't a formula", await page.evaluate("[field('-A'), field(-1), field('a,\"b')].join(' ')") == "'-A -1 \"a,\"\"b\"")
+    counts.check(
+        "a cell isn't a formula", await page.evaluate("[field('-A'), field(-1), field('a,\"b')].join(' ')") == "'-A -1 \"a,\"\"b\""
+    )
     days = await page.evaluate("[...byId('days').options].map((one) => one.textContent)")
     counts.check(f"the list of days says that it is closed: {days}", days == [f"{office.day} (results)"])
     counts.check("a demo's button isn't there", await page.evaluate("byId('demo-close').hidden"))
     wrong = await page.evaluate(STOPS)
     counts.check(f"the keyboard stops at tables that scroll, and at no others: {wrong}", wrong == [])
-    counts.check("ties are explained", "in the order of the book" in await text_of(page, "results"))
+    counts.check("ties are explained", "in the order of the book" in await read_text(page, "results"))
     counts.check("nothing of another's", f"{other}," not in await page.evaluate("document.body.textContent"))
     counts.check("orders can't be entered any more", await page.evaluate("document.getElementById('entry').hidden"))
-    counts.check("the journal isn't offered", await page.evaluate("byId('journal').hidden") and "hasn't" in await text_of(page, "no-journal"))
+    counts.check(
+        "the journal isn't offered", await page.evaluate("byId('journal').hidden") and "hasn't" in await read_text(page, "no-journal")
+    )
     await asyncio.to_thread(office.run_tool, "publish", office.folder)
     await page.wait_until("byId('no-journal').hidden && byId('journal').checkVisibility()")
     offered = await page.evaluate("fetch(byId('journal').href).then((answer) => answer.text())")

@@ -2,7 +2,7 @@
 
 import asyncio
 
-from page_actions import SLOW, cells_of, click, sign_in, text_of, type_into, wait_for_message
+from page_actions import SLOW, read_cells, click, sign_in, read_text, type_into, wait_for_message
 from page_tables import TABLE, write_and_choose_table
 
 # The fields of the form that are seen, those of the periods as one.
@@ -21,7 +21,7 @@ async def check_unreached(page, counts):
     await page.call_browser("Page.reload")
     await page.wait_until("window.unreached && document.getElementById('message')?.className === 'wrong'")
     await page.wait_until("!document.getElementById('sign-in').hidden")
-    counts.check("a page asks until the office answers", await text_of(page, "message") == "")
+    counts.check("a page asks until the office answers", await read_text(page, "message") == "")
 
 
 # When a day closes, at a minute and 30 s later.
@@ -36,7 +36,7 @@ async def check_first_sign_in(page, office, who, counts):
         await type_into(page, "token", wrong)
         await page.press_key("Enter", 13)
         await page.wait_until("document.getElementById('message').className === 'wrong'")
-        counts.check(f"{wrong[:9]} is no token", "This isn't a token of this office" in await text_of(page, "message"))
+        counts.check(f"{wrong[:9]} is no token", "This isn't a token of this office" in await read_text(page, "message"))
     await page.evaluate(SLOW)
     await page.evaluate("say(''); signIn('GAS.wrong'); look(); undefined")
     await page.wait_until("document.getElementById('message').className === 'wrong'")
@@ -57,7 +57,7 @@ async def check_first_sign_in(page, office, who, counts):
     await sign_in(page, office, who)
     counts.check("and an hourly order's after the next sign-in", await page.evaluate(FIELDS) == HOURLY)
     head = await page.evaluate("fetch(byId('head').href).then((answer) => answer.json())")
-    counts.check("the head of the day is linked", head["day"] == office.day and "after the close" in await text_of(page, "receipts-help"))
+    counts.check("the head of the day is linked", head["day"] == office.day and "after the close" in await read_text(page, "receipts-help"))
     counts.check("the page says who is signed in", await page.evaluate(f"document.body.innerText.includes('Signed in as {who}')"))
     ends = await page.evaluate(SECONDS)
     counts.check(f"a close within a minute has its seconds: {ends}", "12:00 (" in ends[0] and "12:00:30 (" in ends[1])
@@ -85,20 +85,22 @@ async def check_leaving(page, office, who, other, room, counts):
     await page.evaluate("Object.assign(state, { looks: null, count: -1 }); look(); undefined")
     await page.wait_until("asked.includes('/orders/')")  # its answer is on the way
     await click(page, "#sign-out")
-    asked = await text_of(page, "sure-words")
+    asked = await read_text(page, "sure-words")
     lost = "The change of UNIT-8 wasn't sent. The 3 rows of your table weren't sent. Sign out without it?"
     counts.check(f"what would be lost is told before: {asked}", asked == lost and await page.evaluate("byId('sure').open"))
     await click(page, "#yes")
     await page.evaluate("new Promise((done) => setTimeout(done, 1000))")
-    counts.check("an answer that comes later is for nobody", await cells_of(page, "orders-table") == [])
+    counts.check("an answer that comes later is for nobody", await read_cells(page, "orders-table") == [])
     await page.evaluate("fetch = real; undefined")
     await sign_in(page, office, other)
     counts.check("nothing of a participant is left", await page.evaluate(LEFT) == NOTHING_LEFT)
-    counts.check("and it has no orders or commands", await cells_of(page, "orders-table") == await cells_of(page, "commands-table") == [])
+    counts.check(
+        "and it has no orders or commands", await read_cells(page, "orders-table") == await read_cells(page, "commands-table") == []
+    )
     await type_into(page, "name", "HALF")
     await asyncio.to_thread(office.run_tool, "revoke", office.folder, other)
     await page.wait_until("!document.getElementById('sign-in').hidden")
-    told = await text_of(page, "message")
+    told = await read_text(page, "message")
     ended = "Your token isn't valid any more: the operator has renewed or revoked it.\nYour unfinished order HALF wasn't sent."
     counts.check(f"a token that ends is told, and what was being written: {told}", told == ended)
     await sign_in(page, office, who)
@@ -111,11 +113,12 @@ async def check_next_sign_in(page, office, who, counts):
     counts.check(
         "nothing stays after signing out",
         await page.evaluate("sessionStorage.length") == 0
-        and "UNIT-8" not in "".join([await text_of(page, name) for name in ("statement", "orders-table", "commands-table")]),
+        and "UNIT-8" not in "".join([await read_text(page, name) for name in ("statement", "orders-table", "commands-table")]),
     )
     await sign_in(page, office, who)
     await page.wait_until("!document.getElementById('results').hidden")
     counts.check(
-        "the results are there after the next sign-in", len(await cells_of(page, "statement")) == 7 and len(await cells_of(page, "prices")) == 24
+        "the results are there after the next sign-in",
+        len(await read_cells(page, "statement")) == 7 and len(await read_cells(page, "prices")) == 24,
     )
     await click(page, "#sign-out")

@@ -6,7 +6,7 @@ import signal
 import subprocess
 import tempfile
 
-from page_actions import SCROLLED, WIDTHS, cells_of, check_shown, choose, click, sign_in, type_into, wait_for_message, wait_for_rows
+from page_actions import SCROLLED, WIDTHS, read_cells, check_shown, choose, click, sign_in, type_into, wait_for_message, wait_for_rows
 from page_fields import check_faults
 from page_lost_answers import check_lost_answer
 from page_orders import check_changing, check_entering
@@ -59,13 +59,13 @@ async def check_length(page, office, periods, counts):
     await page.press_key("Enter", 13)
     await click(page, "#enter")
     await wait_for_rows(page, "orders-table", 1)
-    first = (await cells_of(page, "commands-table"))[0]
+    first = (await read_cells(page, "commands-table"))[0]
     counts.check(f"a block over {periods} periods: {first}", first[6:8] == ["4,000.00", f"1-{periods}: 9,999.9"])
     fits = await page.evaluate("document.documentElement.scrollWidth") <= WIDTHS[0] and await page.evaluate(SCROLLED) == 0
     counts.check(f"a day of {periods} periods fits into {WIDTHS[0]}", fits)
     await asyncio.to_thread(office.close_day)
     await page.wait_until("!document.getElementById('results').hidden")
-    (row,), prices = await cells_of(page, "statement"), await cells_of(page, "prices")
+    (row,), prices = await read_cells(page, "statement"), await read_cells(page, "prices")
     energy = f"{9_999.9 * periods * float(rules.DAYS[periods]):,.1f}"
     counts.check(f"{energy} MWh of {periods} periods: {row}", row[5:7] == [energy, "0.0"] and row[9] == "paradoxically rejected")
     words = "at the prices, but if it were accepted, a block would lose, a period wouldn't balance, or the welfare wouldn't be greater"
@@ -111,13 +111,13 @@ async def check_demo_page(url, counts, pictures):
         await page.wait_until("!document.getElementById('results').hidden")
         await page.wait_until("document.activeElement.id === 'results-title'")
         counts.check("a demo that is closed can't be closed again", await page.evaluate("byId('demo-close').hidden"))
-        (night,), prices = await cells_of(page, "statement"), await cells_of(page, "prices")
+        (night,), prices = await read_cells(page, "statement"), await read_cells(page, "prices")
         counts.check(f"a block over a night has a price in the demo: {night}", night[6:8] == ["25.0", "48.00"] and night[9] == "accepted")
         counts.check("each period of the demo has trade", len(prices) == 24 and not any("nominal" in row[2] for row in prices))
         counts.check("no script of the demo fails", not page.faults)
 
 
-def run_demo(args, counts):
+def run_and_check_demo(args, counts):
     port = find_free_port()
     words = [*TOOL, "demo", "--no-browser", "--port", str(port), "--dam", args.dam, "--desk", args.desk]
     with subprocess.Popen(words, stdout=subprocess.PIPE, stderr=subprocess.DEVNULL, text=True) as process:
@@ -133,4 +133,4 @@ def check(args, counts):
         office.start()
         asyncio.run(check_day(office, counts, args.pictures, room))
     asyncio.run(check_lengths(args, counts))
-    run_demo(args, counts)
+    run_and_check_demo(args, counts)

@@ -36,8 +36,8 @@ def run_tool(name, *words):
     return subprocess.run([sys.executable, "-I", "-B", TOP / "tools" / name, *map(str, words)], capture_output=True, text=True)
 
 
-def is_refused(call, fault):
-    """Whether a call is refused with a fault of this name."""
+def call_and_see_refusal(call, fault):
+    """Makes a call, and returns whether it is refused with a fault of this name."""
     try:
         call()
     except OfficeFault as found:
@@ -60,7 +60,7 @@ def check_strangers(args, counts):
         client = office.client_of(who)
         client.enter(office.day, f"cancel,{who},A,,,,,,")
         office.run_tool("revoke", office.folder, who)
-        counts.check("a revoked token is refused at once", is_refused(lambda: client.orders(office.day), "Token"))
+        counts.check("a revoked token is refused at once", call_and_see_refusal(lambda: client.orders(office.day), "Token"))
         hostile.check_secrets(office, counts)
 
 
@@ -98,7 +98,9 @@ def check_full_disk(args, counts):
             counts.check("and the ends of the desk are counted", office.read_metric("dam_office_desk_ends_total") > 0)
             full.unlink()
             receipt = office.client_of(who).enter(office.day, record % f"B-{entered}")[0]
-            counts.check("with room the same command is entered once", receipt["number"] == entered + 1 == len(office.run_desk_for_journal()))
+            counts.check(
+                "with room the same command is entered once", receipt["number"] == entered + 1 == len(office.run_desk_for_journal())
+            )
             for part in (("desk",), ("office",)):
                 office.kill(*part)
                 if "office" in part:
@@ -165,7 +167,10 @@ def check_ended_desk(args, counts):
             office.start()
             (first,) = office.find_desk_processes()
             office.kill("desk")
-            counts.check("an idle desk that ends is opened again", wait_until(lambda: office.find_desk_processes() not in ([], [first]) and office.is_ready()))
+            counts.check(
+                "an idle desk that ends is opened again",
+                wait_until(lambda: office.find_desk_processes() not in ([], [first]) and office.is_ready()),
+            )
             unreadable.touch()
             office.kill("desk")
             counts.check("without one the office is unavailable", wait_until(lambda: office.request("/healthz")[0] == 503, 5))
@@ -185,7 +190,9 @@ def check_rolled_back(args, counts):
         client.enter(office.day, f"cancel,{who},A,,,,,,")
         earlier = desk.read_bytes()
         client.enter(office.day, f"cancel,{who},B,,,,,,")
-        counts.check("the newest head is soon in its file", wait_until(lambda: signed.exists() and json.loads(signed.read_bytes())["size"] == 2))
+        counts.check(
+            "the newest head is soon in its file", wait_until(lambda: signed.exists() and json.loads(signed.read_bytes())["size"] == 2)
+        )
         office.kill("office", "desk")
         later = desk.read_bytes()
         for lost in (earlier, None):
@@ -200,7 +207,9 @@ def check_rolled_back(args, counts):
                 office.log.write_text("")
         desk.write_bytes(later)
         office.start()
-        counts.check("with its file back the day goes on", office.client_of(who).enter(office.day, f"cancel,{who},C,,,,,,")[0]["number"] == 3)
+        counts.check(
+            "with its file back the day goes on", office.client_of(who).enter(office.day, f"cancel,{who},C,,,,,,")[0]["number"] == 3
+        )
         office.stop()
         counts.check("an orderly end has the newest head", json.loads(signed.read_bytes())["size"] == 3)
         desk.write_bytes(earlier)
@@ -224,7 +233,11 @@ def check_restored(args, counts):
         records = "".join(f"{record}\n" for record in [*backup, *(receipt["record"] for receipt in after)])
         subprocess.run([args.desk, office.files / "desk"], input=records.encode(), capture_output=True, check=True)
         office.start()
-        again = [(who, json.loads(office.request(f"{path}/{who}/{number}", office.bearer_header(who))[2])) for number in (1, 2) for who in office.who]
+        again = [
+            (who, json.loads(office.request(f"{path}/{who}/{number}", office.bearer_header(who))[2]))
+            for number in (1, 2)
+            for who in office.who
+        ]
         counts.check("a day that was restored from receipts gives the same ones", again == entered)
         counts.check("and has the same head", office.request(f"/days/{office.day}/head")[2] == head)
 
@@ -302,7 +315,8 @@ def check_week(args, counts):
         office.client_of(who).enter(first, f"cancel,{who},A,,,,,,")
         table = office.folder.parent / "more.csv"
         table.write_text(f"participant,commands\n{who},7\nNEW,9\n")
-        made = office.run_tool("init", office.folder, "--day", later, "--periods", 96, "--close", "12:00", "--participants", table, "--json")
+        words = ["--day", later, "--periods", 96, "--close", "12:00", "--participants", table, "--json"]
+        made = office.run_tool("init", office.folder, *words)
         office.tokens.update(json.loads(made.stdout)["tokens"])
         until = time.monotonic() + 10
         while office.request(f"/days/{later}")[0] != 200 and time.monotonic() < until:
@@ -311,15 +325,20 @@ def check_week(args, counts):
         counts.check("a day is added while another is open", new.enter(later, "submit,NEW,A,hour,buy,1,96:1,,")[0]["reply"] == "done")
         counts.check("days have journals of their own", [one["entries"] for one in new.days()] == [1, 1])
         counts.check(
-            "and shares of their own", is_refused(lambda: office.client_of(who).enter(later, *[f"cancel,{who},A,,,,,,"] * 8), "ShareUsed")
+            "and shares of their own",
+            call_and_see_refusal(lambda: office.client_of(who).enter(later, *[f"cancel,{who},A,,,,,,"] * 8), "ShareUsed"),
         )
-        counts.check("a participant of one day has none of another", is_refused(lambda: new.enter(first, "cancel,NEW,A,,,,,,"), "ShareUsed"))
+        counts.check(
+            "a participant of one day has none of another",
+            call_and_see_refusal(lambda: new.enter(first, "cancel,NEW,A,,,,,,"), "ShareUsed"),
+        )
         again = subprocess.run([*TOOL, "serve", office.folder, "--port", "0"], env=office.environment, capture_output=True, text=True)
         counts.check(f"an office is served once: {again.stderr}", again.returncode == 3 and "another process serves" in again.stderr)
         old, token = office.client_of("NEW"), office.run_tool("renew", office.folder, "NEW").stdout.decode().strip()
         office.tokens["NEW"] = token
         counts.check(
-            "a renewed token ends the old one", is_refused(lambda: old.orders(later), "Token") and len(office.client_of("NEW").orders(later)) == 1
+            "a renewed token ends the old one",
+            call_and_see_refusal(lambda: old.orders(later), "Token") and len(office.client_of("NEW").orders(later)) == 1,
         )
         office.run_tool("close", office.folder, first)
         state = json.loads(office.run_tool("status", office.folder, "--json").stdout)
@@ -345,11 +364,11 @@ def check_demo(args, counts):
             counts.check("a demo names its page", f"http://127.0.0.1:{port}/" in process.stdout.readline())
             url = f"http://127.0.0.1:{port}"
             names = Office(url, "").ask(Asked("GET", "/demo"))
-            described.check_of_demo(counts, "get", "/demo", names)
+            described.check_answer_of_demo(counts, "get", "/demo", names)
             gas = Office(url, json.loads(names)["participants"]["GAS"])
             (day,) = (one["day"] for one in gas.days())
             gas.enter(day, "submit,GAS,UNIT-8,hour,sell,6000,8:500,,")
-            described.check_of_demo(counts, "post", "/days/{day}/close", gas.ask(Asked("POST", f"/days/{day}/close")))
+            described.check_answer_of_demo(counts, "post", "/days/{day}/close", gas.ask(Asked("POST", f"/days/{day}/close")))
             counts.check("a demo describes its requests", gas.get("/openapi.json") == described.DEMO)
             until = time.monotonic() + 20
             while not gas.days()[0]["has_statement"] and time.monotonic() < until:
@@ -374,7 +393,7 @@ def check_published(args, counts, office):
     """The published texts are the program's own, the audit accepts them with the head, and each participant has its statement."""
     who = office.who[0]
     client = office.client_of(who)
-    counts.check("the journal isn't published by itself", is_refused(lambda: client.text(office.day, "journal"), "NotFound"))
+    counts.check("the journal isn't published by itself", call_and_see_refusal(lambda: client.text(office.day, "journal"), "NotFound"))
     office.run_tool("publish", office.folder)
     journal, results, replies = (client.text(office.day, name) for name in ("journal", "results", "replies"))
     cleared = subprocess.run([args.dam, "clear"], input=journal, capture_output=True, check=True).stdout
@@ -393,7 +412,7 @@ def check_published(args, counts, office):
         name, *more = texts
         ran = run_tool("audit", folder / "journal.csv", folder / name, *more, *words)
         counts.check(f"the audit accepts {name}: {ran.stdout[-300:]}{ran.stderr[-300:]}", ran.returncode == 0)
-    while is_refused(lambda: client.statement(office.day), "NotFound"):
+    while call_and_see_refusal(lambda: client.statement(office.day), "NotFound"):
         time.sleep(0.1)
     rows = client.statement(office.day)
     counts.check(

@@ -92,7 +92,12 @@ def check_hostile_packages(counts, folder, room):
         ("a name that occurs often", often, 1, [*(f"{name} is not made here" for name in numbered), *more]),
         ("a commit with a line end", {"share/dam/provenance.json": {**told, "commit": f"1\n{PLAIN}: the same"}}, 3, "is of commit 1\\n"),
         ("a commit that is none", {"share/dam/provenance.json": {**told, "commit": [1]}}, 3, "is of commit [1], "),
-        ("a deep provenance", {"share/dam/provenance.json": b"[" * 100_000}, 3, "isn't a package of dam: it has no share/dam/provenance.json"),
+        (
+            "a deep provenance",
+            {"share/dam/provenance.json": b"[" * 100_000},
+            3,
+            "isn't a package of dam: it has no share/dam/provenance.json",
+        ),
         ("a deep check", {"share/dam/provenance.json": {**told, "check": json.loads("[" * 500 + "]" * 500)}}, 3, "isn't a package of dam"),
         ("a large file", {"large": 70 << 20}, 3, "isn't a package of dam: it unpacks to more than 67,108,864 bytes"),
     ):

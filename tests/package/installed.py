@@ -106,7 +106,7 @@ def make_system(root, name, place):
     return None
 
 
-def run_apt(counts, system, *words):
+def run_apt_and_check(counts, system, *words):
     """A run of apt-get, which has to succeed."""
     status, _, error = system.run("apt-get", "-qy", "--no-install-recommends", *words)
     counts.check(f"apt-get {words[0]}: {error[-500:]}", status == 0)
@@ -127,7 +127,11 @@ def check_day(counts, system):
     check("dam-desk", f"dam-desk day.desk < {SUNNY} > answers.txt && dam-desk --journal day.desk | dam clear", lambda out: out == results)
     check("the desk's answers", f"dam replay < {SUNNY} | cmp - answers.txt", lambda out: not out)
     check("man dam-desk", "man dam-desk", lambda out: b"dam-desk --journal FILE" in out and b"EXIT STATUS" in out)
-    check("man dam", "man dam", lambda out: b"dam clear [OPTIONS] < JOURNAL" in out and b"dam-audit --version prints it" in b" ".join(out.split()))
+    check(
+        "man dam",
+        "man dam",
+        lambda out: b"dam clear [OPTIONS] < JOURNAL" in out and b"dam-audit --version prints it" in b" ".join(out.split()),
+    )
     check("the version", "! dam --version 2> refused && dam-audit --version", lambda out: out == f"dam-audit {VERSION}\n".encode())
     check("man dam-audit", "man dam-audit", lambda out: b"dam-audit --best examples/auction-day.csv" in out)
     library = "/usr/lib/x86_64-linux-gnu/libdam.so.1"
@@ -182,15 +186,20 @@ def check_in_system(counts, system, package, archive, caller):
     status, out, _ = system.run_in_shell(f"command -v {FOREIGN}")
     counts.check(f"a fresh system has none of {FOREIGN}: {out}", status != 0 and not out)
     shutil.copy(package, f"{system.root}/dam.deb")
-    run_apt(counts, system, "update")
-    run_apt(counts, system, "satisfy", f"{read_field(package, 'Depends')}, {read_field(package, 'Recommends')}, {OF_THE_REPORT}, {OF_THE_OFFICE}, {OF_THE_PAGES}")
+    run_apt_and_check(counts, system, "update")
+    run_apt_and_check(
+        counts,
+        system,
+        "satisfy",
+        f"{read_field(package, 'Depends')}, {read_field(package, 'Recommends')}, {OF_THE_REPORT}, {OF_THE_OFFICE}, {OF_THE_PAGES}",
+    )
     before = system.list_files()
-    run_apt(counts, system, "install", "/dam.deb")
+    run_apt_and_check(counts, system, "install", "/dam.deb")
     check_day(counts, system)
     check_office(counts, system)
     reader.check_pages_in_system(counts, system, package, archive)
-    run_apt(counts, system, "purge", "dam")
+    run_apt_and_check(counts, system, "purge", "dam")
     left = sorted(system.list_files() - before)
     counts.check(f"left after the package was removed: {left[:10]}", not left)
-    run_apt(counts, system, "install", "/dam.deb", "gcc", "libc6-dev", "pkgconf")
+    run_apt_and_check(counts, system, "install", "/dam.deb", "gcc", "libc6-dev", "pkgconf")
     check_in_c(counts, system, caller)

@@ -89,14 +89,15 @@ def compile_or_copy_stand_ins(folder, given):
 
 def read_usage_of_desk():
     """The help of dam-desk, from its source."""
-    return re.search(r'^pub\(crate\) const USAGE: &str = "(.*?)";$', (TOP / "crates/dam_desk/src/command_line.rt").read_text(), re.M | re.S)[1]
+    source = (TOP / "crates/dam_desk/src/command_line.rt").read_text()
+    return re.search(r'^pub\(crate\) const USAGE: &str = "(.*?)";$', source, re.M | re.S)[1]
 
 
 def run_tool(folder, *words, **how):
     return run_command([sys.executable, "tools/package", *words], folder, **how)
 
 
-def make_packages(counts, folder, other=False):
+def make_and_check_packages(counts, folder, other=False):
     """Makes the packages of a copy: their folder."""
     room = folder.parent / f"made of {folder.name}"
     how = {"env": {**os.environ, **OTHER, "TMPDIR": str(folder.parent)}, "umask": 0o077} if other else {}

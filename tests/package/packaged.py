@@ -66,7 +66,8 @@ def check_man_pages(counts, files, of_dam):
             counts.check(f"{name} doesn't say that the examples have to be copied", b"first copy the folder examples" in text)
     for name in ("README.md", "docs/GUIDE.md", "docs/OPERATING.md"):
         plain = " ".join(files[f"share/doc/dam/{name}"].decode().split())
-        both = "cp -r /usr/share/doc/dam/examples ." in plain, bool(re.search(r"archive('s|\b[^.]* its|\b[^.]*\(examples:) `share/doc/dam`", plain))
+        in_archive = re.search(r"archive('s|\b[^.]* its|\b[^.]*\(examples:) `share/doc/dam`", plain)
+        both = "cp -r /usr/share/doc/dam/examples ." in plain, bool(in_archive)
         counts.check(f"{name} says where each package has the examples: {both}", all(both))
 
 
@@ -154,7 +155,9 @@ def check_units(counts, files):
     unit = files["share/doc/dam/examples/operating/dam-office.service"].decode()
     (line,) = re.findall(r"^ExecStart=(.*)$", unit, re.MULTILINE)
     program, *words = line.split()
-    counts.check(f"the unit's program: {program}", program == "/usr/bin/dam-office" and "lib/python3/dist-packages/dam_tools/office" in files)
+    counts.check(
+        f"the unit's program: {program}", program == "/usr/bin/dam-office" and "lib/python3/dist-packages/dam_tools/office" in files
+    )
     page = subprocess.run(["gzip", "-dc"], input=files["share/man/man1/dam-office-serve.1.gz"], stdout=subprocess.PIPE).stdout.decode()
     unknown = [word for word in words[1:] if word.startswith("-") and word.replace("-", "\\-") not in page]
     counts.check(f"the unit's words {words}: {unknown}", words[0] == "serve" and not unknown)
@@ -181,12 +184,14 @@ def check_completions(counts, files, program):
     script = files[COMPLETIONS[0].format("dam")].decode()
     for typed, wanted in (("dam ", f"{' '.join(commands)} --help"), ("dam clear --w", "--workers"), ("dam replay --w", "")):
         given = " ".join(f"'{word}'" for word in typed.split(" "))
-        shown = run_command(["bash", "-c", f'{script}\nCOMP_WORDS=({given}); COMP_CWORD={typed.count(" ")}; _dam; echo "${{COMPREPLY[*]}}"'])[1]
+        line = f'COMP_WORDS=({given}); COMP_CWORD={typed.count(" ")}; _dam; echo "${{COMPREPLY[*]}}"'
+        shown = run_command(["bash", "-c", f"{script}\n{line}"])[1]
         counts.check(f"bash completes {typed}: {shown}", shown == f"{wanted}\n")
 
 
 def check_glibc(counts, files, room):
-    """The oldest C library that the programs and the library run on is the one that the page names, and the package asks for the program's."""
+    """The oldest C library that the programs and the library run on is the one that the page names, and the package asks for the
+    program's."""
     for name, oldest in GLIBC.items():
         (room / "one").write_bytes(files[name])
         _, shown, _ = run_command(["objdump", "-T", room / "one"])

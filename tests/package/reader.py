@@ -102,4 +102,4 @@ def check_page(counts, name, place, room, given):
         prefix = place.environment["PREFIX"]
         asked = [*reader.shell, "test", "-w", f"{prefix}/bin", "-o", "-w", f"{prefix}/share/doc/dam"]
         counts.check(f"{name}: the user may write to the package", subprocess.run(asked).returncode == 1)
-        session.run_commands(counts, name, reader, own)
+        session.run_and_check_commands(counts, name, reader, own)

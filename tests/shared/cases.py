@@ -85,7 +85,8 @@ class Part(NamedTuple):
     lines: list  # each with its number
 
     def with_cells(self, row):
-        return Part(self.number, self.kind, with_cells_of_row(self.number, self.value, row), [(at, with_cells_of_row(at, line, row)) for at, line in self.lines])
+        lines = [(at, with_cells_of_row(at, line, row)) for at, line in self.lines]
+        return Part(self.number, self.kind, with_cells_of_row(self.number, self.value, row), lines)
 
 
 class CaseReader:

@@ -1,5 +1,5 @@
-# compiling.sh: the beginning of a run that needs Python and a C compiler. The run sources it, and says in `here` which folder its own is, and
-# in `subject` what it tests. It makes the folder `room`, which goes away at the end, finds `python`, and defines `leave` and `build`.
+# compiling.sh: the beginning of a run that needs Python and a C compiler. The run sources it. The variable `here` names the folder of the
+# run, and `subject` the object of its tests. It makes the folder `room`, which goes away at the end, finds `python`, and defines functions.
 room=$(mktemp -d)
 memory=
 trap 'rm -rf "$room" "$memory"' EXIT
@@ -15,7 +15,8 @@ leave() {
 python=$("$here/../new-python")
 [ -n "$python" ] || leave 'Python 3.10 or newer is missing'
 command -v cc > "$room/cc" || leave 'a C compiler `cc` is missing'
-printf '#define _GNU_SOURCE\n#include <dlfcn.h>\n#include <sys/mman.h>\nint main(void) { return memfd_create("", 0) < 0; }\n' > "$room/empty.c"
+printf '#define _GNU_SOURCE\n#include <dlfcn.h>\n#include <sys/mman.h>\n' > "$room/empty.c"
+printf 'int main(void) { return memfd_create("", 0) < 0; }\n' >> "$room/empty.c"
 cc -o "$room/empty" "$room/empty.c" -ldl 2> "$room/errors" || leave "$(head -n 1 "$room/errors")"
 
 # build WORD..: compiles one of our own files; if that fails with a compiler that works, so does the run.

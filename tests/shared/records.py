@@ -45,6 +45,7 @@ def submits_of_book(periods, orders=ORDERS, blocks=rules.MOST_BLOCKS):
 
 def full_journal():
     """A full book, an amend of each hourly order, and as many cancels as there may be before the close of a day."""
-    records = [*submits_of_book(24), *(f"amend,{code},N-{at},,,{4_000 + at},{1 + at % 24}:7,,\n" for at, code in zip(range(ORDERS), participant_codes()))]
+    owners = list(zip(range(ORDERS), participant_codes()))
+    records = [*submits_of_book(24), *(f"amend,{code},N-{at},,,{4_000 + at},{1 + at % 24}:7,,\n" for at, code in owners)]
     left = rules.MOST_DAY_COMMANDS - len(records)
     return records + [f"cancel,{code},N-{at},,,,,,\n" for at, code in zip(range(left), participant_codes())]

@@ -1,5 +1,5 @@
-"""Days of each shape, with commands of each kind and for each refusal: on short and long days, with short and long names, and with volumes in
-one period or in each."""
+"""Days of each shape, with commands of each kind and for each refusal: on short and long days, with short and long names, and with volumes
+in one period or in each."""
 
 import itertools
 from typing import NamedTuple
@@ -83,10 +83,16 @@ def commands_by_name(shape):
         )
     yield "NameTaken", itertools.cycle([shape.submit_of_hour(1, name=hour), shape.submit_of_block(1, name=shape.name_of(9_001))])
     yield "UnknownOrder", itertools.cycle([shape.amend_of(free, 1, shape.volumes()), shape.cancel_of(free)])
-    yield "WrongShape", itertools.cycle([shape.amend_of(hour, 1, volumes_text(shape.periods if shape.is_wide else 2, lambda period: period))])
+    several = volumes_text(shape.periods if shape.is_wide else 2, lambda period: period)
+    yield "WrongShape", itertools.cycle([shape.amend_of(hour, 1, several)])
     yield "UnknownParent", itertools.cycle([shape.submit_of_block(1, name=free, parent=shape.name_of(8_000), group="G")])
     yield "ParentNotBlock", itertools.cycle([shape.submit_of_block(1, name=free, parent=hour)])
     yield "HasChildren", itertools.cycle([shape.cancel_of(shape.name_of(9_000 + at)) for at in blocks if at % 2 == 0])
     yield "a command of each kind", itertools.cycle(
-        [shape.amend_of(hour, 1, one), shape.amend_of(shape.name_of(9_000), 1, shape.volumes()), shape.submit_of_hour(0, name=free), shape.cancel_of(free)]
+        [
+            shape.amend_of(hour, 1, one),
+            shape.amend_of(shape.name_of(9_000), 1, shape.volumes()),
+            shape.submit_of_hour(0, name=free),
+            shape.cancel_of(free),
+        ]
     )

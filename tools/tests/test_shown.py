@@ -50,7 +50,7 @@ class Scenes(unittest.TestCase):
             (room / "home").mkdir()
             (room / "page.md").write_text(page)
             reader = session.PageReader(form, room, [], session.make_environment(room / "home", {"PATH": "/usr/bin:/bin"}))
-            session.run_commands(counts, "page.md", reader, room)
+            session.run_and_check_commands(counts, "page.md", reader, room)
         return counts.passed, counts.failed
 
     def test_each_text_is_on_its_page(self):
