@@ -8,13 +8,13 @@ import os
 import re
 import resource
 import signal
-import struct
 import subprocess
 from concurrent.futures import ThreadPoolExecutor
 
 import crashes
 import images
 import journals
+from shared.preload import RefusedCalls, prepare_environment, read_counts
 from device import ADVICE, CUT, EVERY, INPUT, LOCK, OPEN, OUTPUT, READ, SECONDS, STAT, SYNC, WRITE, RefusedFileCalls
 
 MODE = "M"
@@ -156,12 +156,11 @@ class RunsWithRefusals(crashes.Crashes):
         return self.wrong
 
 
-def run_with_hostile_library(desk, file, batches, plan):
+def run_with_refused_calls(desk, file, batches, refusal):
     """Runs the desk with calls refused by the library of refuse.c, and returns the run and the number of such calls."""
-    calls = file.with_suffix(".calls")
-    calls.write_bytes(bytes(16))
-    more = {"LD_PRELOAD": f"{desk.library}:{desk.room}/refuse.so", "HOSTILE": plan, "HOSTILE_CALLS": str(calls)}
-    return desk.run(file, batches, more=more), struct.unpack("@2L", calls.read_bytes())[0]
+    counts = file.with_suffix(".calls")
+    more = prepare_environment(f"{desk.library}:{desk.room}/refuse.so", refusal, counts)
+    return desk.run(file, batches, more=more), read_counts(counts)[0]
 
 
 class RunsWithoutMemory(RunsWithRefusals):
@@ -170,7 +169,7 @@ class RunsWithoutMemory(RunsWithRefusals):
     def run_refusing_memory(self, numbers):
         first, last = numbers
         file = self.write_held_file()
-        ran, made = run_with_hostile_library(self.desk, file, self.given.batches, f"memory {first} {last} 0 0")
+        ran, made = run_with_refused_calls(self.desk, file, self.given.batches, RefusedCalls("memory", first, last))
         about = f"{self.about}: growth {first}" + (" and all later ones" if last != first else "")
         if not (self.is_whole(None, ran) or (ran.status, ran.stderr) == (MACHINE, MEMORY) and self.is_front(ran.stdout, True)):
             self.wrong.append(f"{about}: status {ran.status}, {ran.stderr[:60]!r}, {ran.stdout[-60:]!r}")
@@ -248,7 +247,7 @@ def check_random_bytes(counts, desk, given):
             (3, 3, 0, whole, b""),
         ]:
             file = desk.make_folder() / "day.desk"
-            ran, made = run_with_hostile_library(desk, file, given.batches, f"random {first} {last} {error} 0")
+            ran, made = run_with_refused_calls(desk, file, given.batches, RefusedCalls("random", first, last, error))
             about = f"random bytes refused from draw {first} to {last} of {made} with {errno.errorcode[error]}"
             counts.check(f"{about}: {ran}", made >= first and (ran.status, ran.stdout, ran.stderr) == (status, printed, line))
             counts.check(f"{about}: the file is there: {file.exists()}", file.exists() == (first > 1))

@@ -12,6 +12,7 @@ from .printed import Printed
 SECONDS = 120
 EVERY = 2**63  # above the number of any call
 NONE = -1
+COUNTS = struct.Struct("@3L")  # what the library counts: calls, writes before each thread was joined, and calls for memory that got a block
 LEFT = b"written before each thread was joined\n"
 
 
@@ -30,6 +31,17 @@ class RefusedCalls(NamedTuple):
         return min(count, (self.first - 1) * (self.most or count))
 
 
+def prepare_environment(library, refusal, counts):
+    """The environment of a run with these calls refused, and with the library of refuse.c among those of LD_PRELOAD. Makes the file of the
+    counts, in which nothing is counted yet."""
+    counts.write_bytes(bytes(COUNTS.size))
+    return {"LD_PRELOAD": str(library), "HOSTILE": " ".join(map(str, refusal)), "HOSTILE_CALLS": str(counts)}
+
+
+def read_counts(counts):
+    return COUNTS.unpack(counts.read_bytes())
+
+
 class HostileProgram:
     """The program, and a folder for the inputs and the counts of its runs."""
 
@@ -40,9 +52,9 @@ class HostileProgram:
 
     def counts_file(self):
         """The file that a run of this thread counts its calls in."""
-        if not hasattr(self.own, "calls"):
-            self.own.calls = self.room / f"calls-{threading.get_ident()}"
-        return self.own.calls
+        if not hasattr(self.own, "counts"):
+            self.own.counts = self.room / f"calls-{threading.get_ident()}"
+        return self.own.counts
 
     def write_input(self, data):
         """The file of an input."""
@@ -66,13 +78,7 @@ class HostileProgram:
         """Its output, and the numbers that the library counts. The input is the data, or comes from the source. The words of `under` go
         before the program. A program that writes before it has joined each thread that it started is at fault: that thread may still be
         running."""
-        calls = self.counts_file()
-        calls.write_bytes(bytes(24))
-        surroundings = {
-            "LD_PRELOAD": str(self.room / "refuse.so"),
-            "HOSTILE": " ".join(map(str, refusal)),
-            "HOSTILE_CALLS": str(calls),
-        }
+        surroundings = prepare_environment(self.room / "refuse.so", refusal, self.counts_file())
         with open(self.write_input(data), "rb") as stdin:
             how = {"stdin": source or stdin, "stdout": stdout, "stderr": subprocess.PIPE, "env": surroundings, "timeout": seconds}
             try:
@@ -80,5 +86,5 @@ class HostileProgram:
                 printed = Printed(ran.returncode, ran.stdout or b"", ran.stderr)
             except subprocess.TimeoutExpired:
                 printed = Printed(NONE, b"", f"no answer in {seconds} seconds\n".encode())
-        made, early, growths = struct.unpack("@3L", calls.read_bytes())
+        made, early, growths = read_counts(self.counts_file())
         return Printed(NONE, b"", LEFT) if early else printed, made, growths
