@@ -33,7 +33,9 @@ async def exchange_pipes(process, program, data=b""):
     """Gives the process of a program its input, and returns its output and the beginning of its standard error once it has ended. However
     much it prints, it takes little memory."""
     out, err, _ = await asyncio.gather(
-        drain_for_first_bytes(process.stdout, MOST_PRINTED), drain_for_first_bytes(process.stderr, MOST_FAULT), write_input(process.stdin, data)
+        drain_for_first_bytes(process.stdout, MOST_PRINTED),
+        drain_for_first_bytes(process.stderr, MOST_FAULT),
+        write_input(process.stdin, data),
     )
     await process.wait()
     if len(out) == MOST_PRINTED:

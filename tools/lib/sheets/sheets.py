@@ -53,8 +53,8 @@ def parse_rows(data, needed=(), notes=None, most=None, is_long=False):
     return rows, True
 
 
-def require_encoding(data, notes):
-    """The encoding of a table: UTF-8, UTF-16 with its mark, or else Windows-1252, whose letters no order has."""
+def require_encoding_and_note(data, notes):
+    """The encoding of a table: UTF-8, UTF-16 with its mark, or else Windows-1252, whose letters no order has, with a note that says so."""
     if data.startswith((codecs.BOM_UTF16_LE, codecs.BOM_UTF16_BE)):
         refuse_broken_utf_16(data)
         return "utf-16"
@@ -153,7 +153,7 @@ class Text:
     def __init__(self, data, notes, most, times):
         """`times`: how many times the cells and the text of a workbook it may have."""
         self.data, self.most, self.times = data, most, times
-        self.encoding = require_encoding(data, notes)
+        self.encoding = require_encoding_and_note(data, notes)
         self.delimiter = max(",;\t", key=self.first_line().count)
         self.has_decimal_comma = self.delimiter != ","
         self.is_counted = False  # once it was read to its end, it keeps to the limits
