@@ -1,7 +1,8 @@
 -- The reader and the writer after a desk's end.
-use Rattle.std.proofs.Common.{◌≡◌, ℕ, List, Option, Result, Ok, Err, IsErrAnd, true, false, refl, sym, ◌∙◌, subst}
+use Rattle.std.proofs.Common.{◌≡◌, ◌⊎◌, inl, inr, ℕ, List, Option, Result, Ok, Err, IsErrAnd, true, false, refl, sym, ◌∙◌, subst}
 use Rattle.std.proofs.lemmas.Bool.{both_ways}
-use Rattle.dam_desk.specs.Device.{SourceState, SinkState, AreDevicesAfter, IsReaderAfter}
+use Rattle.dam_device.specs.Device.{SourceState, SinkState}
+use Rattle.dam_desk.specs.Device.{AreDevicesAfter, IsFlushed, IsReaderAfter}
 use Rattle.dam_desk.specs.Faults.{IsWritingFault, fault_after, is_read, is_write}
 use Rattle.dam_desk.specs.declared.fault.DeskFault.{DeskFault}
 use Rattle.dam_desk.specs.declared.fault.DeskFault.TheVariants.{File, OwnOutput, Store, NotAJournal, Respelled, Read, Write, Memory}
@@ -50,3 +51,12 @@ devices_writing reader writer old new text fault (Err why) same is unfailed fail
     let kind = writing_fault old new text fault is in
     subst (λ (told : DeskFault). AreDevicesAfter reader writer (Err told)) (sym same)
     (devices_of reader writer fault kind.0 unfailed (failed ∙ sym kind.1))
+
+flushed_or_same : {W : Type 0} (old mid new : SinkState W) → IsFlushed old mid → new.failed ≡ false
+    → (new.flushed ≡ true) ⊎ (new ≡ mid) → (new.flushed ≡ true) ⊎ (new ≡ old)
+flushed_or_same old mid new first unfailed (inl flushed) = inl flushed
+flushed_or_same {W} old mid new first unfailed (inr same) = subst (λ (writer : SinkState W). IsFlushed old writer) (sym same) first unfailed
+
+-- the writer was flushed by the first part of a run, and by the rest
+pub flushed_by_both : {W : Type 0} (old mid new : SinkState W) → IsFlushed old mid → IsFlushed mid new → IsFlushed old new
+flushed_by_both old mid new first rest unfailed = flushed_or_same old mid new first unfailed (rest unfailed)

@@ -1,7 +1,7 @@
 -- The faults that end a desk, and the statuses of the program.
-use Rattle.std.specs.Prelude.{◌≡◌, ◌≢◌, ◌⊎◌, ◌+◌, ◌-◌, ◌^◌, ◌<◌, ◌≤◌, min, ℕ, Bool, true, false, List, length, take, Option}
-use Rattle.std.specs.Io.KnownBytes.{Appends}
+use Rattle.std.specs.Prelude.{◌≡◌, ◌≢◌, ◌⊎◌, ◌+◌, ◌-◌, ◌^◌, ◌<◌, min, ℕ, Bool, true, false, List, Option}
 use Rattle.sqlite_disk.specs.Disk.{MoreFaults}
+use Rattle.dam_device.specs.Device.{TakesFront}
 use Rattle.dam_book.specs.declared.command.Command.{Command}
 use Rattle.dam_results.specs.Faults.{IsJournalFault}
 use Rattle.dam_results.specs.Journal.{ReadsAs}
@@ -120,5 +120,5 @@ IsEndFault is_clean before after fault = ⊥
 
 -- the writer took exactly as many first bytes of the text as the fault says
 abbrev pub IsWritingFault : Option (List ℕ) → Option (List ℕ) → List ℕ → DeskFault → Type 0
-IsWritingFault old new text (Write written) = (written ≤ length text) × Appends old new (take written text)
+IsWritingFault old new text (Write written) = TakesFront old new written text
 IsWritingFault old new text fault = ⊥

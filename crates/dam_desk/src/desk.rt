@@ -3,16 +3,17 @@ ghost use Rattle.std.specs.Prelude.{◌≡◌, ◌⊎◌, ◌++◌, [], ℕ, Boo
 ghost use Rattle.std.specs.Io.KnownBytes.{Appends};
 ghost use Rattle.dam_store.specs.Store.{disk_of, held_lines, is_broken};
 ghost use Rattle.dam_desk.specs.Desk.{DeskHasAnswered, IsDesk, KeepsLines, MayLeave, OpensAfter, Served, end_answer};
+ghost use Rattle.dam_desk.specs.Device.{IsFlushed};
 ghost use Rattle.dam_desk.specs.DeskJournal.{State, OpensTo, next};
 ghost use Rattle.dam_desk.specs.InputLines.{kept_bytes};
 ghost use Rattle.dam_desk.specs.Faults.{IsEndFault, SaysCount, is_failed_sync, is_read, is_write};
 
-use crate::device::Sink;
 use crate::fault::{DeskFault, InputLineFault};
 use crate::fault_line::append_fault_line;
 use crate::intake::Intake;
 use crate::laws::journals_grow;
 use crate::output::write_text;
+use dam_device::Sink;
 use dam_store::Store;
 use sqlite_disk::Disk;
 use std::io::Write;
@@ -51,6 +52,7 @@ impl<D: Disk> Desk<D> {
         ensures device { MatchResult result
             (λ _. writer.new.failed ≡ false)
             (λ fault. writer.new.failed ≡ is_write fault) }
+        ensures flushed { IsFlushed writer.old writer.new }
         // A crash at any moment leaves what was held, and maybe what the lines enter.
         ensures crash { is_broken self.old.store ≡ false
             → IsTrue (D.Disk.is_clean (disk_of self.new.store))
@@ -99,6 +101,7 @@ impl<D: Disk> Desk<D> {
         ensures device { MatchResult result
             (λ _. writer.new.failed ≡ false)
             (λ fault. writer.new.failed ≡ is_write fault) }
+        ensures flushed { IsFlushed writer.old writer.new }
         ensures no_sync { IfErr result (λ fault. is_failed_sync fault ≡ false) }
         ensures cause { (is_clean : Bool) (count : ℕ)
             → IfErr result (IsEndFault is_clean count count) }

@@ -8,7 +8,6 @@ ghost use Rattle.dam_desk.specs.Faults.{fault_status};
 mod command_line;
 mod desk;
 mod desk_day;
-mod device;
 mod fault;
 mod fault_line;
 mod input_line;
@@ -26,7 +25,7 @@ mod text_lines;
 
 use command_line::{Job, USAGE, job_of, read_program_words};
 use dam_book::Seed;
-use device::{Sink, Source};
+use dam_device::{Sink, Source};
 use fault::{DeskFault, status};
 use output::write_text;
 use run::serve_file;

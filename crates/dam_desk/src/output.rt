@@ -1,14 +1,13 @@
-ghost use Rattle.std.specs.Prelude.{◌≡◌, ◌≤◌, true, false, length, take, IfErr, OnOk, MatchResult};
+ghost use Rattle.std.specs.Prelude.{◌≡◌, true, false, IfErr, OnOk, MatchResult};
 ghost use Rattle.std.specs.Io.KnownBytes.{Appends};
+ghost use Rattle.dam_desk.specs.Device.{IsFlushed};
 ghost use Rattle.dam_desk.specs.Faults.{IsWritingFault};
 
-use crate::device::Sink;
 use crate::fault::DeskFault;
+use dam_device::{Sink, WriteFailed};
 use std::io::Write;
 
 /// Writes the text, and flushes the writer once after its last byte. It isn't called for a text of no bytes.
-///
-/// No clause speaks of the flush: a writer's clauses say of it only that the bytes stay.
 pub(crate) fn write_text<W: Write>(writer: &mut Sink<W>, text: &[u8]) -> Result<(), DeskFault>
     requires { writer.old.failed ≡ false }
     ensures done { OnOk result (Appends writer.old.taken writer.new.taken text.now) }
@@ -17,16 +16,13 @@ pub(crate) fn write_text<W: Write>(writer: &mut Sink<W>, text: &[u8]) -> Result<
     ensures cause { MatchResult result
         (λ _. writer.new.failed ≡ false)
         (λ _. writer.new.failed ≡ true) }
+    ensures flushed { IsFlushed writer.old writer.new }
 {
-    let mut written = 0;
-    while written < text.len() {
-        match writer.write(&text[written..]) {
-            Err(_) => return Err(DeskFault::Write(written)),
-            Ok(count) => written += count,
-        }
+    if text.is_empty() {
+        return Ok(());
     }
-    if !text.is_empty() && writer.flush().is_err() {
-        return Err(DeskFault::Write(written));
+    match writer.write_text(text) {
+        Ok(()) => Ok(()),
+        Err(WriteFailed { written }) => Err(DeskFault::Write(written)),
     }
-    Ok(())
 }

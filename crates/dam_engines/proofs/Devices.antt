@@ -1,10 +1,11 @@
 -- The devices of a run that ends with a fault which isn't of a device, and of one whose writer failed.
 use Rattle.std.proofs.Common.{◌≡◌, ℕ, true, false, List, [], ◌≤◌, ◌+◌, take, Option, Some, None, Result, Ok, Err, OnOk, IfErr, MatchResult, refl, arith}
 use Rattle.std.proofs.lemmas.List.{length-take}
+use Rattle.dam_device.specs.Device.{SourceState, SinkState, IsFlushedOnce}
 use Rattle.dam_engines.specs.declared.fault.RunFault.{RunFault}
 use Rattle.dam_engines.specs.declared.fault.RunFault.TheVariants.{Read, Input, TooManyCommands, CloseGiven, TooManyParticipants, StillOpen}
 use Rattle.dam_engines.specs.declared.fault.RunFault.TheVariants.{Mismatch, Unfinished, Collected, Memory, Write}
-use Rattle.dam_engines.specs.Device.{SourceState, SinkState, GivesAll, GivesFront, HasServed, IsFlushedOnce, AreDevicesAfter}
+use Rattle.dam_engines.specs.Device.{GivesAll, GivesFront, HasServed, AreDevicesAfter}
 use Rattle.dam_engines.specs.Engine.{most_read, IsWritingFault}
 use Rattle.dam_engines.proofs.Cuts.{cut-told}
 

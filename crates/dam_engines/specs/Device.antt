@@ -1,35 +1,10 @@
 -- The reader and the writer of a run, before and after it.
-use Rattle.std.specs.Prelude.{◌≡◌, ◌≤◌, ◌+◌, ◌-◌, ◌^◌, ℕ, min, Bool, true, false, List, length, take, Option, Some, None, IfSome, Result, Ok, Err}
+use Rattle.std.specs.Prelude.{◌≡◌, ◌≤◌, ◌+◌, ℕ, min, true, false, List, length, take, Option, Some, None, IfSome, Result, Ok, Err}
 use Rattle.std.specs.Io.KnownBytes.{Consumes}
+use Rattle.dam_device.specs.Device.{SourceState, SinkState, IsFlushedOnce}
 use Rattle.dam_engines.specs.declared.fault.RunFault.{RunFault}
 use Rattle.dam_engines.specs.declared.fault.RunFault.TheVariants.{Read, Memory, Write}
 use Rattle.dam_engines.specs.Engine.{most_read}
-
--- a reader: the bytes that it hasn't given yet, if it shows them; how often it was asked for some; whether it failed, after which
--- it isn't asked again
-pub record SourceState (R : Type 0) : Type 0 where
-  pub inner : R
-  pub unread : Option (List ℕ)
-  pub asked : ℕ
-  pub failed : Bool
-
--- a writer: the bytes that it took, if it shows them; how often it was asked to take some, and how often it was flushed; whether it
--- failed, after which it isn't asked again; and whether it was flushed after all that it took
-pub record SinkState (W : Type 0) : Type 0 where
-  pub inner : W
-  pub taken : Option (List ℕ)
-  pub asked : ℕ
-  pub flushes : ℕ
-  pub failed : Bool
-  pub flushed : Bool
-
--- a count of calls after one call more; it stays at the greatest number that it can show
-abbrev pub one_more : ℕ → ℕ
-one_more count = min (count + 1) (2 ^ 64 - 1)
-
--- a writer that was flushed once, after all that it took
-abbrev pub IsFlushedOnce : {W : Type 0} → SinkState W → SinkState W → Type 0
-IsFlushedOnce old new = (new.flushes ≡ one_more old.flushes) × (new.flushed ≡ true)
 
 -- how often a run asks a reader at most: if it shows its bytes, once for each, and once more, which shows that there is no other; and
 -- never more often than bytes are read at most

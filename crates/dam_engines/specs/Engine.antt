@@ -1,7 +1,8 @@
 -- The end of a run and its faults, in all engines.
-use Rattle.std.specs.Prelude.{◌≢◌, ◌≤◌, ◌+◌, ℕ, List, Option, Result, Ok, Err, length, take}
+use Rattle.std.specs.Prelude.{◌≢◌, ◌≤◌, ◌+◌, ℕ, List, Option, Result, Ok, Err, length}
 use Rattle.std.specs.Io.KnownBytes.{Appends}
 use Rattle.dam_book.specs.declared.command.Command.{Command}
+use Rattle.dam_device.specs.Device.{TakesFront}
 use Rattle.dam_results.specs.declared.journal_reading.JournalFault.TheVariants.{Memory as MemoryOfJournal}
 use Rattle.dam_results.specs.Limits.{most_bytes}
 use Rattle.dam_results.specs.Journal.{IsMadeFrom}
@@ -25,10 +26,6 @@ abbrev pub IsRunFault : (ℕ → List Command → RunFault → Type 0) → List 
 IsRunFault IsFault text (Input fault) = IsTextFault text (Input fault)
 IsRunFault IsFault text Memory = Unit {0}
 IsRunFault IsFault text fault = IsMadeFrom IsFault text fault
-
--- the writer took exactly this many first bytes of the text
-abbrev pub TakesFront : Option (List ℕ) → Option (List ℕ) → ℕ → List ℕ → Type 0
-TakesFront old new written text = (written ≤ length text) × Appends old new (take written text)
 
 -- how writing a text can fail: the writer took exactly as many first bytes of it as the fault says
 abbrev pub IsWritingFault : Option (List ℕ) → Option (List ℕ) → List ℕ → RunFault → Type 0

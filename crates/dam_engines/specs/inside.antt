@@ -1,3 +1,2 @@
 -- Only contracts inside this crate cite these.
 pub mod Reading
-pub mod Counted

@@ -6,13 +6,13 @@ ghost use Rattle.dam_engines.specs.Device.{AreDevicesAfter, most_asked};
 ghost use Rattle.dam_engines.specs.Engine.{Ends, IsRunFault, IsTextFault};
 ghost use Rattle.dam_engines.specs.Clear.{AreResultsWithin, IsBookFault, IsClearFault, IsClearedWithin};
 
-use crate::device::{Sink, Source};
 use crate::fault::RunFault;
 use crate::input::read_input;
 use crate::output::write_text;
 use crate::watch::Watch;
 use dam_blocks::Problem;
 use dam_book::{Book, Seed};
+use dam_device::{Sink, Source};
 use dam_results::publishing_laws::published_results_are_clearings;
 use dam_results::{Run, results, results_text, run_of_text};
 use dam_search::{Plan, search};

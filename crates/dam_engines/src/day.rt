@@ -11,12 +11,12 @@ ghost use Rattle.dam_engines.specs.Clear.{IsBookFault, IsClearedWithin};
 ghost use Rattle.dam_engines.specs.Day.{IsCommandsFault, IsDayText, with_results};
 
 use crate::clear::clear_book;
-use crate::device::{Sink, Source};
 use crate::fault::RunFault;
 use crate::input::read_input;
 use crate::output::write_text;
 use crate::watch::Watch;
 use dam_book::{DayLength, PackedCommand, Seed};
+use dam_device::{Sink, Source};
 use dam_gate::{DayFault, Journal, Settled, run_packed};
 use dam_results::{packed_journal_text, read_packed_journal};
 use dam_search::{Plan, Turnstile};

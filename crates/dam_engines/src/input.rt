@@ -3,8 +3,8 @@ ghost use Rattle.dam_engines.specs.Device.{HasServed, IsReaderAfter, most_asked}
 ghost use Rattle.dam_engines.specs.Engine.{most_read};
 ghost use Rattle.dam_engines.specs.inside.Reading.{IsReadingFault};
 
-use crate::device::Source;
 use crate::fault::RunFault;
+use dam_device::Source;
 use dam_results::MOST_BYTES;
 use std::alloc::Global;
 use std::io::Read;

@@ -34,9 +34,7 @@
 
 mod alone;
 mod clear;
-mod counted;
 mod day;
-mod device;
 mod fault;
 mod fixed_line;
 mod input;
@@ -47,8 +45,8 @@ mod watch;
 
 pub use alone::clear_journal_alone;
 pub use clear::run_clear;
+pub use dam_device::{Sink, Source};
 pub use day::run_day;
-pub use device::{Sink, Source};
 pub use fault::{RunFault, status};
 pub use fixed_line::{fault_line, fixed_fault_line};
 pub use output::write_text;

@@ -2,11 +2,11 @@
 
 ghost use Rattle.std.specs.Prelude.{◌≡◌, ◌≤◌, ◌+◌, true, false, length, IfErr, OnOk, MatchResult};
 ghost use Rattle.std.specs.Io.KnownBytes.{Appends};
-ghost use Rattle.dam_engines.specs.Device.{IsFlushedOnce};
+ghost use Rattle.dam_device.specs.Device.{IsFlushedOnce};
 ghost use Rattle.dam_engines.specs.Engine.{IsWritingFault};
 
-use crate::device::Sink;
 use crate::fault::RunFault;
+use dam_device::{Sink, WriteFailed};
 use std::io::Write;
 
 /// Writes the text, and flushes the writer once after its last byte.
@@ -24,15 +24,8 @@ pub fn write_text<W: Write>(writer: &mut Sink<W>, text: &[u8]) -> Result<(), Run
     ensures flushes { writer.new.flushes ≤ writer.old.flushes + 1 }
     ensures asked { writer.new.asked ≤ writer.old.asked + length text.now }
 {
-    let mut written = 0;
-    while written < text.len() {
-        match writer.write(&text[written..]) {
-            Err(_) => return Err(RunFault::Write { written }),
-            Ok(count) => written += count,
-        }
+    match writer.write_text(text) {
+        Ok(()) => Ok(()),
+        Err(WriteFailed { written }) => Err(RunFault::Write { written }),
     }
-    if writer.flush().is_err() {
-        return Err(RunFault::Write { written });
-    }
-    Ok(())
 }

@@ -6,11 +6,11 @@ ghost use Rattle.dam_results.specs.Replies.{AreReplies};
 ghost use Rattle.dam_engines.specs.Device.{AreDevicesAfter, most_asked};
 ghost use Rattle.dam_engines.specs.Engine.{Ends, IsTextFault};
 
-use crate::device::{Sink, Source};
 use crate::fault::RunFault;
 use crate::input::read_input;
 use crate::output::write_text;
 use dam_book::Seed;
+use dam_device::{Sink, Source};
 use dam_results::replay_text;
 use std::alloc::Global;
 use std::io::{Read, Write};

@@ -10,7 +10,7 @@ use Rattle.dam_desk.specs.declared.fault.DeskFault.{DeskFault}
 use Rattle.dam_desk.specs.declared.fault.DeskFault.TheVariants.{Read}
 use Rattle.dam_desk.proofs.Crashes.{keeps_first, grown_more}
 use Rattle.dam_desk.proofs.Desks.{TakesAll, all_given, all_more, all_start, finishes, nothing_more, served_first, served_more, served_so_far, says_after, written_fault}
-use Rattle.dam_desk.proofs.Devices.{devices_after, devices_writing}
+use Rattle.dam_desk.proofs.Devices.{devices_after, devices_writing, flushed_by_both}
 use Rattle.dam_desk.proofs.Ends.{end_after, end_counts, err_is, sync_after}
 use Rattle.dam_desk.proofs.serve.serve.Goals as goal
 
@@ -38,6 +38,7 @@ loop-chunk-preserved g c = record {
       (c.serve_batch.ensures.crash c.loop-chunk.invariant.ready clean);
   reader = c.in-Ok.ensures.cause;
   writer = c.in-Ok-serve_batch.ensures.device;
+  flushed = flushed_by_both c.args.writer.now c.loop-chunk.writer c.serve_batch.new.writer c.loop-chunk.invariant.flushed c.serve_batch.ensures.flushed;
   chunk = omega (arith, c.read.auto.buf, c.loop-chunk.invariant.chunk);
   taken = λ state begun is.
       let so_far = c.loop-chunk.invariant.taken state begun is in
@@ -66,6 +67,7 @@ loop-chunk-init g c = record {
   kept = λ clean. c.is_safe-safe.ensures.keeps c.requires.safe clean;
   reader = c.requires.reader;
   writer = c.in_ok-write_text.ensures.cause;
+  flushed = c.write_text.ensures.flushed;
   chunk = search rules;
   taken = λ state begun is. (
     [],
@@ -227,3 +229,15 @@ returns-in-Err-serve_batch-clause-devices g c =
 
 pub returns-clause-devices : goal.returns-clause-devices
 returns-clause-devices g c = (inr (omega (arith, c.asked.ensures)), c.loop-chunk.invariant.writer)
+
+pub returns-in-Ok-write_end_answer-clause-flushed : goal.returns-in-Ok-write_end_answer-clause-flushed
+returns-in-Ok-write_end_answer-clause-flushed g c =
+    flushed_by_both c.args.writer.now c.loop-chunk.writer c.write_end_answer.new.writer c.loop-chunk.invariant.flushed c.write_end_answer.ensures.flushed
+
+pub returns-in-Err-write_end_answer-clause-flushed : goal.returns-in-Err-write_end_answer-clause-flushed
+returns-in-Err-write_end_answer-clause-flushed g c =
+    flushed_by_both c.args.writer.now c.loop-chunk.writer c.write_end_answer.new.writer c.loop-chunk.invariant.flushed c.write_end_answer.ensures.flushed
+
+pub returns-in-Err-serve_batch-clause-flushed : goal.returns-in-Err-serve_batch-clause-flushed
+returns-in-Err-serve_batch-clause-flushed g c =
+    flushed_by_both c.args.writer.now c.loop-chunk.writer c.serve_batch.new.writer c.loop-chunk.invariant.flushed c.serve_batch.ensures.flushed

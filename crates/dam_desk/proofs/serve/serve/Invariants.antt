@@ -1,9 +1,10 @@
 -- What the desk held at first is kept, and what came in is answered.
 use Rattle.std.proofs.Common.{◌≡◌, ◌-◌, ◌++◌, List, ℕ, false, IsTrue, length}
 use Rattle.std.specs.Io.KnownBytes.{Consumes}
+use Rattle.dam_device.specs.Device.{most_counted}
 use Rattle.dam_store.specs.Store.{disk_of, held_lines, is_broken}
 use Rattle.dam_desk.specs.Desk.{IsDesk, KeepsLines}
-use Rattle.dam_desk.specs.Device.{most_asked}
+use Rattle.dam_desk.specs.Device.{IsFlushed}
 use Rattle.dam_desk.specs.DeskJournal.{State}
 use Rattle.dam_desk.specs.declared.serve.TheConstants.{CHUNK}
 use Rattle.dam_desk.proofs.Desks.{TakesAll}
@@ -19,6 +20,7 @@ invariant-loop-chunk g l = record {
   kept : IsTrue (g.D.Disk.is_clean (disk_of l.desk.store)) → KeepsLines (g.D.Disk.may_leave (disk_of l.desk.store)) (held_lines l.initial.desk.store);
   reader : l.reader.failed ≡ false;
   writer : l.writer.failed ≡ false;
+  flushed : IsFlushed l.fn.writer l.writer;
   chunk : length l.chunk ≡ CHUNK;
   taken : (state : State) (begun : List ℕ) → IsDesk l.initial.desk state begun → (given : List ℕ)
       × Consumes l.initial.reader.unread l.reader.unread given
@@ -26,4 +28,4 @@ invariant-loop-chunk g l = record {
 }
 
 abbrev pub decreases-loop-chunk : goal.decreases-loop-chunk
-decreases-loop-chunk g l = most_asked - l.reader.asked
+decreases-loop-chunk g l = most_counted - l.reader.asked

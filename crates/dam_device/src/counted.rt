@@ -3,7 +3,7 @@
 //! and does nothing more.
 ghost use Rattle.std.specs.Prelude.{◌≡◌, ◌≤◌, length, IfOk};
 ghost use Rattle.std.specs.Io.KnownBytes.{ReadConsumes, WriteAppends, Keeps};
-ghost use Rattle.dam_engines.specs.Device.{one_more};
+ghost use Rattle.dam_device.specs.Device.{one_more};
 
 use std::io;
 use std::io::{Read, Write};
@@ -17,7 +17,7 @@ pub(crate) struct CountedReader<R: Read> {
 }
 
 impl<R: Read> Model for CountedReader<R> {
-    ghost use Rattle.dam_engines.specs.inside.Counted.{ReaderState};
+    ghost use Rattle.dam_device.specs.inside.Counted.{ReaderState};
 
     ghost Value = { ReaderState R };
 
@@ -34,6 +34,13 @@ impl<R: Read> CountedReader<R> {
         ensures { result ≡ record { inner = inner; unread = R.remaining inner; asked = 0 } }
     {
         CountedReader { inner, asked: 0 }
+    }
+
+    /// How often it was asked. The count stays at `u64::MAX`.
+    pub(crate) fn asked(&self) -> u64
+        ensures { result ≡ self.now.asked }
+    {
+        self.asked
     }
 
     /// One read.
@@ -57,7 +64,7 @@ pub(crate) struct CountedWriter<W: Write> {
 }
 
 impl<W: Write> Model for CountedWriter<W> {
-    ghost use Rattle.dam_engines.specs.inside.Counted.{WriterState};
+    ghost use Rattle.dam_device.specs.inside.Counted.{WriterState};
 
     ghost Value = { WriterState W };
 

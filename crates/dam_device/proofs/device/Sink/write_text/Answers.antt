@@ -3,7 +3,7 @@ use Rattle.std.proofs.Common.{◌-◌, ◌++◌, length, take, drop, sym, ap, su
 use Rattle.std.proofs.Math.Seq.{take-add, take-take}
 use Rattle.std.specs.Io.KnownBytes.{Appends}
 use Rattle.std.proofs.KnownBytes.{Appends-trans}
-use Rattle.dam_desk.proofs.output.write_text.Goals as goal
+use Rattle.dam_device.proofs.device.Sink.write_text.Goals as goal
 
 pub loop-written-preserved : goal.loop-written-preserved
 loop-written-preserved g c =
@@ -15,7 +15,8 @@ loop-written-preserved g c =
     let most = length-take (length xs - done) (drop done xs) in
     let joined = ap (λ l. take done xs ++ l) (take-take n (length xs - done) (drop done xs) (omega arith)) ∙ sym (take-add done n xs) in
     record {
-      within = omega (arith, fits);
-      taken = subst (Appends _ _) joined (Appends-trans _ _ _ _ _ before.taken c.in-Ok.ensures.bytes);
-      unfailed = c.in-Ok.ensures.cause;
+      taken = (omega (arith, fits), subst (Appends _ _) joined (Appends-trans _ _ _ _ _ before.taken.1 c.in-Ok.ensures.bytes));
+      asked = omega (arith, before.asked, c.write.ensures.asked, fits);
+      failed = c.in-Ok.ensures.cause;
+      flushes = c.write.ensures.flushes ∙ before.flushes;
     }

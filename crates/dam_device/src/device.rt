@@ -1,9 +1,9 @@
 //! A reader and a writer that keep whether they failed, over ones that count their calls, so that contracts can say
-//! both. The wrapped device is reached only through the three calls below, and none of them may come after
+//! both. The wrapped device is reached only through `read`, `write` and `flush`, and none of them may come after
 //! a failure.
-ghost use Rattle.std.specs.Prelude.{◌≡◌, ◌<◌, ◌≤◌, true, false, length, MatchResult, IfOk, OnOk};
-ghost use Rattle.std.specs.Io.KnownBytes.{ReadConsumes, WriteAppends, Keeps};
-ghost use Rattle.dam_engines.specs.Device.{one_more};
+ghost use Rattle.std.specs.Prelude.{◌≡◌, ◌<◌, ◌≤◌, ◌+◌, true, false, length, MatchResult, IfOk, IfErr, OnOk};
+ghost use Rattle.std.specs.Io.KnownBytes.{Appends, ReadConsumes, WriteAppends, Keeps};
+ghost use Rattle.dam_device.specs.Device.{IsFlushedOnce, TakesFront, one_more};
 
 use crate::counted::{CountedReader, CountedWriter};
 use std::io::{Read, Write};
@@ -11,9 +11,15 @@ use std::marker::Model;
 
 /// A device refused.
 #[derive(Clone, Copy, PartialEq, Eq, Debug)]
-pub(crate) struct DeviceFailed;
+pub struct DeviceFailed;
 
-/// A reader, of which an engine's contract also says how often it was asked and whether it failed.
+/// A writer refused after it had taken this many bytes of a text: all of them, if it failed to flush them.
+#[derive(Clone, Copy, PartialEq, Eq, Debug)]
+pub struct WriteFailed {
+    pub written: usize,
+}
+
+/// A reader, of which contracts also say how often it was asked and whether it failed.
 ///
 /// It serves any number of runs until it fails. After that it isn't asked again: a further run needs a new `Source`.
 #[derive(Drop)]
@@ -23,7 +29,7 @@ pub struct Source<R: Read> {
 }
 
 impl<R: Read> Model for Source<R> {
-    ghost use Rattle.dam_engines.specs.Device.{SourceState};
+    ghost use Rattle.dam_device.specs.Device.{SourceState};
 
     ghost Value = { SourceState R };
 
@@ -51,8 +57,15 @@ impl<R: Read> Source<R> {
         }
     }
 
+    /// How often it was asked. The count stays at `u64::MAX`.
+    pub fn asked(&self) -> u64
+        ensures { result ≡ self.now.asked }
+    {
+        self.reader.asked()
+    }
+
     /// One read. Any error is a failure, one that asks to try again too.
-    pub(crate) fn read(&mut self, buf: &mut [u8]) -> Result<usize, DeviceFailed>
+    pub fn read(&mut self, buf: &mut [u8]) -> Result<usize, DeviceFailed>
         requires { self.old.failed ≡ false }
         ensures bound { IfOk result (λ count. count ≤ length buf.new) }
         ensures room { length buf.new ≡ length buf.old }
@@ -72,8 +85,8 @@ impl<R: Read> Source<R> {
     }
 }
 
-/// A writer, of which an engine's contract also says how often it was asked and flushed, whether it failed, and whether
-/// it was flushed after all that it took.
+/// A writer, of which contracts also say how often it was asked and flushed, whether it failed, and whether it was
+/// flushed after all that it took.
 ///
 /// It serves any number of runs until it fails. After that it isn't asked again: a further run needs a new `Sink`.
 #[derive(Drop)]
@@ -84,7 +97,7 @@ pub struct Sink<W: Write> {
 }
 
 impl<W: Write> Model for Sink<W> {
-    ghost use Rattle.dam_engines.specs.Device.{SinkState};
+    ghost use Rattle.dam_device.specs.Device.{SinkState};
 
     ghost Value = { SinkState W };
 
@@ -118,7 +131,7 @@ impl<W: Write> Sink<W> {
     }
 
     /// One write. Any error is a failure, and so is an answer that no byte was taken.
-    pub(crate) fn write(&mut self, buf: &[u8]) -> Result<usize, DeviceFailed>
+    pub fn write(&mut self, buf: &[u8]) -> Result<usize, DeviceFailed>
         requires unfailed { self.old.failed ≡ false }
         requires some { 0 < length buf.now }
         ensures bound { IfOk result (λ count. (0 < count) × (count ≤ length buf.now)) }
@@ -141,7 +154,7 @@ impl<W: Write> Sink<W> {
     }
 
     /// One flush: the writer passes on the bytes that it holds back.
-    pub(crate) fn flush(&mut self) -> Result<(), DeviceFailed>
+    pub fn flush(&mut self) -> Result<(), DeviceFailed>
         requires { self.old.failed ≡ false }
         ensures bytes { Keeps self.old.taken self.new.taken }
         ensures asked { self.new.asked ≡ self.old.asked }
@@ -157,6 +170,34 @@ impl<W: Write> Sink<W> {
             return Err(DeviceFailed);
         }
         self.flushed = true;
+        Ok(())
+    }
+
+    /// Writes the text, and flushes the writer once after its last byte.
+    ///
+    /// The first failure of the writer ends it. The writer is asked at most once for each byte of the text.
+    pub fn write_text(&mut self, text: &[u8]) -> Result<(), WriteFailed>
+        requires { self.old.failed ≡ false }
+        ensures done { OnOk result (Appends self.old.taken self.new.taken text.now) }
+        ensures fault { IfErr result (λ fault.
+            TakesFront self.old.taken self.new.taken fault.written text.now) }
+        ensures cause { MatchResult result
+            (λ _. self.new.failed ≡ false)
+            (λ _. self.new.failed ≡ true) }
+        ensures flushed { OnOk result (IsFlushedOnce self.old self.new) }
+        ensures flushes { self.new.flushes ≤ self.old.flushes + 1 }
+        ensures asked { self.new.asked ≤ self.old.asked + length text.now }
+    {
+        let mut written = 0;
+        while written < text.len() {
+            match self.write(&text[written..]) {
+                Err(_) => return Err(WriteFailed { written }),
+                Ok(count) => written += count,
+            }
+        }
+        if self.flush().is_err() {
+            return Err(WriteFailed { written });
+        }
         Ok(())
     }
 }

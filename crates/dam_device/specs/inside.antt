@@ -1,0 +1,2 @@
+-- Only contracts inside this crate cite these.
+pub mod Counted
