@@ -31,14 +31,13 @@ POINTS = ".,\u00b7\u066b\u066c\u3001\u3002"  # and commas, in one width, of all 
 MINUS = re.compile(r"\b(?:MINUS|HYPHEN|DASH)\b")  # in the name of a character
 OTHER_MINUSES = "\u25b2\u25b3\u2500"  # the triangles of Japanese tables, and a line that looks like a minus
 REVERSED = "\u202e"  # the characters after it are shown from right to left
-# The words that a format may add to a number of each kind: signs, of which others decide, separators of thousands, and a unit of orders.
+# The words that a format may add to a number of each kind, a unit of orders or none, between signs, of which others decide, and separators.
 UNITS = {
-    Formatted: "",
-    Price: r"(?:EUR(?:OS?)?|\u20ac)?(?: ?(?:[-/.]|per) ?MWh)?",
-    Power: "(?:MW)?",
+    Formatted: re.compile(""),
+    Price: re.compile(r"(?:EUR(?:OS?)?|\u20ac)?(?: ?(?:[-/.]|per) ?MWh)?", re.IGNORECASE),
+    Power: re.compile("(?:MW)?", re.IGNORECASE),
 }
-SIGNS = f"[-()+*{SEPARATORS}]*"
-WORDS = {kind: re.compile(f"{SIGNS}{unit}{SIGNS}", re.IGNORECASE) for kind, unit in UNITS.items()}
+SIGNS = f"-()+*{SEPARATORS}"
 LETTER, OTHER = r"[^\W\d_]", r"[\W\d_]"
 IN_BRACKETS = re.compile(r"\([^()]*\)")
 # A sign in words before or after a number: a bracket, or a minus that doesn't join words.
@@ -165,11 +164,11 @@ def added_words(pieces):
 
 def kind_of_words(words):
     """The kind of a number to which a format adds words: by the unit that they say, or with one of them if orders don't have it."""
-    plain = {found: "".join(map(sign, found)) for found in words}
-    for kind, pattern in WORDS.items():
-        if all(map(pattern.fullmatch, plain.values())):
+    units = ["".join(map(sign, found)).strip(SIGNS) for found in words]
+    for kind, pattern in UNITS.items():
+        if all(map(pattern.fullmatch, units)):
             return kind
-    others = [found for found in words if not any(pattern.fullmatch(plain[found]) for pattern in WORDS.values())]
+    others = [found for found, unit in zip(words, units) if not any(pattern.fullmatch(unit) for pattern in UNITS.values())]
     return lambda number: Worded(f"{number} {(others or words[-1:])[0]}")
 
 
@@ -190,15 +189,16 @@ def of_sections(code):
     """How a format shows a number. Of a name, 0 alone shows all characters."""
     positive, negative, zero = changes(code)
     sections = sections_of(code)[:3]
-    used = [sections if re.search(r"\[[<>=]", code) else sections[at : at + 1] or sections[:1] for at in range(3)]  # of each sign
-    roundings = [list(map(rounding, found)) for found in used]
-    kinds = [kind_of_words([words for pieces in found for words in added_words(pieces)]) for found in used]
+    parts = [sections] if re.search(r"\[[<>=]", code) else [[section] for section in sections]  # a number has one of these
+    kinds = [kind_of_words([words for section in part for words in added_words(section)]) for part in parts]
+    roundings = [list(map(rounding, part)) for part in parts]
 
     def shown(words):
         number = decimal.Decimal(words)
         if positive if number > 0 else negative if number < 0 else zero:
             return Changed(words)
         at = 0 if number > 0 else 1 if number < 0 else 2
+        at = at if at < len(parts) else 0
         for rounded in roundings[at]:
             if (other := rounded(number)) != number:
                 return Rounded(f"{words} {other + 0}")
