@@ -64,6 +64,19 @@ def parse_events(log):
     return found
 
 
+def parse_runs(text):
+    """Yields the runs of which a process has written the results."""
+    at = 0
+    while at < len(text):
+        status, *lengths = RESULT.unpack_from(text, at)
+        at += RESULT.size
+        parts = []
+        for length in lengths:
+            parts.append(text[at : at + length])
+            at += length
+        yield DeskRun(status, parts[0], parts[1], parse_events(parts[2]), parts[3])
+
+
 def batches_in_packets(batches):
     """The batches, each in parts that a pipe takes as one packet."""
     return [batch[at : at + PACKET] for batch in batches for at in range(0, len(batch), PACKET)]
@@ -108,10 +121,11 @@ class DeskProgram:
         parts = [images[at : at + CHUNK] for at in range(0, len(images), CHUNK)]
         with ThreadPoolExecutor(self.jobs) as pool:
             for at in range(0, len(parts), self.jobs):
-                for found in pool.map(lambda part: self.run_requests(part, words, more), parts[at : at + self.jobs]):
+                for found in pool.map(lambda part: self.run_on_chunk(part, words, more), parts[at : at + self.jobs]):
                     yield from found
 
-    def run_requests(self, images, words, more):
+    def run_on_chunk(self, images, words, more):
+        """Does so in one process, and returns the runs."""
         folder = self.make_folder()
         file, given, results = folder / "day.desk", folder / "images", folder / "results"
         given.write_bytes(b"".join(LENGTH.pack(len(image)) + image for image in images))
@@ -120,18 +134,10 @@ class DeskProgram:
                              env=surroundings, timeout=SECONDS)
         if ran.returncode or ran.stdout or ran.stderr:
             raise RuntimeError(f"the files weren't opened: {ran}")
-        text, at, found = results.read_bytes(), 0, []
+        found = list(parse_runs(results.read_bytes()))
         for path in folder.iterdir():
             path.unlink()
         folder.rmdir()
-        while at < len(text):
-            status, *lengths = RESULT.unpack_from(text, at)
-            at += RESULT.size
-            parts = []
-            for length in lengths:
-                parts.append(text[at : at + length])
-                at += length
-            found.append(DeskRun(status, parts[0], parts[1], parse_events(parts[2]), parts[3]))
         if len(found) != len(images):
             raise RuntimeError(f"{len(found)} of {len(images)} files were opened")
         return found

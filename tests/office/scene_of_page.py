@@ -128,7 +128,7 @@ def run_and_check_demo(args, counts):
             process.send_signal(signal.SIGINT)
 
 
-def check(args, counts):
+def check_pages(args, counts):
     with office_for_test(args.dam, args.desk) as office, tempfile.TemporaryDirectory() as room:
         office.start()
         asyncio.run(check_day(office, counts, args.pictures, room))

@@ -447,4 +447,4 @@ def check_page(args, counts):
         return
     import scene_of_page
 
-    scene_of_page.check(args, counts)
+    scene_of_page.check_pages(args, counts)

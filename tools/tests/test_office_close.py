@@ -93,7 +93,7 @@ class Closing(Office):
 
     async def test_a_start_sees_results_and_a_statement_that_were_changed(self):
         files = (await self.closed()).files
-        kept = {name: files.read(name) for name in (folder.RESULTS, folder.STATEMENT, folder.SUMS)}
+        kept = {name: files.read_file(name) for name in (folder.RESULTS, folder.STATEMENT, folder.SUMS)}
 
         async def fault():
             again = self.writer()
@@ -118,7 +118,7 @@ class Closing(Office):
 
     async def test_a_statement_has_its_sum_at_any_crash(self):
         given = await self.closed()
-        kept, put = given.files.read(folder.SUMS), folder.write_synced
+        kept, put = given.files.read_file(folder.SUMS), folder.write_synced
         given.files.remove(folder.SUMS)
         given.files.remove(folder.STATEMENT)
 
@@ -130,9 +130,9 @@ class Closing(Office):
         with mock.patch.object(publishing, "run_for_output", mock.AsyncMock(return_value=b"{}")):
             with mock.patch.object(folder, "write_synced", ends), self.assertRaises(OSError):
                 await publishing.write_statement(given)
-            self.assertEqual((given.files.read(folder.SUMS), given.published.is_whole), (kept, False))
+            self.assertEqual((given.files.read_file(folder.SUMS), given.published.is_whole), (kept, False))
             await publishing.write_statement(given)
-        self.assertEqual((given.files.read(folder.SUMS), given.published.is_whole), (kept, True))
+        self.assertEqual((given.files.read_file(folder.SUMS), given.published.is_whole), (kept, True))
 
     async def test_a_published_day_is_that_of_its_head(self):
         given = await self.closed()
@@ -155,13 +155,13 @@ class Closing(Office):
             ends.set()
             await task
         self.assertTrue(again.is_known.is_set())
-        self.assertEqual((again.fault, heads.line_of(again.ledger.head())), (None, given.files.read(folder.HEAD)))
-        journal_file, kept = given.files.path_of(folder.JOURNAL), given.files.read(folder.JOURNAL)
+        self.assertEqual((again.fault, heads.line_of(again.ledger.head())), (None, given.files.read_file(folder.HEAD)))
+        journal_file, kept = given.files.path_of(folder.JOURNAL), given.files.read_file(folder.JOURNAL)
         journal_file.write_bytes(kept.replace(b"GAS,A,", b"GAS,B,"))
         again = self.writer()
         await again.write_until_published()
         self.assertIn("isn't of the journal", again.fault or "")
-        replies = given.files.read(folder.REPLIES)
+        replies = given.files.read_file(folder.REPLIES)
         for name, whole, damages in (
             (folder.JOURNAL, kept, (b"\xff", kept[:-3], kept + b"close,,,,,,,,\n", kept.replace(b"cancel", b"cancle"))),
             (folder.REPLIES, replies, (replies.replace(b"\n1,", b"\n2,"), replies.replace(b"\n1,", b"\n01,"), replies[:-1] + b"x\n")),

@@ -360,7 +360,7 @@ class Setup(Office):
     def test_the_events_of_the_page(self):
         """The page has each event of the log, and no other."""
         sources = "".join(path.read_text() for path in (TOOLS / "lib" / "office").glob("*.py"))
-        events = set(re.findall(r'\blog(?:_event|\.write)?\("([a-z ]+)"', sources))
+        events = set(re.findall(r'\blog(?:_event|\.write_event)?\("([a-z ]+)"', sources))
         table = (TOP / "docs" / "OFFICE.md").read_text().partition("\n| Event | Meaning |\n")[2].partition("\n\n")[0]
         self.assertGreater(len(events), 10)
         self.assertEqual({event for line in table.splitlines() for event in re.findall(r"`([a-z ]+)`", line.split("|")[1])}, events)
@@ -485,7 +485,7 @@ class Setup(Office):
         setup.make_day(self.office, folder.Terms(later, 24, FUTURE, "UTC", dict.fromkeys(NAMES, 10)))
         files = self.office.list_days()[DAY]
         for name in (folder.TERMS, folder.SALTS):
-            kept = files.read(name)
+            kept = files.read_file(name)
             for damage in (b"", b"{\n", b"[]\n", b"{}\n", b"\xff", kept[:40]):
                 files.path_of(name).write_bytes(damage)
                 missed, served = await self.looked()

@@ -67,7 +67,7 @@ class DayWriter:
         return not self.is_closing and not self.ledger.is_closed and self.clock.now() < self.terms.closes.timestamp()
 
     def log_event(self, event, **details):
-        self.log.write(event, day=self.terms.day, **details)
+        self.log.write_event(event, day=self.terms.day, **details)
 
     # --- requests
 

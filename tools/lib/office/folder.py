@@ -187,7 +187,7 @@ class DayFolder:
     def has(self, name):
         return self.path_of(name).exists()
 
-    def read(self, name):
+    def read_file(self, name):
         return self.path_of(name).read_bytes()
 
     def remove(self, name):
@@ -202,11 +202,11 @@ class DayFolder:
 
     def read_terms(self):
         with stopping_if_damaged(self.path_of(TERMS), "the terms of a day"):
-            return parse_terms(self.read(TERMS), self.path.name)
+            return parse_terms(self.read_file(TERMS), self.path.name)
 
     def read_salts(self):
         with stopping_if_damaged(self.path_of(SALTS), "the salts of a day"):
-            return heads.parse(self.read(SALTS), heads.parse_salts)[0]
+            return heads.parse(self.read_file(SALTS), heads.parse_salts)[0]
 
 
 class Folder:

@@ -18,7 +18,7 @@ class Log:
     def __init__(self, stream=None):
         self.stream = stream or sys.stderr
 
-    def write(self, event, **details):
+    def write_event(self, event, **details):
         """Logs an event. A log that can't be written is lost, but nothing else."""
         made = {"time": time.strftime("%Y-%m-%dT%H:%M:%SZ", time.gmtime()), "event": event, **details}
         try:
@@ -40,7 +40,7 @@ class Defects(logging.Handler):
         kind = found.__name__ if found else "unknown"
         if now - self.told.get(kind, -DEFECT_SECONDS) >= DEFECT_SECONDS:
             self.told[kind] = now
-            self.log.write("defect", library=record.name, kind=kind)
+            self.log.write_event("defect", library=record.name, kind=kind)
 
 
 class Counts:

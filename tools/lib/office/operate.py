@@ -48,7 +48,7 @@ def read_day_state(files, desk, is_served=False):
 
 def read_stop_reason(files):
     """Why the office that is served has stopped a day."""
-    return files.read(folder.STOPPED_DAY).decode(errors="replace").strip() or "the log says why"
+    return files.read_file(folder.STOPPED_DAY).decode(errors="replace").strip() or "the log says why"
 
 
 def read_day_or_fault(name, files, desk, is_served):

@@ -60,7 +60,7 @@ class Published:
         """A participant's commands with what became of them; None before they are published. Until the journal is, nothing in it tells of
         the orders of others but the prices and volumes."""
         if self.rows is None and self.is_whole:
-            found = json.loads(self.files.read(folder.STATEMENT))
+            found = json.loads(self.files.read_file(folder.STATEMENT))
             rows = {}
             for row in found["rows"]:
                 rows.setdefault(row["participant"], []).append(row)
@@ -105,12 +105,12 @@ def without_words_of_others(row):
 def read_into_ledger(files, ledger):
     """The ledger, with the journal of a day that is published, which has to be that of its head. The files of it are compared whole."""
     try:
-        written, replies = files.read(folder.JOURNAL), files.read(folder.REPLIES)
+        written, replies = files.read_file(folder.JOURNAL), files.read_file(folder.REPLIES)
         own = [line.partition(",")[2] for line in replies.decode("ascii").splitlines()[1:]]
         ledger.enter_rest_of_journal(written.decode("ascii").splitlines()[1:], own)
         if (written, replies) != (ledger.journal_text(), ledger.replies_text()):
             raise Contradiction("the entries are right, and their files have other bytes")
-        head = files.read(folder.HEAD)
+        head = files.read_file(folder.HEAD)
     except (FileNotFoundError, ValueError, Contradiction):
         raise Contradiction(f"{folder.JOURNAL}, {folder.REPLIES} or {folder.HEAD} is missing or damaged") from None
     if heads.line_of(ledger.head()) != head:
@@ -126,8 +126,8 @@ def sha256_hex(data):
 def require_unchanged(files):
     """Ends with a contradiction if the results or the statement were changed since they were made."""
     try:
-        sums = json.loads(files.read(folder.SUMS))
-        changed = [name for name in (folder.RESULTS, folder.STATEMENT) if sums[name] != sha256_hex(files.read(name))]
+        sums = json.loads(files.read_file(folder.SUMS))
+        changed = [name for name in (folder.RESULTS, folder.STATEMENT) if sums[name] != sha256_hex(files.read_file(name))]
     except FileNotFoundError:  # they were made without sums
         return
     except (ValueError, KeyError, TypeError):

@@ -44,7 +44,7 @@ async def write_journal_and_head(writer):
 async def write_results(writer):
     """The results, by `dam clear`."""
     if not writer.published.has_results:
-        made = await run_for_output(writer.programs.dam, "clear", data=writer.files.read(folder.JOURNAL))
+        made = await run_for_output(writer.programs.dam, "clear", data=writer.files.read_file(folder.JOURNAL))
         folder.write_synced(writer.files.path_of(folder.RESULTS), made)
 
 
@@ -54,6 +54,6 @@ async def write_statement(writer):
         tool = str(place.FOLDER / "table")
         paths = (str(writer.files.path_of(name)) for name in (folder.JOURNAL, folder.RESULTS))
         made = await run_for_output(sys.executable, "-I", "-B", tool, "--rows", "statement", "--json", "--quiet", *paths)
-        sums = {folder.RESULTS: sha256_hex(writer.files.read(folder.RESULTS)), folder.STATEMENT: sha256_hex(made)}
+        sums = {folder.RESULTS: sha256_hex(writer.files.read_file(folder.RESULTS)), folder.STATEMENT: sha256_hex(made)}
         folder.write_synced(writer.files.path_of(folder.SUMS), folder.json_bytes(sums))  # first: a statement that is there has its sum
         folder.write_synced(writer.files.path_of(folder.STATEMENT), made)

@@ -65,7 +65,7 @@ class Office:
         """Logs why days aren't served, once for each reason. They are tried again, and the others go on."""
         for name, fault in missed.items():
             if self.missed.get(name) != fault:
-                self.log.write("not served", day=name, fault=fault)
+                self.log.write_event("not served", day=name, fault=fault)
         self.missed = missed
 
     @property
@@ -159,7 +159,7 @@ async def serve(office, host, port, tls=None, behind_proxy=False, demo=None, sta
         await office.wait_until_known()
         listener = guards.Listener(runner.server, require_listening_socket(host, port), tls, office.counts)
         port = listener.socket.getsockname()[1]
-        office.log.write("serving", host=host, port=port, tls=tls is not None)
+        office.log.write_event("serving", host=host, port=port, tls=tls is not None)
         waits = asyncio.create_task(stopped.wait())
         if started:
             # a signal ends it too, if no desk opens
@@ -181,4 +181,4 @@ async def serve(office, host, port, tls=None, behind_proxy=False, demo=None, sta
             await runner.server.shutdown(STOP_SECONDS)
         await runner.cleanup()
         await office.stop_days()
-        office.log.write("ended")
+        office.log.write_event("ended")

@@ -125,7 +125,7 @@ class Web:
             raise
         except Exception as wrong:
             day = {"day": request.match_info["day"]} if request.match_info.get("day") in self.office.writers else {}
-            self.log.write("defect", kind=type(wrong).__name__, route=route_name(request), **day)
+            self.log.write_event("defect", kind=type(wrong).__name__, route=route_name(request), **day)
             response = web.json_response({"fault": "Defect", "words": "the office failed at this request"}, status=500)
         if request.protocol.is_deaf:
             response.force_close()
