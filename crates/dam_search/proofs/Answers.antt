@@ -1,21 +1,27 @@
 -- One answer more changes the highest selection that was found.
-use Rattle.std.proofs.Common.{◌≡◌, ◌≢◌, ℕ, ◌+◌, ◌^◌, ◌<◌, ◌≤◌, ◌⊎◌, inl, inr, Bool, true, false, cond, ◌==◌, Option}
+use Rattle.std.proofs.Common.{◌≡◌, ◌≢◌, ℕ, ◌+◌, ◌-◌, ◌^◌, ◌<◌, ◌≤◌, ◌⊎◌, inl, inr, Bool, true, false, cond, ◌==◌, Option}
 use Rattle.std.proofs.Common.{Some, None, List, [], ◌∷◌, ◌++◌, length, take, slice_index_or, slice_set, replicate, ◌∙◌, ap, sym, subst}
-use Rattle.std.proofs.Common.{refl, arith}
+use Rattle.std.proofs.Common.{Ok, Err, refl, arith}
 use Rattle.std.specs.List.{All, Contains, count_by}
+use Rattle.std.specs.Result.{IsErrOf}
+use Rattle.std.specs.declared.result.Result.{Result}
 use Rattle.std.proofs.lemmas.Bool.Decides.{nat_tests}
-use Rattle.std.proofs.lemmas.List.Elements.{All-push, All-weaker, Contains-push, Contains-append_left, Contains-append_right}
+use Rattle.std.proofs.lemmas.List.Elements.{All-contains, All-push, All-weaker, Contains-push, Contains-append_left, Contains-append_right}
 use Rattle.std.proofs.lemmas.List.Sums.{sum_by-append, count_by_more_yes, count_by_more_no}
-use Rattle.std.proofs.lemmas.Bool.{eqb-true}
+use Rattle.std.proofs.lemmas.Bool.{cases_lt, eqb-true}
 use Rattle.std.proofs.lemmas.List.{length-set, length-replicate, get_or-set_other, get_or-replicate}
 use Rattle.std.proofs.lemmas.Grind.{get_or-set_at}
 use Rattle.dam_blocks.specs.declared.selection.Solution.{Solution}
 use Rattle.dam_blocks.specs.Problem.{ProblemState, IsProblem}
 use Rattle.dam_search.specs.declared.answer.PieceAnswer.{PieceAnswer}
-use Rattle.dam_search.specs.Piece.{Rises}
+use Rattle.dam_blocks.specs.Selection.{choice}
+use Rattle.dam_search.specs.declared.fault.SearchFault.{SearchFault}
+use Rattle.dam_search.specs.declared.fault.SearchFault.TheVariants.{Memory, Collected, Unfinished}
+use Rattle.dam_search.specs.Piece.{Rises, node_count, live_nodes, IsSound, IsSpent}
+use Rattle.dam_search.specs.Search.{IsFinished, IsUnfinished}
 use Rattle.dam_search.specs.Answer.{AreAnswered, AreConclusive}
 use Rattle.dam_search.specs.inside.Collect.{IsWorked, answers_about, AreOneEach, AreAnswerCounts, IsLong}
-use Rattle.dam_search.specs.inside.Collect.{IsHighestFound}
+use Rattle.dam_search.specs.inside.Collect.{IsHighestFound, IsLeastUnfinished}
 use Rattle.dam_search.specs.Words.{most_pieces}
 use Rattle.dam_search.proofs.Ranks.{IsTransitive, rises_twice}
 
@@ -105,6 +111,75 @@ conclusive problem depth nodes answers is deep worked one done = record {
   answered = answered problem depth nodes answers worked one done;
   reached = λ k d l. (worked k d l).reached;
 }
+
+-- ---- the pieces before the least unfinished one
+
+done_before : (piece least : ℕ) (done : Bool) → piece < least → (done ≡ false → least ≤ piece) → done ≡ true
+done_before piece least true less after = refl
+done_before piece least false less after = absurd (let most = after refl in omega (arith, less, most))
+
+finished_before : (problem : ProblemState) (depth nodes : ℕ) (answers : List PieceAnswer) (u : PieceAnswer)
+    → nodes < node_count (length problem.blocks - depth) → u.piece < 2 ^ depth
+    → All (λ (a : PieceAnswer). IsWorked problem depth nodes a) answers → AreOneEach answers (2 ^ depth)
+    → All (λ (a : PieceAnswer). a.done ≡ false → u.piece ≤ a.piece) answers
+    → (lesser : ℕ) → lesser < u.piece → IsFinished problem depth nodes lesser
+finished_before problem depth nodes answers u few in_cutting worked one least lesser less =
+    let some : 0 < answers_about answers lesser = omega (arith, one lesser (omega (arith, less, in_cutting))) in
+    let found = counted (λ (a : PieceAnswer). a.piece == lesser) answers some in
+    let a = found.0 in
+    let is : a.piece ≡ lesser = eqb-true a.piece lesser found.2 in
+    let work = All-contains (λ (x : PieceAnswer). IsWorked problem depth nodes x) answers a worked found.1 in
+    let after = All-contains (λ (x : PieceAnswer). x.done ≡ false → u.piece ≤ x.piece) answers a least found.1 in
+    let done = done_before a.piece u.piece a.done (omega (arith, is, less)) after in
+    subst (λ (n : ℕ). IsFinished problem depth nodes n) is (record {
+      best = a.best;
+      read = a.read;
+      visited = a.visited;
+      sound = subst (λ (d : Bool). IsSound problem (choice depth a.piece) a.best a.read d) done work.sound;
+      reached = work.reached;
+      spent = subst (λ (d : Bool). IsSpent problem (choice depth a.piece) (length problem.blocks - depth) 0 nodes a.visited a.read d)
+          done (work.spent few);
+    })
+
+below_bound : (nodes bound : ℕ) (done : Bool) → done ≡ false → (bound ≤ nodes → done ≡ true) → nodes < bound
+below_bound nodes bound true e enough = absurd cc
+below_bound nodes bound false e enough = elim (cases_lt nodes bound) [
+  | inl few ↦ few
+  | inr many ↦ absurd (let no = enough (omega (arith, many)) in cc)
+]
+
+least_is : (problem : ProblemState) (depth nodes : ℕ) (answers : List PieceAnswer) (u : PieceAnswer)
+    → All (λ (a : PieceAnswer). IsWorked problem depth nodes a) answers → AreOneEach answers (2 ^ depth)
+    → IsLeastUnfinished answers (Some u) → IsUnfinished problem depth nodes u.piece u.visited
+least_is problem depth nodes answers u worked one least =
+    let left = length problem.blocks - depth in
+    let work = All-contains (λ (x : PieceAnswer). IsWorked problem depth nodes x) answers u worked least.0 in
+    let few = below_bound nodes (node_count left) u.done least.1 work.done in
+    let spent = work.spent few in
+    record {
+      in_cutting = work.in_cutting;
+      limit_met = spent.unfinished least.1;
+      over_all = few;
+      over_live = below_bound nodes (live_nodes problem 0 (choice depth u.piece) left) u.done least.1
+          (spent.done_by_live 0 (omega arith));
+      least = finished_before problem depth nodes answers u few work.in_cutting worked one least.2;
+    }
+
+-- a result that names a piece names the least unfinished one
+abbrev NamesLeast : ProblemState → ℕ → ℕ → Result Solution SearchFault → Type 0
+NamesLeast problem depth nodes (Ok best) = Unit {0}
+NamesLeast problem depth nodes (Err Memory) = Unit {0}
+NamesLeast problem depth nodes (Err (Collected piece)) = Unit {0}
+NamesLeast problem depth nodes (Err (Unfinished piece visited)) = IsUnfinished problem depth nodes piece visited
+
+pub least_named : (problem : ProblemState) (depth nodes : ℕ) (answers : List PieceAnswer) (u : PieceAnswer)
+    → All (λ (a : PieceAnswer). IsWorked problem depth nodes a) answers → AreOneEach answers (2 ^ depth)
+    → IsLeastUnfinished answers (Some u) → (piece visited : ℕ)
+    → IsErrOf {T = Solution} (Err (Unfinished u.piece u.visited)) (Unfinished piece visited)
+    → IsUnfinished problem depth nodes piece visited
+least_named problem depth nodes answers u worked one least piece visited e =
+    subst (λ (r : Result Solution SearchFault). NamesLeast problem depth nodes r) e
+    (least_is problem depth nodes answers u worked one least)
 
 -- ---- the counts of the answers about each piece
 

@@ -1,16 +1,29 @@
 -- The meaning of a limit on nodes for a search.
-use Rattle.std.specs.Prelude.{◌≡◌, ℕ, ◌-◌, ◌^◌, ◌<◌, length}
+use Rattle.std.specs.Prelude.{◌≡◌, ℕ, ◌-◌, ◌^◌, ◌<◌, true, Option, length}
+use Rattle.dam_blocks.specs.declared.selection.Solution.{Solution}
 use Rattle.dam_blocks.specs.Problem.{ProblemState}
 use Rattle.dam_blocks.specs.Selection.{choice}
-use Rattle.dam_search.specs.Piece.{node_count, live_nodes, HasNeeded}
+use Rattle.dam_search.specs.Piece.{node_count, live_nodes, HasNeeded, IsSound, IsSpent}
+use Rattle.dam_search.specs.Answer.{IsReached}
 
--- a piece of the cutting that visited as many nodes as it may, which is less than either bound on
--- those that it can need
+-- a piece of the cutting that was searched to its end within the limit: its answer is sound and done, and read no
+-- more than some eligible selection has
+pub record IsFinished (problem : ProblemState) (depth nodes piece : ℕ) : Type 0 where
+  pub best : Option Solution
+  pub read : ℕ
+  pub visited : ℕ
+  pub sound : IsSound problem (choice depth piece) best read true
+  pub reached : IsReached problem read
+  pub spent : IsSpent problem (choice depth piece) (length problem.blocks - depth) 0 nodes visited read true
+
+-- the least piece of the cutting that isn't finished: it visited as many nodes as it may, which is less than either
+-- bound on those that it can need
 pub record IsUnfinished (problem : ProblemState) (depth nodes piece visited : ℕ) : Type 0 where
   pub in_cutting : piece < 2 ^ depth
   pub limit_met : visited ≡ nodes
   pub over_all : nodes < node_count (length problem.blocks - depth)
   pub over_live : nodes < live_nodes problem 0 (choice depth piece) (length problem.blocks - depth)
+  pub least : (lesser : ℕ) → lesser < piece → IsFinished problem depth nodes lesser
 
 -- the limit is at least the number of nodes that each piece of the cutting must visit, even if the result's
 -- welfare, which is this one, is read from the start. A lesser limit gives no result. This is a necessary

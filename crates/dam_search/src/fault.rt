@@ -20,7 +20,7 @@ pub enum SearchFault {
     /// greater limit may finish the search.
     #[error("piece {piece} isn't finished after {visited} nodes")]
     Unfinished {
-        /// The least such piece, from 0. That it is the least is only tested.
+        /// The least such piece, from 0.
         piece: u32,
         /// The number of its nodes that were visited: the plan's limit.
         visited: Nodes,

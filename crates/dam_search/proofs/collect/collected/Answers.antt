@@ -1,7 +1,7 @@
 -- Each piece has one answer, all of them done: together they give the result.
 use Rattle.std.proofs.Common.{ℕ, ◌^◌, subst}
 use Rattle.dam_search.specs.inside.Collect.{AreOneEach}
-use Rattle.dam_search.proofs.Answers.{all_in_cutting, conclusive}
+use Rattle.dam_search.proofs.Answers.{all_in_cutting, conclusive, least_named}
 use Rattle.dam_search.proofs.Collecting.{limit_needed}
 use Rattle.dam_search.proofs.collect.collected.Goals as goal
 
@@ -10,6 +10,13 @@ first_faulty-requires-clause-in_cutting g c =
     all_in_cutting c.args.problem.now c.args.depth c.args.nodes c.piece_count.result c.args.answers.now
     c.piece_count.ensures.value c.piece_count.ensures.few
     c.requires.worked
+
+pub returns-in-Some-least_unfinished-clause-unfinished : goal.returns-in-Some-least_unfinished-clause-unfinished
+returns-in-Some-least_unfinished-clause-unfinished g c =
+    let answers = c.args.answers.now in
+    let one : AreOneEach answers (2 ^ c.args.depth) = subst (λ (n : ℕ). AreOneEach answers n) c.piece_count.ensures.value c.in_default.ensures in
+    least_named c.args.problem.now c.args.depth c.args.nodes answers c.in-Some-least_unfinished.answer c.requires.worked one
+    c.in-Some-least_unfinished.ensures
 
 pub unreachable-requires : goal.unreachable-requires
 unreachable-requires g c =
