@@ -1,7 +1,7 @@
 //! `dam-desk`, which keeps the journal of a day in a file, and answers each command once it is safe there.
 #![tactic(auto)]
 
-ghost use Rattle.std.specs.Prelude.{◌≡◌};
+ghost use Rattle.std.specs.Prelude.{◌≡◌, ◌↔◌, true, Some};
 ghost use Rattle.std.specs.Process.{exit_status};
 ghost use Rattle.dam_desk.specs.Faults.{fault_status};
 
@@ -68,13 +68,35 @@ fn serve_standard(rt: &HostRuntime, path: &str) -> Result<(), DeskFault> {
 
 /// Whether standard output goes to the file at `path`: the answers would destroy the journal.
 fn is_own_output(rt: &HostRuntime, path: &str) -> bool {
-    match fs::metadata(rt, "/dev/stdout") {
-        Ok(output) if output.is_file() => match fs::metadata(rt, path) {
-            Ok(file) => output.dev() == file.dev() && output.ino() == file.ino(),
-            Err(_) => false,
-        },
-        _ => false,
+    match file_at(rt, "/dev/stdout") {
+        Some(output) => is_this_file(output, file_at(rt, path)),
+        None => false,
     }
+}
+
+/// A file of the system, by the number of its device and its own there.
+#[derive(Clone, Copy, PartialEq, Eq)]
+struct FileNumbers {
+    device: u64,
+    inode: u64,
+}
+
+/// The file at `path`; `None` if there is none, or only a pipe, a terminal or a folder.
+fn file_at(rt: &HostRuntime, path: &str) -> Option<FileNumbers> {
+    match fs::metadata(rt, path) {
+        Ok(file) if file.is_file() => Some(FileNumbers {
+            device: file.dev(),
+            inode: file.ino(),
+        }),
+        _ => None,
+    }
+}
+
+/// Whether there is a file, and it is this one.
+fn is_this_file(output: FileNumbers, found: Option<FileNumbers>) -> bool
+    ensures { (result ≡ true) ↔ (found ≡ Some output) }
+{
+    found == Some(output)
 }
 
 /// Prints the journal that a file holds. It doesn't lock the file or change it. A file that a desk refuses has the same fault
