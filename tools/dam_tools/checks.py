@@ -195,8 +195,8 @@ def whatif_limit(source: JournalSource, participant: str, order: str, program: s
         raise Fault(whatif.unknown_words(held, *key))
     if held.rows[key].kind != "block":
         raise Fault(f"{order} of {participant} isn't a block")
-    search = limits.Search(held, key, whatif.engine_of(program))
-    told = limits.record(search, search.worst())
+    search = limits.LimitSearch(held, key, whatif.engine_of(program))
+    told = limits.record(search, search.run_for_worst())
     del told["law"]
     told["cases"] = [LimitCase(**case) for case in told["cases"]]
     told["others"] = [OtherOrder(**other) for other in told["others"]]

@@ -38,7 +38,7 @@ NEVER = ("submit,CITY,TOWN,hour,buy,5000,1:20,,", "submit,GEN,A,block,sell,4000,
 
 def search(*lines, key, periods=24):
     held, _ = book.run_commands(journal.parse_journal(journal_of(*lines).replace(b"day,24,", b"day,%d," % periods)))
-    return limits.Search(held, key, lambda text: support.results_of(text, best(text)))
+    return limits.LimitSearch(held, key, lambda text: support.results_of(text, best(text)))
 
 
 def best(text):
@@ -55,7 +55,7 @@ TABLE = b"what,participant,order,kind,side,price_eur_mwh,periods,volume_mw\n"
 class Limits(unittest.TestCase):
     def test_a_block_that_sells(self):
         one = search(*SMALL, key=("GEN", "UNIT"))
-        found = one.worst()
+        found = one.run_for_worst()
         self.assertEqual((found.limit, found.past_limit, found.at.surplus(one.key), found.past.surplus(one.key)), (5000, 5001, 0, -20))
         self.assertEqual((found.at.welfare, found.past.welfare, found.at.prices[0]), (0, 0, 5000))
         self.assertLessEqual(found.clearings, limits.MOST_CLEARINGS)
@@ -65,7 +65,7 @@ class Limits(unittest.TestCase):
         """The same orders in a quarter of an hour have the same limits and prices, and a fourth of the energy and of each amount."""
         orders = [order.replace("1:20,", "1:200,") for order in SMALL]
         days = [search(*orders, key=("GEN", "UNIT"), periods=periods) for periods in (24, 96)]
-        founds = [one.worst() for one in days]
+        founds = [one.run_for_worst() for one in days]
         hour, quarter = (limits.record(one, found) for one, found in zip(days, founds))
         self.assertEqual(hour["cases"][0]["surplus_eur"], 200.0)
         for case, other in zip(hour["cases"], quarter["cases"]):
@@ -89,7 +89,7 @@ class Limits(unittest.TestCase):
     def test_periods_without_trade(self):
         """Their prices are nominal: a record marks them, and a table leaves them out."""
         one = search(SMALL[0], SMALL[1].replace("4000", "6000"), key=("GEN", "UNIT"))
-        found = one.worst()
+        found = one.run_for_worst()
         own, at, past = limits.record(one, found)["cases"]
         self.assertEqual([case["traded"] for case in (own, at, past)], [[False] * 24, [True, *[False] * 23], [False] * 24])
         self.assertEqual([case["gain_eur"] for case in (own, at, past)], [0.0, 0.0, 0.0])
@@ -99,7 +99,7 @@ class Limits(unittest.TestCase):
 
     def test_a_block_that_buys(self):
         one = search(*BUYER, key=("CITY", "TOWN"))
-        found = one.worst()
+        found = one.run_for_worst()
         self.assertEqual((found.limit, found.past_limit), (2000, 1999))
         lines = "\n".join(limits.lines(one, found))
         self.assertIn("Its worst limit is 20.00 EUR/MWh: with it, and with every higher limit, it is accepted; with a lower one", lines)
@@ -114,11 +114,11 @@ class Limits(unittest.TestCase):
         """The reason begins with its family."""
         lines = ["submit,TOWN,T,hour,buy,4000,1:10,,", "submit,GAS,PAR,block,sell,6000,1:10,,", "submit,GAS,CHILD,block,sell,3000,1:10,PAR,"]
         one = search("submit,GAS,UNIT,block,sell,1000,1:10,,", *lines, key=("GAS", "CHILD"))
-        self.assertRegex("\n".join(limits.lines(one, one.worst())), r"with the best, -500\.00 EUR/MWh, with PAR it would gain [0-9.,]+ EUR at the prices")
+        self.assertRegex("\n".join(limits.lines(one, one.run_for_worst())), r"with the best, -500\.00 EUR/MWh, with PAR it would gain [0-9.,]+ EUR at the prices")
 
     def test_no_limit_is_enough(self):
         one = search(*NEVER, key=("GEN", "B"))
-        found = one.worst()
+        found = one.run_for_worst()
         self.assertEqual((found.limit, found.at, found.past_limit), (None, None, rules.LOWEST_PRICE))
         self.assertIn(f"No limit of the range is enough: with the best, {rules.LOWEST_PRICE / 100:.2f} EUR/MWh, it can never be accepted, because",
                       "\n".join(limits.lines(one, found)))
@@ -127,7 +127,7 @@ class Limits(unittest.TestCase):
     def test_every_limit_is_enough(self):
         dearest = f"submit,CITY,TOWN,hour,buy,{rules.HIGHEST_PRICE},1:30,,"
         one = search(dearest, "submit,GEN,UNIT,block,sell,4000,1:20,,", key=("GEN", "UNIT"))
-        found = one.worst()
+        found = one.run_for_worst()
         self.assertEqual((found.limit, found.past, found.past_limit), (rules.HIGHEST_PRICE, None, None))
         self.assertIn(f"Every limit of the range is enough, up to the worst, {rules.HIGHEST_PRICE / 100:,.2f} EUR/MWh.", limits.lines(one, found))
 
@@ -141,7 +141,7 @@ class Limits(unittest.TestCase):
                 # the block is accepted up to the buyer's limit, and never if the buyer buys less than it sells
                 buys = f"buy,{least if worst is None else worst},1:{10 if worst is None else 30}"
                 one = search(SMALL[0].replace("buy,5000,1:20", buys), SMALL[1].replace("4000", str(own)), key=("GEN", "UNIT"))
-                found = one.worst()
+                found = one.run_for_worst()
                 self.assertEqual(found.limit, worst)
                 needed.add(found.clearings)
         self.assertEqual(max(needed), limits.MOST_CLEARINGS)
@@ -149,7 +149,7 @@ class Limits(unittest.TestCase):
     def test_a_fault_of_a_clearing_ends_the_search(self):
         held, _ = book.run_commands(journal.parse_journal(journal_of(*SMALL)))
         with self.assertRaisesRegex(errors.Fault, "^memory$"):
-            limits.Search(held, ("GEN", "UNIT"), lambda text: errors.Fault("memory", 4)).worst()
+            limits.LimitSearch(held, ("GEN", "UNIT"), lambda text: errors.Fault("memory", 4)).run_for_worst()
 
 
 class Page(unittest.TestCase):

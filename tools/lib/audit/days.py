@@ -285,7 +285,7 @@ def record_without_verdict(pair, status, message):
     return {"name": pair.name, **record.unread_record(verdict.OF_STATUS[status], status, message, files)}
 
 
-class Work:
+class Audits:
     """The audits of all days, which threads take one by one. `records` has those that are made, in the order of the days."""
 
     def __init__(self, pairs, options, seconds, is_json):
@@ -294,33 +294,34 @@ class Work:
         self.lock, self.done = threading.Lock(), threading.Semaphore(0)
         self.wrong = 0  # how many of the records are of wrong days
 
-    def next(self):
+    def take_next_place(self):
+        """The place of the next day that no thread has taken; None if there is none."""
         with self.lock:
             return next(self.places, None)
 
-    def run(self):
-        """The work of a thread."""
-        while (at := self.next()) is not None:
+    def audit_days(self):
+        """The work of a thread: audits days as long as there are any."""
+        while (at := self.take_next_place()) is not None:
             try:
-                self.keep(at, run_audit_of_day(self.pairs[at], self.options, self.running, self.seconds, self.is_json))
+                self.keep_record(at, run_audit_of_day(self.pairs[at], self.options, self.running, self.seconds, self.is_json))
             except MemoryError:
                 pass  # it gets its record at the end
             finally:
                 self.done.release()
 
-    def keep(self, at, made):
+    def keep_record(self, at, made):
         with self.lock:
             self.records[at] = made
             self.wrong += made["status"] == command.DIFFERS
 
-    def start(self, jobs):
+    def start_threads(self, jobs):
         """Starts threads, or fewer if memory is short, and does the work itself if there is none."""
         for number in range(jobs):
             try:
-                threading.Thread(target=self.run, daemon=True).start()
+                threading.Thread(target=self.audit_days, daemon=True).start()
             except RuntimeError:
                 if not number:
-                    self.run()
+                    self.audit_days()
                 return
 
     def end(self):
@@ -332,18 +333,18 @@ class Work:
 
 def run_audits(pairs, options, jobs, bar, seconds=MORE_SECONDS, is_json=False):
     """As much as is kept of the records of all days, in their order; each may take this number of seconds."""
-    work = Work(pairs, options, seconds, is_json)
+    audits = Audits(pairs, options, seconds, is_json)
     try:
-        work.start(jobs)
+        audits.start_threads(jobs)
         for _ in pairs:
-            while not work.done.acquire(timeout=AWAKE):
+            while not audits.done.acquire(timeout=AWAKE):
                 pass
-            bar.step(1, f"{work.wrong} wrong" if work.wrong else "")
+            bar.step(1, f"{audits.wrong} wrong" if audits.wrong else "")
     finally:
-        work.end()
+        audits.end()
         bar.end()
     without = ending.failure_words(MemoryError())
-    return [made or kept_part(record_without_verdict(pair, command.FAILED, without), is_json) for pair, made in zip(pairs, work.records)]
+    return [made or kept_part(record_without_verdict(pair, command.FAILED, without), is_json) for pair, made in zip(pairs, audits.records)]
 
 
 def row_of_day(made):

@@ -67,7 +67,8 @@ class Lint:
     def add_finding(self, line, words, field="", refusal=""):
         self.found.append(Found(line, field, words, refusal))
 
-    def run(self):
+    def collect_findings(self):
+        """The findings on the text, by line, and after them the commands that the book would refuse."""
         other = OTHERS.get(kinds.kind_of(self.data))
         if other:
             self.add_finding(1, other)
@@ -76,7 +77,7 @@ class Lint:
             remedy = f"remove empty lines; the day and {rules.MOST_RECORDS - 1} commands take less"
             self.add_finding(1, f"the text has {len(self.data):,} bytes, but a journal has at most {rules.MOST_BYTES:,}: {remedy}")
             return self.found
-        data, comma = self.readable_text(self.data)
+        data, comma = self.mend_text(self.data)
         self.has_semicolons = comma == b";"
         if self.periods and first_word(data, comma) != "day":
             self.held = book.Book(self.periods)
@@ -94,12 +95,12 @@ class Lint:
                 whole = "the results of a day begin here" if record in RESULTS else "these are results"
                 self.add_finding(line, f"{whole}, which aren't part of a journal: {AUDIT} reads both")
                 break
-            self.check_record(line, [field.decode(errors="replace") for field in record])
-        self.check_close(line, number)
+            self.lint_record(line, [field.decode(errors="replace") for field in record])
+        self.lint_close(line, number)
         return sorted(self.found, key=lambda found: (bool(found.refusal), found.line))
 
-    def readable_text(self, data):
-        """The text with the faults put right that concern all of it, and the separator of its fields."""
+    def mend_text(self, data):
+        """Reports the faults that concern all of a text. Returns the text without them, and the separator of its fields."""
         for mark, encoding in BYTE_ORDER_MARKS.items():
             if data.startswith(mark):
                 name, tool = "a byte order mark", ""
@@ -108,18 +109,18 @@ class Lint:
                 self.add_finding(1, f"the text begins with {name}: save it as plain CSV, in ASCII or UTF-8 without the mark{tool}")
                 data = data.decode(encoding, errors="replace").encode()
                 break
-        data = self.short_lines(self.first_lines(data))
+        data = self.drop_long_lines(self.cut_late_lines(data))
         self.report_other_characters(data)
-        comma = self.separator_of(data)
-        return self.closed_quotes(data, comma), comma
+        comma = self.find_separator(data)
+        return self.mend_quotes(data, comma), comma
 
-    def first_lines(self, data):
+    def cut_late_lines(self, data):
         """The text without the lines after those that a journal may have, and the first of them."""
         further = next(itertools.islice(LINE.finditer(data), rules.MOST_RECORDS + 1, None), None)
         return data[: further.start()] if further else data
 
-    def short_lines(self, data):
-        """The text without the long lines, which aren't looked at: each is empty."""
+    def drop_long_lines(self, data):
+        """Reports the long lines, which aren't looked at. Returns the text in which each is empty."""
         places = [found.span() for found in LINE.finditer(data) if found.end() - found.start() > text.LONG_LINE]
         for begin, end in reversed(places):
             line = text.count_lines(data, 0, begin) + 1
@@ -127,8 +128,8 @@ class Lint:
             data = data[:begin] + data[end:]
         return data
 
-    def separator_of(self, data):
-        """The separator of the fields, by the first line."""
+    def find_separator(self, data):
+        """The separator of the fields, by the first line. Any but a comma is reported."""
         first = re.split(rb"[\r\n]", data.lstrip(b"\r\n"), maxsplit=1)[0]
         for mark, name in SEPARATORS.items():
             if first.count(mark.encode()) > first.count(b",") != len(fields.NAMES) - 1:
@@ -136,9 +137,9 @@ class Lint:
                 return mark.encode()
         return b","
 
-    def closed_quotes(self, data, comma):
-        """The text without the quotes that aren't closed on their line, after which no line could be told from another. The last field of a
-        journal may have such a quote."""
+    def mend_quotes(self, data, comma):
+        """Reports the quotes that aren't closed on their line. Returns the text without them, after which no line could be told from another.
+        The last field of a journal may have such a quote."""
         for number in range(MOST_QUOTES):
             at = text.open_quote(data, comma)
             if at is None or not number and is_journal(data):
@@ -162,8 +163,9 @@ class Lint:
             at = list(lines)[MOST_LINES]
             self.add_finding(at, f"{len(lines) - MOST_LINES} lines from here on aren't ASCII either: save the file as plain CSV, in ASCII")
 
-    def separated(self, line, record):
-        """The fields of a record, also if it alone has something other than commas between them."""
+    def split_alone(self, line, record):
+        """The fields of a record. If it alone has something other than commas between them, that is reported; None if they are too few or too
+        many."""
         for mark, name in SEPARATORS.items():
             parts = record[0].split(mark)
             if len(record) == 1 and len(parts) > 1 and parts[0].strip().lower() in {"day", *fields.USED}:
@@ -171,8 +173,8 @@ class Lint:
                 return parts if len(parts) == len(fields.NAMES) else None
         return record
 
-    def check_record(self, line, record):
-        record = self.separated(line, record)
+    def lint_record(self, line, record):
+        record = self.split_alone(line, record)
         if record is None:
             return
         if self.has_semicolons and len(record) > len(fields.NAMES):
@@ -180,7 +182,7 @@ class Lint:
             return
         word = record[0].strip().lower()
         if self.held is None:
-            self.check_day(line, record, word)
+            self.lint_day(line, record, word)
         elif word == "day":
             self.add_finding(line, "the day appears twice: a journal has one, as its first line")
         elif record[0].lstrip().startswith("#"):
@@ -188,10 +190,10 @@ class Lint:
         elif not any(field.strip() for field in record):
             self.add_finding(line, "there is nothing in the line but commas: remove it")
         else:
-            self.check_entry(line, self.padded(line, record, CLOSE if word == "close" else None))
+            self.lint_entry(line, self.pad_record(line, record, CLOSE if word == "close" else None))
 
-    def padded(self, line, record, whole=None):
-        """The nine fields of a record that may have more or fewer."""
+    def pad_record(self, line, record, whole=None):
+        """The nine fields of a record. If it has more or fewer, that is reported."""
         count, most = len(record), len(fields.NAMES)
         missing = most - count
         if missing > 0:
@@ -205,7 +207,7 @@ class Lint:
             self.add_finding(line, f"it has {count} fields and should have {most}: {do}")
         return (record + [""] * most)[:most]
 
-    def check_day(self, line, record, word):
+    def lint_day(self, line, record, word):
         """The first record, which should be the day."""
         if word != "day":
             if set(map(str.lower, record)) & {*fields.NAMES, "who", "name", "limit", "volume"}:
@@ -217,12 +219,12 @@ class Lint:
             self.add_finding(line, f"the first line should be the day, such as {DAY}, but is {text.quoted(','.join(record))}")
             self.held = book.Book(rules.GREATEST_PERIOD)
             if word in fields.USED:
-                self.check_record(line, record)
+                self.lint_record(line, record)
             return
         found = record[1].strip() if len(record) > 1 else ""
         periods, wrong = fields.parse_day(found)
         whole = journal.day_line(periods or 24)
-        record = self.padded(line, record, whole)
+        record = self.pad_record(line, record, whole)
         if record[0] != "day":
             self.add_finding(line, f"{text.quoted(record[0])} should be day: write {whole}", "command")
         if wrong or record[1] != found:
@@ -233,7 +235,7 @@ class Lint:
                 self.add_finding(line, f"{text.quoted(record[place])} should be empty: write {whole}", fields.NAMES[place])
         self.held = book.Book(periods or rules.GREATEST_PERIOD)
 
-    def check_entry(self, line, record):
+    def lint_entry(self, line, record):
         kind, wrong = fields.word_parser(["submit", "amend", "cancel", "close"])(record[0].strip(" \t\u00a0"))
         if wrong or kind != record[0]:
             self.add_finding(line, f"{text.quoted(record[0])}: {wrong or f'there is a space around it: write {kind}'}", "command")
@@ -259,9 +261,9 @@ class Lint:
                 is_whole = is_whole and values[name] is not None
         if kind == "submit" and hourly and values["volumes"] and len(values["volumes"]) != 1:
             is_whole = False
-        self.apply_command(line, kind, values, is_whole)
+        self.apply_or_report(line, kind, values, is_whole)
 
-    def apply_command(self, line, kind, values, is_whole):
+    def apply_or_report(self, line, kind, values, is_whole):
         who, name = values.get("participant"), values.get("order")
         if kind == "close":
             if self.command == "day":
@@ -276,9 +278,9 @@ class Lint:
             command = {"submit": self.submit_of, "amend": journal.Amend, "cancel": journal.Cancel}[kind](
                 *[values[field] for field in fields.USED[kind]]
             )
-        self.keep_or_report(line, kind, values, self.held.apply(command))
+        self.note_reply_or_report(line, kind, values, self.held.apply(command))
 
-    def keep_or_report(self, line, kind, values, reason):
+    def note_reply_or_report(self, line, kind, values, reason):
         """Keeps the facts by which later commands are judged, or reports why the book refuses the command."""
         who, name = values.get("participant"), values.get("order")
         if reason is None:
@@ -290,13 +292,13 @@ class Lint:
         parent = (who, values.get("parent"))
         if reason == "UnknownOrder" and (who, name) in self.unclear or reason == "UnknownParent" and parent in self.unclear:
             return
-        field, words = self.refusal(reason, who, name, values)
+        field, words = self.refusal_field_and_words(reason, who, name, values)
         self.add_finding(line, f"{words} (the book refuses it: {reason})", field, reason)
 
     def submit_of(self, who, name, kind, side, price, volumes, parent, group):
         return journal.Submit(who, name, journal.Order(kind, side, price, volumes, parent, group))
 
-    def refusal(self, reason, who, name, values):
+    def refusal_field_and_words(self, reason, who, name, values):
         """The field that a refusal is about, and the remedy."""
         parent = values.get("parent")
         if reason == "PeriodOutOfDay":
@@ -324,7 +326,7 @@ class Lint:
             "BlocksFull": ("", f"a book holds at most {rules.MOST_BLOCKS} blocks: cancel others first"),
         }.get(reason, ("", book.REASONS[reason].words))
 
-    def check_close(self, line, records):
+    def lint_close(self, line, records):
         if not records:
             self.add_finding(1, f"the journal is empty: begin with the day, such as {DAY}")
         elif self.held is None:
@@ -347,7 +349,7 @@ def first_word(data, comma=b","):
 def find_faults(data, command="clear", bar=None):
     """The faults of a text as a journal for `dam clear`, `dam replay` or `dam day`, by line, and then the commands that the book would
     refuse. A bar shows how far it is read."""
-    return Lint(data, command, bar=bar).run()
+    return Lint(data, command, bar=bar).collect_findings()
 
 
 def summary_line(found):
@@ -360,6 +362,6 @@ def summary_line(found):
 def first_fault_words(data, periods=None):
     """The first faults of a text that can't be read as a journal, each on a line of its own; or as the commands of a day of as many
     periods, with the day or without it."""
-    lines = [str(fault) for fault in Lint(data, "replay", periods).run() if not fault.refusal]
+    lines = [str(fault) for fault in Lint(data, "replay", periods).collect_findings() if not fault.refusal]
     more = [f"and {len(lines) - FEW} more: see {LINT}"] if len(lines) > FEW else []
     return "".join(f"\n  {line}" for line in lines[:FEW] + more)

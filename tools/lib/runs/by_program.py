@@ -70,7 +70,7 @@ def exchange_pipes(process, text, timeout, name):
     """Gives a process its input, and returns its output and the last part of its standard error, if that is a pipe, once it has ended. A
     process that prints without an end takes little memory: its output is a fault, with its name."""
     until = None if timeout is None else time.monotonic() + timeout
-    streams = {process.stdout: Printed(name), process.stderr: Said()}
+    streams = {process.stdout: BoundedOutput(name), process.stderr: LastOutput()}
     left = memoryview(text)
     with selectors.DefaultSelector() as waiting:
         waiting.register(process.stdin, selectors.EVENT_WRITE)
@@ -85,12 +85,14 @@ def exchange_pipes(process, text, timeout, name):
                     left = left[write_some(stream, left[: select.PIPE_BUF]) :]
                     is_over = not left
                 else:
-                    is_over = not streams[stream].take(os.read(stream.fileno(), PART))
+                    data = os.read(stream.fileno(), PART)
+                    streams[stream].append(data)
+                    is_over = not data
                 if is_over:
                     waiting.unregister(stream)
                     stream.close()
     process.wait(None if until is None else max(until - time.monotonic(), 0))
-    return tuple(kept.whole() for kept in streams.values())
+    return tuple(kept.kept_bytes() for kept in streams.values())
 
 
 def write_some(stream, data):
@@ -101,37 +103,34 @@ def write_some(stream, data):
         return sys.maxsize
 
 
-class Printed:
+class BoundedOutput:
     """The output of a run, which is a fault if it is longer than any."""
 
     def __init__(self, name):
         self.name, self.kept = name, bytearray()
 
-    def take(self, data):
-        """Takes further bytes, and returns how many there were."""
+    def append(self, data):
         self.kept += data
         if len(self.kept) > MOST_PRINTED:
             raise Fault(f"{self.name} printed more than {MOST_PRINTED:,} bytes")
-        return len(data)
 
-    def whole(self):
+    def kept_bytes(self):
         return bytes(self.kept)
 
 
-class Said:
+class LastOutput:
     """The last part of a run's standard error, and how many bytes came before it."""
 
     def __init__(self):
         self.kept, self.lost = bytearray(), 0
 
-    def take(self, data):
+    def append(self, data):
         self.kept += data
         more = max(len(self.kept) - MOST_SAID, 0)
         del self.kept[:more]
         self.lost += more
-        return len(data)
 
-    def whole(self):
+    def kept_bytes(self):
         """The last part, after a line that says how much is left out."""
         begin = f"[the first {self.lost:,} bytes of its standard error are left out]\n".encode() if self.lost else b""
         return begin + self.kept

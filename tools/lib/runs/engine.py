@@ -110,8 +110,8 @@ def run_clear(text, program=None, running=None, nodes=MOST_NODES, timeout=None):
     return status, by_program.fault_words(status, said)
 
 
-def result_or_raise(answered):
-    """The bytes of an answer, or its fault."""
+def result_or_fault(answered):
+    """The bytes of an answer, or its fault, which isn't raised."""
     status, found = answered
     if status in (LATE, UNSTARTED):
         return TimedOut(found) if status == LATE else Unstarted(found)
@@ -163,7 +163,7 @@ def wait_for(future):
     if isinstance(future, Fault):
         return future
     try:
-        return result_or_raise(future.result())
+        return result_or_fault(future.result())
     except Lost:
         raise
     except (Exception, concurrent.futures.CancelledError) as fault:

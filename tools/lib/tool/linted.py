@@ -21,7 +21,7 @@ class Linted:
         self.input = {"role": "journal", "file": text.for_json(path), "bytes": None, "sha256": None}
         self.found = []
 
-    def run(self):
+    def read_and_lint(self):
         data = file_io.read_bytes(self.path)
         self.input.update(bytes=len(data), sha256=hashlib.sha256(data).hexdigest())
         bar = StepBar("lint", len(data), "bytes", self.quiet)

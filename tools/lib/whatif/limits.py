@@ -47,7 +47,7 @@ class Found(NamedTuple):
     clearings: int
 
 
-class Search:
+class LimitSearch:
     """The clearings of a book with other limits of an order. `clear` gives the bytes of the results of a text, or a `Fault`."""
 
     def __init__(self, held, key, clear):
@@ -63,50 +63,52 @@ class Search:
     def text(self, limit):
         return b"%s%d%s" % (self.before, limit, self.behind)
 
-    def output(self, limit):
-        """The printed results with a limit."""
+    def run_for_output(self, limit):
+        """The printed results with a limit, kept or by a run."""
         if limit not in self.printed:
-            self.keep(limit, self.clear(self.text(limit)))
+            self.keep_output_or_raise(limit, self.clear(self.text(limit)))
         return self.printed[limit]
 
-    def at(self, limit):
-        """The clearing with a limit. If its results break the rules, that is a fault."""
+    def run_for_day(self, limit):
+        """The clearing with a limit, kept or by a run. If its results break the rules, that is a fault."""
         if limit not in self.seen:
             more = "" if limit == self.order.price else f" with a limit of {text.shown_price(limit)} EUR/MWh"
-            self.seen[limit] = Cleared.of_text(self.rows(limit), self.held.periods, self.output(limit), f"{THE_DAY}{more}")
+            self.seen[limit] = Cleared.of_text(self.rows(limit), self.held.periods, self.run_for_output(limit), f"{THE_DAY}{more}")
         return self.seen[limit]
 
-    def keep(self, limit, printed):
+    def keep_output_or_raise(self, limit, printed):
+        """Keeps the output of a run with a limit. A run that failed is a fault."""
         if isinstance(printed, Fault):
             raise printed
         self.printed[limit] = printed
 
-    def accepts(self, limit):
+    def run_for_acceptance(self, limit):
         """Whether the block is accepted with a limit."""
-        output, start = self.output(limit), f"\nblock,{self.key[0]},{self.key[1]},".encode()
+        output, start = self.run_for_output(limit), f"\nblock,{self.key[0]},{self.key[1]},".encode()
         word = output[output.find(start) + len(start) :].split(b",", 1)[0] if start in output else None
         if word not in (b"accepted", b"rejected"):
             raise Fault("the program printed no results of this journal")
         return word == b"accepted"
 
-    def ends(self):
+    def run_for_ends(self):
         """The worst limit of a block, and the one past it; None for one that isn't in the range. The places of the limits that accept it
         are those before some place."""
         side, own = self.order.side, self.order.price
-        low, high = (place_of(side, own) + 1, COUNT) if self.accepts(own) else (0, place_of(side, own))
+        low, high = (place_of(side, own) + 1, COUNT) if self.run_for_acceptance(own) else (0, place_of(side, own))
         while low < high:
             middle = (low + high) // 2
-            if self.accepts(limit_at(side, middle)):
+            if self.run_for_acceptance(limit_at(side, middle)):
                 low = middle + 1
             else:
                 high = middle
         return limit_at(side, low - 1) if low else None, limit_at(side, low) if low < COUNT else None
 
-    def worst(self):
-        self.at(self.order.price)
+    def run_for_worst(self):
+        """The worst limit at which the block is accepted, with the clearings that show it."""
+        self.run_for_day(self.order.price)
         before = len(self.printed)
-        limit, past = self.ends()
-        at, after = (None if end is None else self.at(end) for end in (limit, past))
+        limit, past = self.run_for_ends()
+        at, after = (None if end is None else self.run_for_day(end) for end in (limit, past))
         return Found(limit, at, past, after, len(self.printed) - before)
 
 
@@ -128,7 +130,7 @@ def other_orders(search, found):
 
 def row(search, found):
     """The cells of `HEADS` for a block."""
-    order, own = search.order, search.at(search.order.price)
+    order, own = search.order, search.run_for_day(search.order.price)
     cells = [*search.key, order.side, text.eur_per_mwh(order.price), own.outcome(search.key)]
     if found.limit is None:
         return [*cells, "", "", "", "", f"no limit of the range is enough: with the best, {why_never(search, found)}"]
@@ -140,7 +142,7 @@ def row(search, found):
 def cases(search, found):
     """The days to compare, each with its name: as it was, at the limit, and one cent past it."""
     own = search.order.price
-    yield "as it was", own, search.at(own)
+    yield "as it was", own, search.run_for_day(own)
     if found.limit is not None:
         yield "at the worst limit", found.limit, found.at
     if found.past is not None:
@@ -181,8 +183,8 @@ def sentences(search, found):
     """The answer in words."""
     order, who = search.order, " ".join(search.key)
     does, worse = ("buys", "lower") if order.side == "buy" else ("sells", "higher")
-    outcome = search.at(order.price).outcome(search.key)
-    energy = text.energy(sum(volume for _, volume in order.volumes), search.at(order.price).hours)
+    outcome = search.run_for_day(order.price).outcome(search.key)
+    energy = text.energy(sum(volume for _, volume in order.volumes), search.run_for_day(order.price).hours)
     yield f"{who} {does} {energy} MWh in a block with a limit of {text.shown_price(order.price)} EUR/MWh, and is {outcome}."
     if found.limit is None:
         best = text.shown_price(found.past_limit)
@@ -195,9 +197,9 @@ def sentences(search, found):
     yield f"This is exact, since {LAW}. It took {text.counted(found.clearings, 'clearing')} more than the day itself."
 
 
-def short(search):
+def run_for_short_sentence(search):
     """The worst limit of a rejected block in one sentence."""
-    limit = search.worst().limit
+    limit = search.run_for_worst().limit
     if limit is None:
         return "With no limit would it have been accepted."
     return f"With a limit of {text.shown_price(limit)} EUR/MWh or {BETTER[search.order.side]} it would have been accepted."
@@ -209,7 +211,7 @@ def run_for_rejected(day, who=None, is_asked=True):
     places = [place for place, block in enumerate(day.problem.blocks) if place not in day.said.accepted and who in (None, block.who)]
     if not places or day.wrong or not is_asked:
         return dict.fromkeys(places, not_computed_words("the results break the rules" if day.wrong else "the page was made without limits"))
-    own = engine.result_or_raise(engine.run_clear(book_text(day.book.rows, day.problem.periods)))
+    own = engine.result_or_fault(engine.run_clear(book_text(day.book.rows, day.problem.periods)))
     if words := uncomputable_words(day, own):
         why, more = words
         command.print_note("report", f"the limits that rejected blocks needed weren't computed: {why}: {more}")
@@ -250,11 +252,11 @@ def uncomputable_words(day, own):
 
 def run_for_sentence(held, block, own, was, running):
     """What a page says of a rejected block, whose day is printed as `own`, and was checked."""
-    search = Search(held, (block.who, block.name), lambda given: engine.result_or_raise(engine.run_clear(given, running=running)))
-    search.keep(block.order.price, own)
+    search = LimitSearch(held, (block.who, block.name), lambda given: engine.result_or_fault(engine.run_clear(given, running=running)))
+    search.keep_output_or_raise(block.order.price, own)
     search.seen[block.order.price] = was
     try:
-        return short(search)
+        return run_for_short_sentence(search)
     except Fault as fault:
         command.print_note("report", f"the limit of {' '.join(search.key)} wasn't computed: {fault}")
         return not_computed_words(BROKEN if isinstance(fault, Wrong) else "a run of the program failed")

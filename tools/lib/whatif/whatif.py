@@ -122,7 +122,7 @@ def read_closed_book(args):
 
 def engine_of(program, running=None):
     """The engine that clears a text; a run that fails is a `Fault`."""
-    return lambda given: engine.result_or_raise(engine.run_clear(given, program, running))
+    return lambda given: engine.result_or_fault(engine.run_clear(given, program, running))
 
 
 def limit(args):
@@ -143,8 +143,8 @@ def limit(args):
         return write_sampled(args, held, key)
     if (args.least, args.greatest, args.step) != (None,) * 3:
         raise command.Stop("--from, --to and --step can't be used with a block, whose limit is found exactly", command.COMMAND_LINE)
-    search = limits.Search(held, key, engine_of(args.program))
-    found = search.worst()
+    search = limits.LimitSearch(held, key, engine_of(args.program))
+    found = search.run_for_worst()
     if args.json:
         data = json.dumps(limits.record(search, found), indent=1) + "\n"
     elif output.is_table(args.out) or args.decimal_comma:
@@ -175,8 +175,8 @@ def write_all_limits(args, held):
     with engine.running_threads(args.jobs or engine.count_processors()) as (threads, running):
 
         def row(key):
-            search = limits.Search(held, key, engine_of(args.program, running))
-            return limits.row(search, search.worst())
+            search = limits.LimitSearch(held, key, engine_of(args.program, running))
+            return limits.row(search, search.run_for_worst())
 
         rows = list(engine.stepping_bar(threads.map(row, keys), len(keys), "block"))
     output.write_table("whatif", args, "limits", [limits.HEADS, *rows], held.periods)
@@ -185,9 +185,9 @@ def write_all_limits(args, held):
 
 def write_sampled(args, held, key):
     """An hourly order under a grid of limits, as a table."""
-    search = limits.Search(held, key, engine_of(args.program))
+    search = limits.LimitSearch(held, key, engine_of(args.program))
     period = held.rows[key].volumes[0][0]
-    price = search.at(search.order.price).prices[period - 1]
+    price = search.run_for_day(search.order.price).prices[period - 1]
     reach, step = GRID
     step = step if args.step is None else args.step
     least = max(price - reach, rules.LOWEST_PRICE) if args.least is None else args.least
@@ -200,10 +200,10 @@ def write_sampled(args, held, key):
     texts = [search.text(cents) for cents in grid]
     with contextlib.closing(engine.run_clears(texts, args.jobs, program=args.program)) as answers:
         for cents, printed in zip(grid, engine.stepping_bar(answers, len(grid), "limit")):
-            search.keep(cents, printed)
+            search.keep_output_or_raise(cents, printed)
     rows = [["limit_eur_mwh", "executed_mw", "price_eur_mwh", "surplus_eur", "welfare_eur"]]
     for cents in grid:
-        day = search.at(cents)
+        day = search.run_for_day(cents)
         amounts = [text.eur(amount, day.hours, thousands="") for amount in (day.surplus(key), day.welfare)]
         rows.append([text.eur_per_mwh(cents), text.mw(day.executed(key)), text.eur_per_mwh(day.prices[period - 1]), *amounts])
     own = search.order.price
