@@ -76,11 +76,11 @@ def draw_demand(axes, canvas, row, price):
 
 
 def main():
-    modules.refuse_missing("matplotlib")
+    modules.exec_or_require_modules("matplotlib")
     from lib.pictures import canvas
 
     sys.stdout.buffer.write(canvas.picture(figure(), "svg"))
 
 
 if __name__ == "__main__":
-    command.run("draw_hour.py", main)
+    command.run_and_exit("draw_hour.py", main)

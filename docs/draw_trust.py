@@ -181,11 +181,11 @@ def main():
     if not words[1:]:
         print(*say(read_sunny_day()), sep="\n")
         return
-    modules.refuse_missing("matplotlib")
+    modules.exec_or_require_modules("matplotlib")
     from lib.pictures import canvas
 
     sys.stdout.buffer.write(canvas.picture(draw(read_sunny_day()), "svg"))
 
 
 if __name__ == "__main__":
-    command.run("draw_trust.py", main)
+    command.run_and_exit("draw_trust.py", main)

@@ -70,7 +70,7 @@ class ExpectedDesk:
         most = rules.MOST_RECORDS - 1 if command == format_of.Close() else rules.MOST_RECORDS - 2
         if self.entries >= most:
             raise LineFault("JournalFull")
-        self.records.append(f"{format_of.command_line(command)}\n".encode())
+        self.records.append(f"{format_of.command_record(command)}\n".encode())
         return self.entries
 
     def enter_day_or_raise(self, line):

@@ -136,7 +136,7 @@ def main():
     args = parse_arguments()
     modules.exec_with_modules("numpy")
     if args.families or args.books or args.thin or (args.blocks or 0) > FEW_BLOCKS:
-        modules.refuse_missing("numpy")
+        modules.exec_or_require_modules("numpy")
     args.most_blocks = MOST_BLOCKS if modules.has_module("numpy") else FEW_BLOCKS
     program, counts, altered = compare.TimedProgram(args.program, args.wait), Counts(), {}
     for name, data in draw_inputs(args):
@@ -148,4 +148,4 @@ def main():
     return counts.print_totals()
 
 
-command.run("fuzz", main)
+command.run_and_exit("fuzz", main)

@@ -119,7 +119,7 @@ def journal_of_orders(*sources: Source, periods: int = 24, close: bool = True) -
 def read_results(source: JournalSource, results: Source) -> Day:
     """The day of a journal and its results: files, bytes, or a journal that was read."""
     with as_faults():
-        return Day.of(as_journal(source), bytes_of(results))
+        return Day.of_text(as_journal(source), bytes_of(results))
 
 
 def clear(

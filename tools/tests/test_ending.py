@@ -29,7 +29,7 @@ from lib.tool import command, modules
 from lib.base.progress import Progress
 from lib.runs import by_program, errors
 
-RUN = "from lib.base import ending; ending.guard_tool('audit'); from lib.tool import command; command.run('audit', lambda: CALL)"
+RUN = "from lib.base import ending; ending.guard_tool('audit'); from lib.tool import command; command.run_and_exit('audit', lambda: CALL)"
 IGNORING = "import os, signal, sys; signal.signal(signal.SIGCHLD, signal.SIG_IGN); os.execv(sys.argv[1], sys.argv[1:])"
 SECONDS = 60
 # A run of a tool that gets Ctrl-C as soon as it imports a module.
@@ -60,7 +60,7 @@ def main():
         held = weakref.ref(a, going)
         del a
     time.sleep(60)
-command.run("audit", main)
+command.run_and_exit("audit", main)
 """
 # A run that begins what a signal has to end.
 BEGUN = """
@@ -77,7 +77,7 @@ pairs = [days.Pair(str(number), Path(sys.argv[1]), None) for number in range(8)]
 def main():
     with drawing.empty_settings():
         days.run_audits(pairs, [], 3, StepBar("audit", 8, "days"))
-command.run("audit", main)
+command.run_and_exit("audit", main)
 """
 WORKER = "import os, sys, time; open(os.path.dirname(sys.argv[0]) + '/pids', 'a').write(f'{os.getpid()}\\n'); time.sleep(600)"
 PACKAGES = {"audit": [], "lint": [], "plot": ["matplotlib"], "report": ["matplotlib", "jinja2"], "table": []}
@@ -427,14 +427,14 @@ class Interrupted(unittest.TestCase):
 
         said = io.StringIO()
         with self.assertRaises(SystemExit) as end, contextlib.redirect_stderr(said):
-            command.run("audit", main)
+            command.run_and_exit("audit", main)
         self.assertEqual((end.exception.code, said.getvalue()), (command.INTERRUPTED, "audit: interrupted\n"))
 
     def test_a_call_that_keeps_python_from_everything(self):
         """As HiGHS does; its process ends with the tool."""
         call = "lambda tell: (tell(str(os.getpid())), ctypes.PyDLL(None).sleep(600))"
-        shown = "type('', (), {'check_time': lambda self, words: print(words, flush=True), 'end': lambda self: None})()"
-        run = f"command.run('audit', lambda: aside.run_aside({call}, {shown}, ''))"
+        shown = "type('', (), {'show_time_or_raise': lambda self, words: print(words, flush=True), 'end': lambda self: None})()"
+        run = f"command.run_and_exit('audit', lambda: aside.run_aside({call}, {shown}, ''))"
         main = f"import ctypes, os; from lib.base import aside; from lib.tool import command; {run}"
         words = [sys.executable, "-B", "-c", main]
         running = subprocess.Popen(words, stdout=subprocess.PIPE, stderr=subprocess.PIPE, cwd=TOOLS, text=True)
@@ -451,10 +451,10 @@ class Interrupted(unittest.TestCase):
 
     def test_a_call_that_aborts(self):
         """Code in C says why; the tool has one line of its own."""
-        shown = "type('', (), {'check_time': lambda self, words: None, 'end': lambda self: None})()"
+        shown = "type('', (), {'show_time_or_raise': lambda self, words: None, 'end': lambda self: None})()"
         call = "lambda tell: (os.write(2, b'no memory: ABORT'), os.abort())"
         said = "audit: a defect of this tool, please report it: Died: the search ended without an answer: memory may have run out (DAM_DEBUG=1 shows where)\n"
-        run = f"command.run('audit', lambda: aside.run_aside({call}, {shown}, ''))"
+        run = f"command.run_and_exit('audit', lambda: aside.run_aside({call}, {shown}, ''))"
         main = f"import os; from lib.base import aside; from lib.tool import command; {run}"
         ran = subprocess.run([sys.executable, "-B", "-c", f"from lib.base import ending; ending.guard_tool('audit'); {main}"], capture_output=True, text=True, cwd=TOOLS)
         self.assertEqual((ran.returncode, ran.stderr), (command.FAILED, said))
@@ -469,7 +469,7 @@ class Interrupted(unittest.TestCase):
 
     def test_what_a_call_returns_reports_and_raises(self):
         progress = Progress("audit", SECONDS)
-        with mock.patch.object(progress, "check_time") as look:
+        with mock.patch.object(progress, "show_time_or_raise") as look:
             self.assertEqual(aside.run_aside(lambda tell: tell("half") or 7, progress, ""), 7)
         look.assert_any_call("half")
         with self.assertRaises(ZeroDivisionError):

@@ -51,7 +51,7 @@ class Requests(unittest.TestCase):
                         value = {"what": "cancel", "order": name}
                     case _:
                         continue
-                line = journal.command_line(given)
+                line = journal.command_record(given)
                 self.assertEqual(requests.parse_commands(json.dumps(value).encode(), requests.JSON, who), [given])
                 self.assertEqual(requests.parse_commands(line.encode(), requests.RECORDS, who), [given])
                 self.assertEqual(requests.parse_commands(f"{line}\r\n{line}\n".encode(), requests.RECORDS, who), [given, given])

@@ -58,17 +58,17 @@ class Clock(unittest.TestCase):
 class Between(unittest.TestCase):
     def refused(self, periods, first, last, words):
         with self.subTest(periods=periods, first=first, last=last), self.assertRaisesRegex(ValueError, f"^{words}$"):
-            clock.periods_between(periods, first, last)
+            clock.parse_clock_span(periods, first, last)
 
     def test_times_of_each_length_of_a_day(self):
         for periods, length in rules.DAYS.items():
             hour = int(1 / length)
             evening = periods - 7 * hour
             with self.subTest(periods):
-                self.assertEqual(clock.periods_between(periods, "00:00", "24:00"), list(range(1, periods + 1)))
-                self.assertEqual(clock.periods_between(periods, "00:00", "01:00"), list(range(1, hour + 1)))
-                self.assertEqual(clock.periods_between(periods, "01:00", "03:00"), list(range(hour + 1, periods - 21 * hour + 1)))
-                self.assertEqual(clock.periods_between(periods, "17:00", "19:00"), list(range(evening + 1, evening + 2 * hour + 1)))
+                self.assertEqual(clock.parse_clock_span(periods, "00:00", "24:00"), list(range(1, periods + 1)))
+                self.assertEqual(clock.parse_clock_span(periods, "00:00", "01:00"), list(range(1, hour + 1)))
+                self.assertEqual(clock.parse_clock_span(periods, "01:00", "03:00"), list(range(hour + 1, periods - 21 * hour + 1)))
+                self.assertEqual(clock.parse_clock_span(periods, "17:00", "19:00"), list(range(evening + 1, evening + 2 * hour + 1)))
                 self.refused(periods, "17:00", "16:00", "16:00 isn't after 17:00")
                 self.refused(periods, "17:05", "18:00", "no period of the day begins at 17:05")
 
@@ -82,7 +82,7 @@ class Between(unittest.TestCase):
     def test_times_that_are_left_out(self):
         for periods in (23, 92):
             self.refused(periods, "02:00", "04:00", "no period of the day begins at 02:00")
-            self.assertEqual(clock.periods_between(periods, "00:00", "02:00"), clock.periods_between(periods, "00:00", "03:00"))
+            self.assertEqual(clock.parse_clock_span(periods, "00:00", "02:00"), clock.parse_clock_span(periods, "00:00", "03:00"))
 
 
 if __name__ == "__main__":

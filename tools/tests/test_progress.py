@@ -19,9 +19,9 @@ class Told(unittest.TestCase):
     def told(self, stream, **more):
         with mock.patch("sys.stderr", stream):
             progress = Progress("audit", 60, **more)
-            progress.expect(4)
+            progress.add_expected_steps(4)
             for _ in range(4):
-                progress.step()
+                progress.step_or_raise()
             progress.end()
         return stream.getvalue()
 
@@ -60,28 +60,28 @@ class Bars(unittest.TestCase):
 class Time(unittest.TestCase):
     def test_no_step_is_made_when_the_time_is_over(self):
         with self.assertRaisesRegex(TimeoutError, "^after 0 seconds, 0 of 0 selections have been tried: --seconds gives"):
-            Progress("audit", 0).step()
+            Progress("audit", 0).step_or_raise()
         progress = Progress("audit", 60)
-        progress.step()
+        progress.step_or_raise()
         with mock.patch("time.monotonic", lambda: progress.begun + 60), self.assertRaisesRegex(TimeoutError, "^after 60 seconds, "):
-            progress.step()
+            progress.step_or_raise()
 
     def test_the_share_of_selections_that_were_tried_is_said(self):
         for steps, done, said in (8, 2, "2 of 8"), (16, 4, "about 2 of 8"), (16, 0, "0 of 8"):
             progress = Progress("audit", 60, whole=8)
-            progress.expect(steps)
-            progress.step(done)
+            progress.add_expected_steps(steps)
+            progress.step_or_raise(done)
             progress.stopped = True
             with self.assertRaisesRegex(TimeoutError, f"^after 60 seconds, {said} selections have been tried: --seconds gives more time$"):
-                progress.step()
+                progress.step_or_raise()
 
     def test_words_and_the_time_are_shown(self):
         with mock.patch("sys.stderr", Terminal()) as stream:
             progress = Progress("audit", 60)
-            progress.check_time("HiGHS is still searching")
+            progress.show_time_or_raise("HiGHS is still searching")
         self.assertEqual(stream.getvalue(), "\raudit: HiGHS is still searching, 0 s")
         with self.assertRaisesRegex(TimeoutError, "^after 0 seconds, HiGHS is still searching: --seconds gives more time$"):
-            Progress("audit", 0).check_time("HiGHS is still searching")
+            Progress("audit", 0).show_time_or_raise("HiGHS is still searching")
 
     def test_threads_end_when_it_is_over(self):
         progress, ended = Progress("audit", 60), []
@@ -89,7 +89,7 @@ class Time(unittest.TestCase):
         def run():
             try:
                 while True:
-                    progress.step()
+                    progress.step_or_raise()
             except TimeoutError:
                 ended.append(True)
 

@@ -175,7 +175,7 @@ class Times(unittest.TestCase):
                 first, last = clock.time_span(periods, number).split(" to ")
                 times = [clock.begin_time(periods, at) for at in range(1, periods + 1)]
                 if times.count(first) == 1 and times.count(last) <= 1:
-                    self.assertEqual(clock.periods_between(periods, first, last), [number], (periods, first, last))
+                    self.assertEqual(clock.parse_clock_span(periods, first, last), [number], (periods, first, last))
 
     def test_times_that_are_none(self):
         for cell, said in (

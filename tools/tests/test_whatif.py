@@ -107,7 +107,7 @@ class Limits(unittest.TestCase):
     def test_a_name_that_begins_another(self):
         """UNIT10 stands first, and offers the same for less than UNIT1: each is found by its whole name."""
         offers = [f"submit,GEN,{name},block,sell,{price},1:20,," for name, price in (("UNIT10", 4000), ("UNIT1", 4500))]
-        founds = [search(SMALL[0], *offers, key=("GEN", name)).worst() for name in ("UNIT10", "UNIT1")]
+        founds = [search(SMALL[0], *offers, key=("GEN", name)).run_for_worst() for name in ("UNIT10", "UNIT1")]
         self.assertEqual([(found.limit, found.past_limit) for found in founds], [(4500, 4501), (3999, 4000)])
 
     def test_a_child_that_no_limit_helps(self):

@@ -104,7 +104,7 @@ class Search:
         """Keeps a selection if it is eligible and of greater welfare than those before."""
         self.tried += 1
         if self.progress and self.tried % STEP == 1:
-            self.progress.step(STEP)
+            self.progress.step_or_raise(STEP)
         if None in worth.values():
             return
         welfare = sum(worth.values()) + value
@@ -120,7 +120,7 @@ def enumerate_all(problem, progress=None):
     """The best selection, and how it was found."""
     search = Search(problem, progress)
     if progress:
-        progress.expect(2 ** len(problem.blocks))
+        progress.add_expected_steps(2 ** len(problem.blocks))
     best = search.find_best()
     if selection.eligible_welfare(problem, best.accepted) != best.welfare:
         raise AssertionError(f"the selection {sorted(best.accepted)} is not eligible with the welfare that the search gave it")

@@ -30,7 +30,7 @@ def search_all(problem, said, progress, jobs, few=FEW_BLOCKS):
         finally:
             progress.end()
         return (None if found.accepted == said.accepted else found), how
-    modules.refuse_missing("numpy")
+    modules.exec_or_require_modules("numpy")
     from . import enumeration
 
     return enumeration.find_better(problem, frozenset(said.accepted), said.welfare, progress, jobs)
@@ -40,7 +40,7 @@ def ask_highs(problem, said, progress, jobs):
     """By HiGHS, which takes no program of a day without blocks."""
     if not problem.blocks:
         return search_all(problem, said, progress, jobs)
-    modules.refuse_missing("scipy")
+    modules.exec_or_require_modules("scipy")
 
     def ask(tell):
         from . import solver

@@ -75,8 +75,8 @@ def split_suffix(name):
 
 def pair_of(name, journal, published):
     if os.path.lexists(published):
-        return Pair(name, journal, published, file_io.unread_reason(journal) or file_io.unread_reason(published), None)
-    return Pair(name, journal, None, file_io.unread_reason(journal), f"{command.shown(published)} is missing")
+        return Pair(name, journal, published, file_io.find_unread_reason(journal) or file_io.find_unread_reason(published), None)
+    return Pair(name, journal, None, file_io.find_unread_reason(journal), f"{command.shown(published)} is missing")
 
 
 def require_listed_pairs(path, notes):
@@ -143,8 +143,8 @@ def listed_pair(folder, cells, extra):
     journal, published = (folder / cells.get(name, "") for name in COLUMNS)
     has_results = bool(cells.get("results"))
     missing = None if has_results else f"its row names no results, and {command.shown(journal)} has no line 'results'"
-    unread = extra or unread_row_words(cells) or file_io.unread_reason(journal)
-    unread = unread or (file_io.unread_reason(published) if has_results else None)
+    unread = extra or unread_row_words(cells) or file_io.find_unread_reason(journal)
+    unread = unread or (file_io.find_unread_reason(published) if has_results else None)
     return Pair(cells.get(NAME) or journal.stem, journal, published if has_results else None, unread, missing)
 
 
@@ -269,7 +269,7 @@ def record_of_process(pair, status, out, err):
     try:
         made = json.loads(out)
         if made["status"] == status:
-            if pair.missing and made["message"] == day_files.no_results(pair.journal):
+            if pair.missing and made["message"] == day_files.no_results_message(pair.journal):
                 made["message"] = pair.missing
             return {"name": pair.name, **made}
     except (ValueError, KeyError, TypeError):

@@ -255,7 +255,7 @@ class Rows:
         welfares = every.high_own[rows][:, None] + every.low_own[every.lows][None, :]
         for period in every.periods.values():
             self.add(welfares, period, rows)
-            self.progress.step(len(self.highs))
+            self.progress.step_or_raise(len(self.highs))
         return welfares
 
     def add(self, welfares, period, rows):
@@ -300,7 +300,7 @@ class Rows:
                 losing = accepting[self.every.loses(place, numbers[accepting])]
                 self.lost[place] += len(losing)
                 numbers = numpy.delete(numbers, losing)
-            self.progress.step(0)
+            self.progress.step_or_raise(0)
             if 4 * len(numbers) > 3 * before:
                 break
         gaining = [numbers[:0]]
@@ -318,7 +318,7 @@ def find_better(problem, accepted, welfare, progress, jobs=1, low_bits=LOW_BITS)
     every = Selections(problem, low_bits)
     published = Floor(welfare, every.number(accepted))
     shares = [Rows(every, highs, published, progress) for highs in numpy.array_split(every.highs, jobs) if len(highs)]
-    progress.expect(len(every.highs) * len(every.periods))
+    progress.add_expected_steps(len(every.highs) * len(every.periods))
     with ThreadPoolExecutor(jobs) as threads:
         try:
             floors = [running.result() for running in [threads.submit(share.find_best) for share in shares]]

@@ -124,7 +124,7 @@ class Audit:
         day_files.refuse_other_kind(options.journal, written, kinds.JOURNAL, HINTS)
         if published is None:
             if options.sent is None or options.best:
-                raise command.Stop(day_files.no_results(options.journal))
+                raise command.Stop(day_files.no_results_message(options.journal))
             self.inputs[0]["role"] = "journal"
         return written, published
 
@@ -205,7 +205,7 @@ class Audit:
         self.progress = Progress("audit", self.seconds, options.quiet)
         words = f"the commands of {options.participant} aren't compared yet"
         try:
-            wrong, right = sent.compare_sent(own, published, closed, options.participant, lambda: self.progress.check_time(words), proof_words)
+            wrong, right = sent.compare_sent(own, published, closed, options.participant, lambda: self.progress.show_time_or_raise(words), proof_words)
         except TimeoutError as fault:
             raise command.Stop(str(fault), command.UNDECIDED) from None
         finally:

@@ -57,7 +57,7 @@ def receive_result(pipe, progress, words):
     """The answer that comes; the reports before it are shown."""
     while True:
         if not pipe.poll(PAUSE):
-            progress.check_time(words)
+            progress.show_time_or_raise(words)
             continue
         try:
             kind, value = pipe.recv()
@@ -68,4 +68,4 @@ def receive_result(pipe, progress, words):
         if kind == "fault":
             raise value
         words = value
-        progress.check_time(words)
+        progress.show_time_or_raise(words)

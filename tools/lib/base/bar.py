@@ -34,9 +34,9 @@ class ShareBar:
             self.most = max(self.most, min(share, 1.0))
         full = round(self.most * WIDTH)
         drawn = "" if share is None else f" [{'#' * full}{'.' * (WIDTH - full)}] {self.most:.0%}"
-        self.write("\r\033[K" + self.fitted(f"dam: {self.name}{drawn} {taken}{', ' if words else ''}{words}"))
+        self.write_stderr("\r\033[K" + self.cut_to_terminal(f"dam: {self.name}{drawn} {taken}{', ' if words else ''}{words}"))
 
-    def fitted(self, line):
+    def cut_to_terminal(self, line):
         """Returns the line as far as the terminal is wide: a longer one would leave its first part behind."""
         try:
             # a terminal without a size says 0
@@ -44,7 +44,7 @@ class ShareBar:
         except OSError:
             return line
 
-    def write(self, text):
+    def write_stderr(self, text):
         if not sys.stderr:
             return
         try:
@@ -55,10 +55,10 @@ class ShareBar:
 
     def print_above(self, line):
         """Prints a line for good, above the bar."""
-        self.write(f"\r\033[K{line}\n" if self.is_shown else f"{line}\n")
+        self.write_stderr(f"\r\033[K{line}\n" if self.is_shown else f"{line}\n")
         self.last = 0
 
     def close(self):
         if self.is_shown and self.last:
-            self.write("\r\033[K")
+            self.write_stderr("\r\033[K")
             self.last = 0

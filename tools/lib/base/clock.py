@@ -28,18 +28,18 @@ def time_span(periods, number):
     return f"{begin_time(periods, number)} to {end // 60:02}:{end % 60:02}"
 
 
-def end_time(periods, number):
+def end_times(periods, number):
     """When a period ends: as the next one begins, and by the clock at its own beginning."""
     return begin_time(periods, number + 1), time_span(periods, number).rpartition(" ")[2]
 
 
-def periods_between(periods, first, last):
+def parse_clock_span(periods, first, last):
     """The periods of a day from one clock time to another, such as `07:00` and `09:00`. A ValueError names the fault of a time."""
     numbers = range(1, periods + 1)
     starts = [number for number in numbers if begin_time(periods, number) == first]
     last = "24:00" if last == "00:00" else last
-    stops = [number for number in numbers if end_time(periods, number)[0] == last]
-    stops = stops or [number for number in numbers if end_time(periods, number)[1] == last]
+    stops = [number for number in numbers if end_times(periods, number)[0] == last]
+    stops = stops or [number for number in numbers if end_times(periods, number)[1] == last]
     for found, time, does in (starts, first, "begins"), (stops, last, "ends"):
         if not found:
             raise ValueError(f"no period of the day {does} at {time}")

@@ -1,9 +1,9 @@
 """How a tool ends if it fails itself, because memory or files run out or it has a defect: with one line on standard error, and a status that
 is no verdict. With DAM_DEBUG=1 in the environment Python's traceback comes before the line.
 
-A tool calls `watch` before it imports anything else of this folder, since an import may fail too, and Ctrl-C may come in the midst of it.
-If this import fails, a function `stop` of its script ends it. The launcher's call `guard`, for which Python 3.8 is enough.
-From `raise_signals` on, signals are exceptions: so the tool's processes are ended, and its temporary files removed."""
+A tool calls `guard_tool` before it imports anything else of this folder, since an import may fail too, and Ctrl-C may come in the midst of
+it. If this import fails, a function `exit_by_fault` of its script ends it. The launcher's call `guard_process`, for which Python 3.8 is
+enough. From `turn_signals_into_exceptions` on, signals are exceptions: so the tool's processes are ended, and its temporary files removed."""
 
 import atexit
 import contextlib
@@ -101,15 +101,15 @@ def guard_tool(tool):
     if sys.version_info < (3, 10):
         os.write(2, f"{tool}: it needs Python 3.10 or newer\n".encode())
         sys.exit(FAILED)
-    exit_by_exceptions(tool)
-    exit_without_stack(tool)
+    guard_process(tool)
+    exit_if_stack_is_small(tool)
     if sys.flags.no_site:  # the packages of the system, which may run code of their own, are left until now
         import site
 
         site.main()
 
 
-def exit_without_stack(tool):
+def exit_if_stack_is_small(tool):
     """Ends the tool at once if its stack, and so that of each thread, may be too small."""
     most, _ = resource.getrlimit(resource.RLIMIT_STACK)
     if 0 <= most < LEAST_STACK:
@@ -117,7 +117,7 @@ def exit_without_stack(tool):
         os._exit(FAILED)
 
 
-def exit_by_exceptions(tool, failed=FAILED):
+def guard_process(tool, failed=FAILED):
     """From now on any exception that nothing handles ends the tool in this way, with the status `failed`, and Ctrl-C at once, and the tool is
     apart from the working folder."""
     watched[:], of_failures[:] = [tool], [failed]
@@ -132,17 +132,17 @@ def exit_by_interrupt(*_):
     exit_by_failure(watched[0], KeyboardInterrupt())
 
 
-def raise_signals():
+def turn_signals_into_exceptions():
     """From now on Ctrl-C and the signals that end a process are exceptions, unless the one that started it ignores them."""
     if signal.getsignal(signal.SIGINT) == exit_by_interrupt:
         signal.signal(signal.SIGINT, raise_signal)
     for number in ENDING:
         if signal.getsignal(number) == signal.SIG_DFL:
             signal.signal(number, raise_signal)
-    sys.unraisablehook = raise_ignored
+    sys.unraisablehook = raise_ignored_later
 
 
-def raise_ignored(ignored):
+def raise_ignored_later(ignored):
     """Python ignores an exception of a call for an object that goes away. A signal that came in the midst of it is raised again."""
     if not issubclass(ignored.exc_type, KeyboardInterrupt):
         sys.__unraisablehook__(ignored)

@@ -38,7 +38,7 @@ class Progress(Line):
         self.done = self.steps = 0
         self.lock = threading.Lock()
 
-    def expect(self, steps):
+    def add_expected_steps(self, steps):
         """More steps are to come."""
         with self.lock:
             self.steps += steps
@@ -52,8 +52,8 @@ class Progress(Line):
         tried = self.tried_count()
         return f"{'about ' if tried and self.steps != self.whole else ''}{tried:,} of {self.whole:,} selections have been tried"
 
-    def check_time(self, words):
-        """Shows words and the time. Fails if no time is left."""
+    def show_time_or_raise(self, words):
+        """Shows words and the time. Raises TimeoutError if no time is left."""
         took = time.monotonic() - self.begun
         if took >= self.seconds:
             raise TimeoutError(self.timeout_message(words))
@@ -68,8 +68,8 @@ class Progress(Line):
         """The message when no time is left."""
         return f"after {self.seconds:g} seconds, {words}: --seconds gives more time"
 
-    def step(self, done=1):
-        """This many more steps are done. Fails if no time is left."""
+    def step_or_raise(self, done=1):
+        """This many more steps are done. Raises TimeoutError if no time is left."""
         took = time.monotonic() - self.begun
         if self.stopped or took >= self.seconds:
             self.stopped = True

@@ -23,7 +23,7 @@ def write_replacing(path, data):
 def prepare_write(path, data, cleanups):
     """The call that puts a file in its place. Unless it's to be written in place, it's written before, next to that, and `cleanups` removes it
     if it isn't put."""
-    target = link_target(str(Path(path)))
+    target = resolve_link_target(str(Path(path)))
     old = stat_or_none(target) if target is not None else None
     # `Path` leaves out a slash or dot at the end, which only a folder has
     if os.path.basename(path) in ("", ".") or old is not None and stat.S_ISDIR(old.st_mode):
@@ -36,13 +36,13 @@ def prepare_write(path, data, cleanups):
     try:
         rename = prepare_replacement(target, old, data, cleanups)
     except OSError as fault:
-        return write_in_place_or_raise(in_place, old, fault)
+        return in_place_call_or_raise(in_place, old, fault)
 
     def put():
         try:
             rename()
         except OSError as fault:
-            write_in_place_or_raise(in_place, old, fault)()
+            in_place_call_or_raise(in_place, old, fault)()
 
     return put
 
@@ -60,20 +60,20 @@ def prepare_new(path, data, cleanups):
         except FileExistsError:
             raise
         except OSError:  # a file system without links
-            create_whole(path, data)
+            create_whole_file(path, data)
         remove_file(made)
 
     return put
 
 
-def create_whole(path, data):
+def create_whole_file(path, data):
     """Writes a file that isn't there yet, and removes it if it can't be written."""
     with contextlib.ExitStack() as undo:
         create_file(path, data, undo)
         undo.pop_all()
 
 
-def write_in_place_or_raise(in_place, old, fault):
+def in_place_call_or_raise(in_place, old, fault):
     """The call that writes over an old file, if it is the one that can't be replaced."""
     if old is None or fault.errno not in FIXED:
         raise fault
@@ -95,7 +95,7 @@ def write_in_place(target, data):
         file.truncate()
 
 
-def link_target(path):
+def resolve_link_target(path):
     """The file to which symbolic links lead from a path; None for an open file, as /dev/stdout names it."""
     for _ in range(MOST_LINKS):
         folder, name = os.path.split(path)
@@ -150,11 +150,11 @@ def copy_rights(number, target, old):
     if (new.st_uid, new.st_gid) != (old.st_uid, old.st_gid):
         os.fchown(number, old.st_uid, old.st_gid)
     os.fchmod(number, stat.S_IMODE(old.st_mode))
-    for name in attributes_of(target):
+    for name in list_attributes(target):
         os.setxattr(number, name, os.getxattr(target, name))
 
 
-def attributes_of(path):
+def list_attributes(path):
     """The names of a file's extended attributes, such as an access control list; none if the file system has no such thing."""
     try:
         return os.listxattr(path)

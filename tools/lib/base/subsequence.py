@@ -13,11 +13,11 @@ def longest_pairs(one, other, look=lambda: None):
     end = next((at for at in range(shorter - begin) if one[-1 - at] != other[-1 - at]), shorter - begin)
     middle = [entries[begin : len(entries) - end] for entries in (one, other)]
     pairs = [(at, at) for at in range(begin)]
-    pairs += [(begin + at, begin + place) for at, place in longest_rows(*middle, look)]
+    pairs += [(begin + at, begin + place) for at, place in longest_pairs_by_bits(*middle, look)]
     return pairs + [(len(one) - at, len(other) - at) for at in range(end, 0, -1)]
 
 
-def longest_rows(one, other, look):
+def longest_pairs_by_bits(one, other, look):
     """The same by bit vectors: after each number of entries of `other`, bit `at` of a row is 0 if the length of a longest common subsequence
     with the beginning of `one` grows at this place."""
     bits, every = {}, (1 << len(one)) - 1

@@ -36,10 +36,10 @@ def isolate_environment():
         del os.environ[name]
     os.environ.pop(DATE, None)
     os.environ["LANGUAGE"] = "C"  # before the locale, whose name gettext would take for a folder
-    os.environ.setdefault("HOME", home_of_user())
+    os.environ.setdefault("HOME", find_home())
 
 
-def home_of_user():
+def find_home():
     """The user's home by the system's list of users, which may lack the user."""
     try:
         return pwd.getpwuid(os.getuid()).pw_dir

@@ -68,7 +68,7 @@ def csv_lines(text):
     return (line[0] for line in LINE.finditer(text.decode("latin-1").replace("\0", NO_NUL)))
 
 
-def open_quote(text, comma=b","):
+def find_open_quote(text, comma=b","):
     """Where a quote begins that isn't closed on its line; None if there is none."""
     begin = 0
     for line in csv_lines(text):

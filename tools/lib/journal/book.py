@@ -29,7 +29,7 @@ class Book:
         """Carries out the command and returns None, or changes nothing and returns the reason."""
         reason = self.refusal(command)
         if reason is None:
-            self.change(command)
+            self.carry_out(command)
         return reason
 
     def refusal(self, command):
@@ -54,7 +54,7 @@ class Book:
     def is_full(self, command, kind, most):
         return command.order.kind == kind and self.held[kind] >= most
 
-    def change(self, command):
+    def carry_out(self, command):
         match command:
             case Submit(who, name, order):
                 self.rows[who, name] = order

@@ -1,7 +1,7 @@
-"""The fields of a journal's record, read one by one: the fault of each in words, and the value that it is taken for, so that one
+"""The fields of a journal's record, parse one by one: the fault of each in words, and the value that it is taken for, so that one
 fault isn't reported as several.
 
-A reader takes the text of a field and returns a value, or None if it has none, and the fault of the text: the allowed texts
+A parser takes the text of a field and returns a value, or None if it has none, and the fault of the text: the allowed texts
 and the text to write instead."""
 
 import re
@@ -23,14 +23,14 @@ DECIMAL = re.compile(r"([+-]?)([0-9]{1,9})(?:[.,]([0-9]{1,6}))?")
 def word_parser(words):
     allowed = f"{', '.join(words[:-1])} or {words[-1]}"
 
-    def read(found):
+    def parse(found):
         if found in words:
             return found, None
         if found.lower() in words:
             return found.lower(), f"it should be {allowed}: write {found.lower()}"
         return None, f"it should be {allowed}"
 
-    return read
+    return parse
 
 
 def parse_day(found):
@@ -41,30 +41,30 @@ def parse_day(found):
     return None, allowed
 
 
-def name_parser(allowed, reader):
-    def read(found):
-        if found.isascii() and reader(found.encode()) is not None:
+def name_parser(allowed, parser):
+    def parse(found):
+        if found.isascii() and parser(found.encode()) is not None:
             return found, None
         better = found.upper().replace("_", "-").replace(" ", "-")
-        if better.isascii() and reader(better.encode()) is not None:
+        if better.isascii() and parser(better.encode()) is not None:
             return better, f"it should be {allowed}: write {better}"
         return None, f"it should be {allowed}"
 
-    return read
+    return parse
 
 
-read_participant = name_parser(f"1 to {rules.LONGEST_PARTICIPANT} capitals A to Z", text.parse_participant)
-read_order = name_parser(text.A_NAME, text.name)
+parse_participant = name_parser(f"1 to {rules.LONGEST_PARTICIPANT} capitals A to Z", text.parse_participant)
+parse_order_name = name_parser(text.A_NAME, text.parse_name)
 
 
 def parse_price(found):
     if found.isascii() and text.parse_price(found.encode()) is not None:
         return int(found), None
     allowed = f"it should be whole cents per MWh from {rules.LOWEST_PRICE} to {rules.HIGHEST_PRICE}"
-    return suggested_number(found, allowed, 100, "EUR/MWh", rules.LOWEST_PRICE, rules.HIGHEST_PRICE)
+    return number_and_advice(found, allowed, 100, "EUR/MWh", rules.LOWEST_PRICE, rules.HIGHEST_PRICE)
 
 
-def suggested_number(found, allowed, factor, unit, least, greatest):
+def number_and_advice(found, allowed, factor, unit, least, greatest):
     """The number that is meant by one that breaks its rule, if that is plain."""
     digits = DECIMAL.fullmatch(found.strip())
     if not digits:
@@ -92,7 +92,7 @@ def parse_pair(pair):
         pair_now = int(number), int(volume)
         return pair_now, None if pair == f"{number}:{volume}" else f"{text.quoted(pair)} has a space: write {number}:{volume}"
     allowed = f"{text.quoted(volume)} in {text.quoted(pair)} should be whole tenths of a MW from 1 to {rules.GREATEST_VOLUME}"
-    value, wrong = suggested_number(volume, allowed, 10, "MW", 1, rules.GREATEST_VOLUME)
+    value, wrong = number_and_advice(volume, allowed, 10, "MW", 1, rules.GREATEST_VOLUME)
     return (None if value is None else (int(number), value)), wrong
 
 
@@ -119,22 +119,22 @@ def parse_volumes(found):
     return whole, "; ".join(wrong) or "it should be pairs period:volume by increasing period, with `;` between them"
 
 
-READERS = {
-    "participant": read_participant,
-    "order": read_order,
+PARSERS = {
+    "participant": parse_participant,
+    "order": parse_order_name,
     "kind": word_parser(["hour", "block"]),
     "side": word_parser(["buy", "sell"]),
     "price": parse_price,
     "volumes": parse_volumes,
-    "parent": read_order,
-    "group": read_order,
+    "parent": parse_order_name,
+    "group": parse_order_name,
 }
 
 
 def parse_field(name, found):
     """A field without the spaces around it: its value, and its fault."""
     bare = found.strip(" \t\u00a0")
-    value, wrong = READERS[name](bare)
+    value, wrong = PARSERS[name](bare)
     if bare != found:
         spaces = f"there is a space around it: write {text.safe(bare)}"
         wrong = f"{spaces}; {wrong}" if wrong else spaces

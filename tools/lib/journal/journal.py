@@ -83,11 +83,11 @@ def parse_empty(field):
 
 
 def parse_optional_name(field):
-    return "" if field == b"" else text.name(field)
+    return "" if field == b"" else text.parse_name(field)
 
 
 def word_parser(*words):
-    """The reader of one of these words."""
+    """The parser of one of these words."""
     return lambda field: field.decode() if field.decode() in words else None
 
 
@@ -96,17 +96,17 @@ def parse_one_volume(field):
     return pairs if pairs and len(pairs) == 1 else None
 
 
-def parse_fields(fields, *readers):
-    """The values that the readers make of the fields after the first, one each; an empty field after the last reader's. The first
+def parse_fields(fields, *parsers):
+    """The values that the parsers make of the fields after the first, one each; an empty field after the last parser's. The first
     that breaks its rule is the record's fault."""
     values = []
     for at in range(1, 9):
-        reader = readers[at - 1] if at <= len(readers) else parse_empty
-        value = reader(fields[at])
+        parser = parsers[at - 1] if at <= len(parsers) else parse_empty
+        value = parser(fields[at])
         if value is None:
             raise BadField(at + 1)
         values.append(value)
-    return values[: len(readers)]
+    return values[: len(parsers)]
 
 
 def parse_day(fields):
@@ -121,15 +121,15 @@ def parse_command(fields):
         hourly = fields[3] == b"hour"
         behind = (parse_one_volume, parse_empty, parse_empty) if hourly else (text.parse_volumes, parse_optional_name, parse_optional_name)
         who, name, *order = parse_fields(
-            fields, text.parse_participant, text.name, word_parser("hour", "block"), word_parser("buy", "sell"), text.parse_price, *behind
+            fields, text.parse_participant, text.parse_name, word_parser("hour", "block"), word_parser("buy", "sell"), text.parse_price, *behind
         )
         return Submit(who, name, Order(*order))
     if kind == b"amend":
-        readers = text.parse_participant, text.name, parse_empty, parse_empty, text.parse_price, text.parse_volumes
-        who, name, _, _, price, volumes = parse_fields(fields, *readers)
+        parsers = text.parse_participant, text.parse_name, parse_empty, parse_empty, text.parse_price, text.parse_volumes
+        who, name, _, _, price, volumes = parse_fields(fields, *parsers)
         return Amend(who, name, price, volumes)
     if kind == b"cancel":
-        return Cancel(*parse_fields(fields, text.parse_participant, text.name))
+        return Cancel(*parse_fields(fields, text.parse_participant, text.parse_name))
     if kind == b"close":
         parse_fields(fields)
         return Close()
@@ -140,7 +140,7 @@ def volumes_text(volumes):
     return ";".join(f"{period}:{volume}" for period, volume in volumes)
 
 
-def command_line(command):
+def command_record(command):
     """The record of a command in the written journal."""
     match command:
         case Submit(who, name, order):
@@ -155,12 +155,12 @@ def command_line(command):
     return ",".join(fields)
 
 
-def day_line(periods):
+def day_record(periods):
     """The record of a day in the written journal."""
     return f"day,{periods},,,,,,,"
 
 
 def journal_text(journal):
     """The written journal."""
-    lines = [day_line(journal.periods)] + [command_line(command) for command in journal.commands]
+    lines = [day_record(journal.periods)] + [command_record(command) for command in journal.commands]
     return "".join(f"{line}\n" for line in lines)

@@ -141,7 +141,7 @@ class Lint:
         """Reports the quotes that aren't closed on their line. Returns the text without them, after which no line could be told from another.
         The last field of a journal may have such a quote."""
         for number in range(MOST_QUOTES):
-            at = text.open_quote(data, comma)
+            at = text.find_open_quote(data, comma)
             if at is None or not number and is_journal(data):
                 break
             line = text.count_lines(data, 0, at) + 1
@@ -223,7 +223,7 @@ class Lint:
             return
         found = record[1].strip() if len(record) > 1 else ""
         periods, wrong = fields.parse_day(found)
-        whole = journal.day_line(periods or 24)
+        whole = journal.day_record(periods or 24)
         record = self.pad_record(line, record, whole)
         if record[0] != "day":
             self.add_finding(line, f"{text.quoted(record[0])} should be day: write {whole}", "command")

@@ -82,7 +82,7 @@ def parse_sent(data, who, periods, has_none):
 
 
 def parse_records(data, periods):
-    own = data if lint.first_word(data) == "day" else f"{journal.day_line(periods)}\n".encode() + data
+    own = data if lint.first_word(data) == "day" else f"{journal.day_record(periods)}\n".encode() + data
     try:
         read = journal.parse_journal(own)
     except journal.Fault:
@@ -189,25 +189,25 @@ def subject_of(entry):
 
 
 def moved_fault(one, other):
-    shown = journal.command_line(one.command)
+    shown = journal.command_record(one.command)
     words = f"sent record {one.record} is moved: {other.place} is out of its order: {shown}"
     return Fault(words, "moved", other.line, subject_of(one))
 
 
 def changed_fault(one, other, proof):
-    was, now = journal.command_line(one.command), journal.command_line(other.command)
+    was, now = journal.command_record(one.command), journal.command_record(other.command)
     words = f"sent record {one.record} is changed: it was '{was}', and {other.place} is '{now}'{proof}"
     return Fault(words, "changed", other.line, subject_of(one))
 
 
 def missing_fault(one, where, proof):
-    words = f"sent record {one.record} is missing in {where}: {journal.command_line(one.command)}{proof}"
+    words = f"sent record {one.record} is missing in {where}: {journal.command_record(one.command)}{proof}"
     return Fault(words, "missing", None, subject_of(one))
 
 
 def more_fault(other, times):
     """The fault of a record that wasn't sent, or not as often; its command was sent this many times."""
-    shown = journal.command_line(other.command)
+    shown = journal.command_record(other.command)
     if not times:
         return Fault(f"{other.place} was not sent: {shown}", "unsent", other.line, subject_of(other))
     count = "once" if times == 1 else f"{times} times"
@@ -224,5 +224,5 @@ def record_before(one, found):
 def replies(sent, published):
     """The reply to each command, if all are published as they were sent."""
     for one, other in zip(sent, published):
-        shown = journal.command_line(one.command)
+        shown = journal.command_record(one.command)
         yield f"sent record {one.record} is {other.place}; the book's reply is {other.reply}: {shown}"

@@ -5,7 +5,7 @@ import contextlib
 import functools
 import time
 
-from ..journal.journal import Close, command_line
+from ..journal.journal import Close, command_record
 from . import folder, newest, published, publishing
 from .desk import Desk, Ended
 from .ledger import Contradiction, Ledger
@@ -94,7 +94,7 @@ class DayWriter:
     async def enter_batch(self):
         """Enters the batch of the queue. Its submissions are answered once all of it is on the disk."""
         commands, begin = [command for command, _ in self.queue.batch], self.ledger.size
-        records = list(map(command_line, commands))
+        records = list(map(command_record, commands))
         entries = zip(commands, records)
         async for reply in self.desk.enter(records):
             self.ledger.enter(*next(entries), reply)

@@ -46,12 +46,12 @@ class Ledger:
         held = [(entry.record, entry.reply) for entry in self.seal.entries]
         if list(zip(records, replies, strict=True))[: len(held)] != held:
             raise Contradiction(f"the desk's journal doesn't begin with the {len(held)} entries that it has answered")
-        text = "".join(f"{record}\n" for record in [journal.day_line(self.seal.periods), *records])
+        text = "".join(f"{record}\n" for record in [journal.day_record(self.seal.periods), *records])
         try:
             commands = journal.parse_journal(text.encode("ascii")).commands
         except (journal.Fault, UnicodeEncodeError) as fault:
             raise Contradiction(f"the desk shows no journal: {fault}") from None
-        if list(map(journal.command_line, commands)) != records:
+        if list(map(journal.command_record, commands)) != records:
             raise Contradiction("the desk shows records that aren't in their written form")
         for entry in list(zip(commands, records, replies))[len(held) :]:
             self.enter(*entry)
@@ -108,7 +108,7 @@ class Ledger:
         return self.seal.receipt(entry, self.head(entry))
 
     def journal_text(self):
-        lines = [journal.day_line(self.seal.periods), *(entry.record for entry in self.seal.entries)]
+        lines = [journal.day_record(self.seal.periods), *(entry.record for entry in self.seal.entries)]
         return "".join(f"{line}\n" for line in lines).encode()
 
     def replies_text(self):

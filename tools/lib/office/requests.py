@@ -19,7 +19,7 @@ MOST_LINTED, MOST_LINES = 1 << 12, 20  # bytes and lines of a body of which all 
 WITH_DAY = re.compile(rb'[\r\n]*"?day"?,')  # at the beginning of a body
 RECORD = re.compile("record ([0-9]+)")
 CODE = re.compile(rf" \((?:{'|'.join(book.REASONS)})\)$", re.MULTILINE)  # of the book, behind its words in a table's fault
-DAY = f"{journal.day_line(rules.GREATEST_PERIOD)}\n".encode()  # before records; the desk's book knows the day's periods
+DAY = f"{journal.day_record(rules.GREATEST_PERIOD)}\n".encode()  # before records; the desk's book knows the day's periods
 
 
 class BadRequest(Exception):
@@ -138,7 +138,7 @@ def parse_table_records(data, who, periods, orders=()):
         raise BadRequest(CODE.sub("", str(fault))) from None
     records, others = [], []
     for _, command in placed:
-        records.append(journal.command_line(command))
+        records.append(journal.command_record(command))
         others += [] if command.who == who else [f"{command.name} of {command.who}"]
     if others:
         of_others = f"the table has {text.counted(len(others), 'command')} of other participants than {who}"

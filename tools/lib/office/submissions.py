@@ -3,7 +3,7 @@
 import asyncio
 import dataclasses
 
-from ..journal.journal import command_line
+from ..journal.journal import command_record
 from . import folder
 from .refusals import Refused, unread_tokens_refusal
 
@@ -104,7 +104,7 @@ def conflict_refusal(ledger, submission):
     who, first, count = submission.who, submission.first, ledger.count(submission.who)
     for number, command in enumerate(submission.commands[: max(0, count - first + 1)], first):
         entry, record, _ = ledger.entry(who, number)
-        if record != command_line(command):
+        if record != command_record(command):
             return Refused("NumberUsed", f"your command {number} is entry {entry}, and another command", number=number, next=count + 1)
     if first > count + 1:
         return Refused("NumberAhead", f"your next command has the number {count + 1}", next=count + 1)

@@ -26,7 +26,7 @@ class UnderHead:
         self.odd = [finding for finding in self.findings if finding.verdict == receipts.ENCODING]
         self.under = self.heads_of(findings)
         self.replies = [sealing.reply_of(reason) for reason in reasons]
-        self.records = [journal.command_line(command) for command in read.commands]
+        self.records = [journal.command_record(command) for command in read.commands]
         self.periods = read.periods
         self.tree = merkle.Tree(
             heads.leaf_of(number, record, reply, salts.salt(number, record, reply))
@@ -135,7 +135,7 @@ class UnderHead:
     def proof_words(self, command):
         """Whether a receipt proves that the operator had a command that the journal lacks, in words. The fault is the operator's only if
         it signed this very journal too: anyone can leave an entry out of a copy, and a later head may have more."""
-        receipt = self.lacked.get(journal.command_line(command))
+        receipt = self.lacked.get(journal.command_record(command))
         if receipt is None:
             return "; no receipt proves that the operator had it"
         words = f"; the operator signed it as entry {receipt.number} of {receipt.head}"
@@ -164,7 +164,7 @@ def list_receipt_files(folder):
     for path in paths:
         if path.suffix != ".jsonl":
             raise command.Stop(f"{command.shown(folder)} has {text.quoted(path.name)}, which isn't a file of receipts, NAME.jsonl")
-        if fault := file_io.unread_reason(path):
+        if fault := file_io.find_unread_reason(path):
             raise command.Stop(fault)
     if not paths:
         raise command.Stop(f"{command.shown(folder)} has no file of receipts, NAME.jsonl")

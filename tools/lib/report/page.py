@@ -18,7 +18,7 @@ from ..results import decisions, published, trades
 from ..sheets import tables
 from ..whatif import limits
 from . import style
-from ..journal.journal import command_line
+from ..journal.journal import command_record
 from ..base.progress import StepBar
 
 MARKS = {decisions.ACCEPTED: "accepted", decisions.REJECTED: "rejected", decisions.PARADOX: "paradox"}
@@ -203,7 +203,7 @@ def participants(day, found):
 
 def refusals(day):
     rows = [
-        [number, reason, book.REASONS[reason].words, command_line(command)]
+        [number, reason, book.REASONS[reason].words, command_record(command)]
         for number, (command, reason) in enumerate(zip(day.journal.commands, day.reasons), 1)
         if reason
     ]

@@ -153,7 +153,7 @@ class Awaited:
 @contextlib.contextmanager
 def connecting(address):
     """The executor of a cluster. After a failure it isn't waited for, so the process should end at once."""
-    modules.refuse_missing("distributed")
+    modules.exec_or_require_modules("distributed")
     cluster = Cluster(address)
     yield cluster
     with contextlib.suppress(Exception):

@@ -136,10 +136,10 @@ def line_of(value):
 def command_of(record):
     """The command of a record in its written form; None for any other text."""
     try:
-        read = journal.parse_journal(f"{journal.day_line(rules.GREATEST_PERIOD)}\n{record}".encode("ascii"))
+        read = journal.parse_journal(f"{journal.day_record(rules.GREATEST_PERIOD)}\n{record}".encode("ascii"))
     except (journal.Fault, UnicodeEncodeError):
         return None
-    if len(read.commands) != 1 or journal.command_line(read.commands[0]) != record:
+    if len(read.commands) != 1 or journal.command_record(read.commands[0]) != record:
         return None
     return read.commands[0]
 

@@ -71,5 +71,5 @@ def seal_of(read, reasons, day, salts, key):
     """A journal with its replies under a seal. Each reply is given by the book's reason for a refusal or None."""
     seal = Seal(day, read.periods, salts, key)
     for command, reason in zip(read.commands, reasons):
-        seal.append(Entry(journal.command_line(command), reply_of(reason), getattr(command, "who", None)))
+        seal.append(Entry(journal.command_record(command), reply_of(reason), getattr(command, "who", None)))
     return seal

@@ -138,7 +138,7 @@ def parse_times(cell, periods):
         if not found:
             raise BadOrders(f"{text.quoted(part)} should be two clock times, such as {an_hour_from(part)}")
         try:
-            numbers += clock.periods_between(periods, *(time.zfill(5) for time in found.groups()))
+            numbers += clock.parse_clock_span(periods, *(time.zfill(5) for time in found.groups()))
         except ValueError as fault:
             raise BadOrders(f"{text.quoted(part)}: {fault}") from None
     return numbers

@@ -25,7 +25,7 @@ def run(name, main):
     """Runs a tool's `main`, and ends with its status. A fault, Ctrl-C or another signal is one line on standard error."""
     open_closed_streams()
     children.heed_children()
-    ending.raise_signals()
+    ending.turn_signals_into_exceptions()
     try:
         sys.exit(main())
     except BrokenPipeError:

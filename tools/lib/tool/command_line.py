@@ -37,13 +37,13 @@ class Parser(argparse.ArgumentParser):
     """A tool's command line, with no shortened options. Its help is written as all output is."""
 
     def __init__(self, prog, description, epilog):
-        description = description or place.docstring(place.FOLDER / prog)
+        description = description or place.read_docstring(place.FOLDER / prog)
         form, prog = argparse.RawDescriptionHelpFormatter, place.command_name(prog)
         description, epilog = place.with_commands_of_here(description), place.with_commands_of_here(epilog)
         super().__init__(prog=prog, description=description, epilog=epilog, formatter_class=form, allow_abbrev=False)
         self.add_argument("--version", action="version", version=f"{prog} {VERSION}", help="print the version")
 
-    def add_day(self):
+    def add_day_arguments(self):
         """The files of a day."""
         self.add_argument("journal", metavar="JOURNAL", help="a journal, or the text of `dam day`; - for standard input")
         words = "the results of that journal; omit them for the output of `dam day`"

@@ -19,11 +19,11 @@ def read_day_texts(path, results_path):
     if texts is None and kinds.kind_of(data) in kinds.FILES:
         refuse_other_kind(path, data, kinds.JOURNAL)
     if texts is None:
-        raise command.Stop(no_results(path))
+        raise command.Stop(no_results_message(path))
     return texts
 
 
-def no_results(path):
+def no_results_message(path):
     """The message about a file that isn't the text of a day."""
     return f"{command.shown(path)} has no line 'results': give the results file after the journal"
 
@@ -53,7 +53,7 @@ class Day:
         read = require_journal(path, journal_data)
         if results_path is not None:
             refuse_other_kind(results_path, results_data, kinds.RESULTS)
-        self.read(read, results_data, path, results_path or path)
+        self.set_contents(read, results_data, path, results_path or path)
 
     def __repr__(self):
         blocks = len(self.problem.blocks)
@@ -63,13 +63,14 @@ class Day:
         return f"<Day: {self.problem.periods} periods, {hourly}, {text.counted(blocks, 'block')}, {welfare}{wrong}>"
 
     @classmethod
-    def of(cls, read, results_data):
+    def of_text(cls, read, results_data):
         """The same from a journal that was read, and from the bytes of its results."""
         day = cls.__new__(cls)
-        day.read(read, results_data, "the journal", "the text")
+        day.set_contents(read, results_data, "the journal", "the text")
         return day
 
-    def read(self, read, results_data, path, results_path):
+    def set_contents(self, read, results_data, path, results_path):
+        """Sets all that follows from a journal and the bytes of its results. Ends the tool if they have no results of this journal."""
         from ..results import check
 
         self.journal, self.text = read, results_data
@@ -83,7 +84,7 @@ class Day:
             raise command.Stop(f"{command.shown(results_path)} has no results of this journal: {self.wrong[0]}")
         self.outcome = selection.outcome(self.problem, self.said.accepted)
 
-    def report_status(self, tool, quiet=False):
+    def note_faults_and_return_status(self, tool, quiet=False):
         """Returns the status of a tool that has shown the results. If they break the rules, or else if their encoding differs, it says so on
         standard error."""
         if self.wrong and not quiet:

@@ -56,7 +56,7 @@ def open_without_waiting(path, flags):
     return os.open(path, flags | (os.O_NONBLOCK if stat.S_ISREG(os.stat(path).st_mode) else 0))
 
 
-def unread_reason(path):
+def find_unread_reason(path):
     """Why a path has no file that can be read, if it has none. A device or a pipe may have no end."""
     try:
         mode = os.stat(path).st_mode
@@ -111,14 +111,14 @@ def write_files(tool, files, advice=None):
     the tool ends as by `refuse_to_replace`."""
     prepare = replacing.prepare_new if advice else replacing.prepare_write
     with contextlib.ExitStack() as cleanups:
-        puts = {path: write_or_stop(path, prepare, path, data, cleanups) for path, data in files.items()}
+        puts = {path: call_or_stop(path, prepare, path, data, cleanups) for path, data in files.items()}
         for path, put in puts.items():
-            write_or_stop(path, put, advice=advice)
+            call_or_stop(path, put, advice=advice)
             if sys.stderr.isatty():
                 command.print_note(tool, f"{command.shown(path)} was written")
 
 
-def write_or_stop(path, call, *words, advice=None):
+def call_or_stop(path, call, *words, advice=None):
     """The result of a call for a file that is written."""
     try:
         return call(*words)
@@ -128,7 +128,7 @@ def write_or_stop(path, call, *words, advice=None):
         raise command.Stop(f"{command.shown(path)} can't be written: {fault.strerror}") from None
 
 
-def is_same(path, other):
+def is_same_file(path, other):
     """Whether a file that a tool is to write is one that it reads; `-` is standard input."""
     try:
         return os.path.isfile(path) and os.path.samestat(os.stat(path), os.fstat(0) if other == "-" else os.stat(other))
@@ -147,7 +147,7 @@ def taken_error(path, advice):
     return command.Stop(f"{command.shown(path)} is there already{advice}", command.COMMAND_LINE)
 
 
-def refuse_inputs(path, *inputs):
+def refuse_input_as_output(path, *inputs):
     """Ends the tool if it is to write over a file that it reads; the inputs that aren't given are None."""
-    if any(other is not None and is_same(path, other) for other in inputs):
+    if any(other is not None and is_same_file(path, other) for other in inputs):
         raise command.Stop(f"{command.shown(path)} is one of the inputs, and would be lost: write to another file", command.COMMAND_LINE)

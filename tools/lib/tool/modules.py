@@ -84,7 +84,7 @@ def missing_message(*modules):
     return f"it needs {' and '.join(modules)}, {which}: apt-get install {' '.join(packages)}"
 
 
-def refuse_missing(*modules):
+def exec_or_require_modules(*modules):
     """Ends the tool if a module is missing."""
     exec_with_modules(*modules)
     if lacking := [module for module in modules if not has_module(module)]:

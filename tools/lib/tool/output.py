@@ -16,22 +16,22 @@ def add_options(parser):
 
 def refuse_wrong_options(args, *inputs):
     """Ends the tool if the options can't be used together, or would write over an input, or a package is missing."""
-    file_io.refuse_inputs(args.out, *inputs)
+    file_io.refuse_input_as_output(args.out, *inputs)
     if args.json and args.decimal_comma:
         raise command.Stop("--decimal-comma can't be used with --json", command.COMMAND_LINE)
-    if is_workbook(args.out):
+    if is_workbook_name(args.out):
         if args.json or args.decimal_comma:
             raise command.Stop("--json and --decimal-comma can't be used with an Excel workbook", command.COMMAND_LINE)
-        modules.refuse_missing("openpyxl")
+        modules.exec_or_require_modules("openpyxl")
 
 
-def is_workbook(path):
+def is_workbook_name(path):
     return path is not None and path.lower().endswith(WORKBOOK)
 
 
-def is_table(path):
+def is_table_name(path):
     """Whether the name of a file is one of a table."""
-    return is_workbook(path) or path.lower().endswith(CSV)
+    return is_workbook_name(path) or path.lower().endswith(CSV)
 
 
 def workbook_bytes(tables):
@@ -45,7 +45,7 @@ def workbook_bytes(tables):
 def write_table(tool, args, name, rows, periods):
     """Writes a table, which is whole before the first byte is written."""
     rows = list(rows)
-    if is_workbook(args.out):
+    if is_workbook_name(args.out):
         data = workbook_bytes({name: rows})
     elif args.json:
         data = shapes.as_json(name, rows, shapes.day_of_periods(periods)).encode()

@@ -117,4 +117,4 @@ def enter_or_raise(held, place, command):
     """Enters a command that stands at a place. If the book refuses it, that is a fault."""
     if reason := held.apply(command):
         remedy = "; amend it, or use another name" if reason == "NameTaken" else ""
-        raise Fault(f"{place}: the book refuses {journal.command_line(command)}: {book.REASONS[reason].words} ({reason}){remedy}")
+        raise Fault(f"{place}: the book refuses {journal.command_record(command)}: {book.REASONS[reason].words} ({reason}){remedy}")

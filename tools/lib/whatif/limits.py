@@ -115,7 +115,7 @@ class LimitSearch:
 def why_never(search, found):
     """Why a block is rejected with the best limit of the range."""
     read = journal.parse_journal(search.text(found.past_limit))
-    day = day_files.Day.of(read, search.printed[found.past_limit])
+    day = day_files.Day.of_text(read, search.printed[found.past_limit])
     place = day.problem.place(*search.key)
     why = decisions.decisions(day.problem, day.said.accepted, day.outcome)[place].why
     return why if why.startswith("with ") else f"it {why}"  # 'with' its family, 'it' would gain

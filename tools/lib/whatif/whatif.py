@@ -31,7 +31,7 @@ def parse_price(word):
 
 def parse_order_name(word):
     """An order's name on the command line."""
-    if text.name(word.encode(errors="surrogateescape")) is None:
+    if text.parse_name(word.encode(errors="surrogateescape")) is None:
         raise argparse.ArgumentTypeError(f"{text.quoted(word)} should be {text.A_NAME}")
     return word
 
@@ -44,7 +44,7 @@ def parse_jobs(word):
 
 def add_command(commands, call, name, epilog, words):
     """The parser of a command, with what all commands read."""
-    words_of_call = call.__doc__ or place.docstring(__file__, call.__name__)
+    words_of_call = call.__doc__ or place.read_docstring(__file__, call.__name__)
     parser = commands.add_parser(name, description=inspect.cleandoc(words_of_call), epilog=epilog, help=words)
     parser.add_argument("journal", metavar="JOURNAL", help="a closed journal; - for standard input")
     parser.add_argument("--program", metavar="PATH", help="the program `dam` to run (default: the library, or the built program)")
@@ -147,7 +147,7 @@ def limit(args):
     found = search.run_for_worst()
     if args.json:
         data = json.dumps(limits.record(search, found), indent=1) + "\n"
-    elif output.is_table(args.out) or args.decimal_comma:
+    elif output.is_table_name(args.out) or args.decimal_comma:
         output.write_table("whatif", args, "limits", [limits.HEADS, limits.row(search, found)], held.periods)
         return command.DONE
     else:
@@ -355,9 +355,9 @@ def run_scenarios(args):
     output.refuse_wrong_options(args, args.journal, args.scenarios)
     refuse_wrong_options(args)
     if is_picture(args.out):
-        modules.refuse_missing("matplotlib")
+        modules.exec_or_require_modules("matplotlib")
     if args.sample:
-        modules.refuse_missing("numpy")
+        modules.exec_or_require_modules("numpy")
     held = read_closed_book(args)
     if args.sample is None:
         data = file_io.read_bytes(args.scenarios)
