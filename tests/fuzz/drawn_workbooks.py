@@ -13,8 +13,9 @@ MAIN = "http://schemas.openxmlformats.org/spreadsheetml/2006/main", "http://purl
 OFFICE = "http://schemas.openxmlformats.org/officeDocument/2006/relationships", "http://purl.oclc.org/ooxml/officeDocument/relationships"
 STYLE_SHEET = (
     '<styleSheet xmlns="{}"><numFmts count="2"><numFmt numFmtId="164" formatCode="[$-407]d\\.\\ mmm&quot;h&quot;"/>'
-    '<numFmt numFmtId="165" formatCode="&quot;days&quot; 0.0\\h;[Red]-0"/></numFmts><cellStyleXfs><xf numFmtId="14"/></cellStyleXfs>'
-    '<cellXfs><xf/><xf numFmtId="164"/><xf numFmtId="20"/><xf numFmtId="165"/></cellXfs></styleSheet>'
+    '<numFmt numFmtId="165" formatCode="&quot;days&quot; 0.0\\h;[Red]-0"/></numFmts>'
+    '<fonts><font/><font><strike val="0"/><vertAlign val="superscript"/><sz val="8"/></font></fonts>'
+    '<cellStyleXfs><xf numFmtId="14"/></cellStyleXfs><cellXfs><xf/><xf numFmtId="164"/><xf numFmtId="20"/><xf numFmtId="165" fontId="1"/></cellXfs></styleSheet>'
 )
 WORDS = ["A", "H1", "hour", "Straße", "\U0001f600", "a  b", "1", "1;2,5", "&lt;v>5&lt;/v>", "&#65;B", "<![CDATA[<row>]]>"]
 READ = {"&lt;v>5&lt;/v>": "<v>5</v>", "&#65;B": "AB", "<![CDATA[<row>]]>": "<row>"}
@@ -85,7 +86,8 @@ class RandomWorkbook:
         if kind == 3:
             return Cell('t="inlineStr"', f"<is><t>{words}</t></is>", text)
         if kind == 4:
-            rich = f"<is><r><rPr><b/></rPr><t>{words}</t></r><r><t xml:space='preserve'> b_x0041_</t></r><rPh><t>no</t></rPh></is>"
+            first = f"<r><rPr><b/><strike val='false'/></rPr><t>{words}</t></r>"
+            rich = f"<is>{first}<r><t xml:space='preserve'> b_x0041_</t></r><rPh><t>no</t></rPh></is>"
             return Cell('t="inlineStr"', rich, f"{text} bA")
         self.strings.append(f"<si><t>{words}</t></si>" if kind < 7 else f"<si><r><t>{words}</t></r><r><t>_x005F_x</t></r></si>")
         return Cell('t="s"', f"<v>{len(self.strings) - 1}</v>", text if kind < 7 else f"{text}_x")
