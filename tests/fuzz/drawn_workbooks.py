@@ -15,7 +15,8 @@ STYLE_SHEET = (
     '<styleSheet xmlns="{}"><numFmts count="2"><numFmt numFmtId="164" formatCode="[$-407]d\\.\\ mmm&quot;h&quot;"/>'
     '<numFmt numFmtId="165" formatCode="&quot;days&quot; 0.0\\h;[Red]-0"/></numFmts>'
     '<fonts><font/><font><strike val="0"/><vertAlign val="superscript"/><sz val="8"/></font></fonts>'
-    '<cellStyleXfs><xf numFmtId="14"/></cellStyleXfs><cellXfs><xf/><xf numFmtId="164"/><xf numFmtId="20"/><xf numFmtId="165" fontId="1"/></cellXfs></styleSheet>'
+    '<cellStyleXfs><xf numFmtId="14"/></cellStyleXfs><cellXfs><xf/><xf numFmtId="164"/><xf numFmtId="20"/>'
+    '<xf numFmtId="165" fontId="1"/></cellXfs></styleSheet>'
 )
 WORDS = ["A", "H1", "hour", "Straße", "\U0001f600", "a  b", "1", "1;2,5", "&lt;v>5&lt;/v>", "&#65;B", "<![CDATA[<row>]]>"]
 READ = {"&lt;v>5&lt;/v>": "<v>5</v>", "&#65;B": "AB", "<![CDATA[<row>]]>": "<row>"}
