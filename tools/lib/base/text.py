@@ -118,7 +118,7 @@ def parse_participant(text):
     return text.decode() if PARTICIPANT.fullmatch(text) else None
 
 
-def name(text):
+def parse_name(text):
     return text.decode() if NAME.fullmatch(text) else None
 
 
