@@ -132,7 +132,7 @@ def check_routes(office, counts, periods):
         body = json.dumps(commands if len(commands) > 1 or rng.random() < 0.5 else commands[0]).encode()
         status, data = send_and_check(office, counts, "PUT", template, {**values, "number": number}, typed, body)
         if status == 200:
-            found = [heads.parse(line, heads.parse_receipt) for line in data.splitlines(keepends=True)]
+            found = [heads.parse_line(line, heads.parse_receipt) for line in data.splitlines(keepends=True)]
             counts.check("receipts are in their written form", all(is_written for _, is_written in found) and len(found) == len(commands))
             again = send_and_check(office, counts, "PUT", template, {**values, "number": number}, typed, body)
             counts.check("the same request again gets the same receipts", again == (200, data))

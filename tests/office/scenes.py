@@ -349,7 +349,7 @@ def check_week(args, counts):
         counts.check("an office ends at Ctrl-C", office.process.wait(SECONDS) == 0)
         office.start()
         receipts = office.client_of(who).receipts(first)
-        counts.check("a closed day is served after a start", heads.parse(receipts, heads.parse_receipt)[0].head.size == 2)
+        counts.check("a closed day is served after a start", heads.parse_line(receipts, heads.parse_receipt)[0].head.size == 2)
         counts.check("and the other day is still open", office.client_of("NEW").enter(later, "cancel,NEW,A,,,,,,")[0]["number"] == 2)
 
 

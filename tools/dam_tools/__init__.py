@@ -134,7 +134,7 @@ def clear(
     is called if there is one; otherwise the program is run: `where` says which. Both give the same answer, the library on one thread. The
     options are those of `dam clear`; none but a limit on nodes changes the answer. The environment variable DAM names the program to run,
     and DAM_LIBRARY the library, which comes first."""
-    by_program.require_timeout(timeout)
+    by_program.refuse_wrong_timeout(timeout)
     read = as_journal(source)
     path = which.find_library() if (program, workers, cut, nodes, timeout) == (None,) * 5 else None
     if path:
@@ -192,7 +192,7 @@ def clear_many(
         raise TypeError("journals should be several, such as a list of files: clear takes one")
     if nodes is not None and not 1 <= nodes <= by_library.MOST_NODES:
         raise ValueError(f"nodes should be from 1 to {by_library.MOST_NODES}")
-    by_program.require_timeout(timeout)
+    by_program.refuse_wrong_timeout(timeout)
     if executor is None and (timeout is not None or where() is None):
         program = by_program.require_program(program)
     call = functools.partial(engine.run_clear, nodes=nodes or by_library.MOST_NODES, timeout=timeout)
@@ -232,7 +232,7 @@ class Reply(NamedTuple):
 
 def replay(source: JournalSource, program: Program | None = None, timeout: float | None = None) -> list[Reply]:
     """The book's reply to each command of a journal, by a run of the program. Other replies than the rules give are a fault."""
-    by_program.require_timeout(timeout)
+    by_program.refuse_wrong_timeout(timeout)
     read = as_journal(source)
     found = printed(read, [by_program.require_program(program), "replay"], timeout)
     reasons = book.run_commands(read)[1]

@@ -116,7 +116,7 @@ class Contradictions(InFolder):
 
     def test_two_signatures_of_one_head(self):
         """Anyone with the key can make them. They are of one tree."""
-        head, _ = heads.parse(Path("A.head").read_bytes(), heads.parse_head)
+        head, _ = heads.parse_line(Path("A.head").read_bytes(), heads.parse_head)
         with mock.patch.object(signing, "is_signed", return_value=True):
             links = receipts.Links([], self.key.public_key(), [])
             for signature in (head.signature, bytes(64)):
@@ -212,7 +212,7 @@ class Contradictions(InFolder):
 
     def test_an_extension_that_connects_nothing(self):
         """Anyone can make one of two right heads: the operator isn't at fault, and the rest is as it is without it."""
-        extension, _ = heads.parse(Path("C.extension").read_bytes(), heads.parse_extension)
+        extension, _ = heads.parse_line(Path("C.extension").read_bytes(), heads.parse_extension)
         Path("no.extension").write_bytes(heads.line_of(extension._replace(path=extension.path[::-1])))
         said = "no.extension: it doesn't connect its heads: its path doesn't lead from the earlier one to the later one"
         lines, last = self.run_for_lines(4, "verify", "A.receipts", "--head", "C.head", "--extension", "no.extension", *KEYS)
@@ -252,7 +252,7 @@ class Contradictions(InFolder):
         """The heads are of one journal, and may be the same. An extension between two keys is refused; anyone can make one of two days."""
         self.run_tool(0, "keys", "new.pem")
         new, keys = signing.parse_private(Path("new.pem").read_bytes()), [*KEYS, "--key", "new.pem.pub"]
-        extension, _ = heads.parse(Path("B.extension").read_bytes(), heads.parse_extension)
+        extension, _ = heads.parse_line(Path("B.extension").read_bytes(), heads.parse_extension)
         mixed = extension._replace(new=signing.sign(new, extension.new))
         Path("again.head").write_bytes(heads.line_of(mixed.new))
         Path("mixed.extension").write_bytes(heads.line_of(mixed))
@@ -330,7 +330,7 @@ class Contradictions(InFolder):
     def test_an_extension_from_the_entries_of_another_head(self):
         """Its path leads to the later head alone. No one can make such a path to heads of one journal, so it proves the fork."""
         self.write_forked()
-        left, right = (heads.parse(Path(f"{name}7-18.extension").read_bytes(), heads.parse_extension)[0] for name in ("left", "right"))
+        left, right = (heads.parse_line(Path(f"{name}7-18.extension").read_bytes(), heads.parse_extension)[0] for name in ("left", "right"))
         Path("mixed.extension").write_bytes(heads.line_of(right._replace(old=left.old)))
         lines, _ = self.run_for_lines(1, "heads", "left7.head", "--extension", "mixed.extension", *KEYS)
         said = f"mixed.extension: {HASHES} entries 1 to 7 of 2026-11-28: {TWICE}; the other one is in mixed.extension"
@@ -392,7 +392,7 @@ class Contradictions(InFolder):
             self.assertIn("1 file unread", last)
 
     def test_why_an_extension_connects_nothing(self):
-        extension, _ = heads.parse(Path("C.extension").read_bytes(), heads.parse_extension)
+        extension, _ = heads.parse_line(Path("C.extension").read_bytes(), heads.parse_extension)
         other, periods = (signing.sign(self.key, extension.new._replace(**more)) for more in ({"day": "2026-11-29"}, {"periods": 25}))
         for changed, status, said in (
             (extension._replace(old=extension.new, new=extension.old), 4, "the first one has 18 entries, and the second one 6"),

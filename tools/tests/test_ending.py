@@ -358,7 +358,7 @@ class Interrupted(unittest.TestCase):
         found = []
 
         def run():
-            with running.start(["/bin/sleep", "600"]) as process:
+            with running.running_process(["/bin/sleep", "600"]) as process:
                 found.append(process)
                 process.wait()
 
@@ -366,10 +366,10 @@ class Interrupted(unittest.TestCase):
             thread = threading.Thread(target=run, daemon=True)
             thread.start()
             begun.wait()
-            running.end()
+            running.kill_all()
         thread.join(SECONDS)
         self.assertEqual([process.returncode for process in found], [-signal.SIGKILL])
-        with self.assertRaisesRegex(errors.Fault, "^/bin/sleep isn't run any more$"), running.start(["/bin/sleep", "600"]):
+        with self.assertRaisesRegex(errors.Fault, "^/bin/sleep isn't run any more$"), running.running_process(["/bin/sleep", "600"]):
             pass
 
     def test_copies_of_a_tool_end_without_a_word(self):

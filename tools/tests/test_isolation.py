@@ -52,7 +52,7 @@ ending.guard_tool("program")
 from lib.runs import cluster
 
 cluster.import_dask()
-cluster.set_certificates({address!r})
+cluster.load_tls_settings({address!r})
 import dask.config
 
 print(dask.config.get("distributed.client.preload"), dask.config.get("distributed.comm.tls.client"))

@@ -51,7 +51,7 @@ class SignedHeads(Office):
         disk = Disk()
         path = await self.entered(disk)
         kept, before = path.read_bytes(), list(disk.records)
-        self.assertEqual(heads.parse(kept, heads.parse_head)[0].size, 3)
+        self.assertEqual(heads.parse_line(kept, heads.parse_head)[0].size, 3)
         other = [*before[:1], "cancel,GAS,OTHER,,,,,,", *before[2:]]
         for records, fault in (([], "LostEntries"), (before[:2], "LostEntries"), (other, "OtherEntries"), (before, None)):
             disk.records[:] = records

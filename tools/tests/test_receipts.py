@@ -72,7 +72,7 @@ class Receipts(unittest.TestCase):
             self.assertEqual(verdict_of(heads.line_of(seal.receipt(number, head)), head, self.public), receipts.RIGHT)
         self.assertEqual(len(seal.receipt(1, head).path), heads.LONGEST_PATH)
         old = max(range(1, head.size), key=lambda size: len(seal.tree.consistency_proof(size)))
-        found, _ = heads.parse(heads.line_of(seal.extension(seal.head(old), head)), heads.parse_extension)
+        found, _ = heads.parse_line(heads.line_of(seal.extension(seal.head(old), head)), heads.parse_extension)
         self.assertEqual((len(found.path), found.is_valid()), (heads.LONGEST_PROOF, True))
 
     def test_every_change_of_a_byte_is_found(self):
@@ -93,7 +93,7 @@ class Receipts(unittest.TestCase):
                     self.assertNotEqual(verdict_of(changed, head, self.public), receipts.RIGHT)
                 elif which == "head":
                     with contextlib.suppress(heads.BadRecord):
-                        other, is_written = heads.parse(changed, heads.parse_head)
+                        other, is_written = heads.parse_line(changed, heads.parse_head)
                         self.assertFalse(is_written and signing.is_signed(self.public, other))
                 else:
                     with contextlib.suppress(signing.BadKey):
@@ -160,23 +160,23 @@ class Receipts(unittest.TestCase):
         for made in changed:
             with self.subTest(made):
                 with self.assertRaises(heads.BadRecord) as caught:
-                    heads.parse(json.dumps(made).encode(), heads.parse_receipt)
+                    heads.parse_line(json.dumps(made).encode(), heads.parse_receipt)
                 self.assertNotIn(said[:21], str(caught.exception))
                 self.assertLess(len(str(caught.exception)), 150)
         with self.assertRaisesRegex(heads.BadRecord, "^a dam-receipt-1 has no member 'the published head c..' \\(107 characters\\)$"):
-            heads.parse(json.dumps(with_member).encode(), heads.parse_receipt)
+            heads.parse_line(json.dumps(with_member).encode(), heads.parse_receipt)
         with self.assertRaisesRegex(heads.BadRecord, "^it lacks the member salt$"):
-            heads.parse(json.dumps({**without, said: 1}).encode(), heads.parse_receipt)
+            heads.parse_line(json.dumps({**without, said: 1}).encode(), heads.parse_receipt)
 
     def test_a_record_stands_in_its_written_form(self):
         """Another writing of the same command would be another entry with the same meaning."""
         value = json.loads(lines_of(sealed_of(AUCTION.read_bytes(), key=self.key))[0])
         record = value["record"]
-        self.assertEqual(heads.parse(json.dumps(value).encode(), heads.parse_receipt)[0].record, record)
+        self.assertEqual(heads.parse_line(json.dumps(value).encode(), heads.parse_receipt)[0].record, record)
         quoted = '"submit"' + record.removeprefix("submit")
         for other in (quoted, f"{record}\n", f"{record}\r", f"\n{record}", f"{record}\n{record}", f"{record} ", ""):
             with self.subTest(other), self.assertRaisesRegex(heads.BadRecord, "isn't a record of a written journal$"):
-                heads.parse(json.dumps({**value, "record": other}).encode(), heads.parse_receipt)
+                heads.parse_line(json.dumps({**value, "record": other}).encode(), heads.parse_receipt)
 
     def test_each_base64(self):
         """With exactly its padding, on each Python: bits that say nothing are another writing of the same bytes."""
@@ -320,7 +320,7 @@ class Receipts(unittest.TestCase):
         page = (TOP / "docs" / "FORMATS.md").read_text()
         line = re.search(r"```json\n(\{\"format\":\"dam-receipt-1.*?)```", page, re.DOTALL)[1].replace("\n", "").encode() + b"\n"
         key = signing.parse_public(re.search(r"-----BEGIN PUBLIC KEY-----.*?-----END PUBLIC KEY-----\n", page, re.DOTALL)[0].encode())
-        receipt, is_written = heads.parse(line, heads.parse_receipt)
+        receipt, is_written = heads.parse_line(line, heads.parse_receipt)
         self.assertTrue(is_written)
         self.assertEqual(verdict_of(line, receipt.head, key), receipts.RIGHT)
         salts = heads.Salts(DAY, bytes(range(32, 64)))
@@ -452,9 +452,9 @@ class Receipts(unittest.TestCase):
 
     def test_the_head_of_no_entry(self):
         head = sealing.Seal(DAY, 24, sealing.new_salts(DAY), self.key).head()
-        self.assertEqual(heads.parse(heads.line_of(head), heads.parse_head)[0], head)
+        self.assertEqual(heads.parse_line(heads.line_of(head), heads.parse_head)[0], head)
         with self.assertRaises(heads.BadRecord):
-            heads.parse(heads.line_of(head._replace(root=merkle.leaf_hash(b""))), heads.parse_head)
+            heads.parse_line(heads.line_of(head._replace(root=merkle.leaf_hash(b""))), heads.parse_head)
 
     def test_extensions_that_connect_nothing(self):
         """One with another path, of other heads, or between two days or lengths of a day: anyone can make one of right heads, so it isn't a

@@ -486,7 +486,7 @@ class Hanging(unittest.TestCase):
         for clock in (110, 114):
             with self.assertRaisesRegex(errors.Lost, "^the worker tcp://a:1 of the cluster C doesn't answer any more$"):
                 self.look(made, clock, {"tcp://a:1": 1, "tcp://b:2": clock})
-        made.watch_workers()
+        made.restart_watch()
         self.assertEqual(self.look(made, 115, {"tcp://a:1": 1, "tcp://b:2": 115}), 2)
         self.assertEqual(self.look(made, 120, {"tcp://a:1": 2, "tcp://b:2": 120}), 2)
         self.assertEqual(self.look(made, 129, {"tcp://a:1": 3, "tcp://b:2": 129}), 2)
@@ -505,7 +505,7 @@ class Hanging(unittest.TestCase):
         for answer in (None, [], {}, {"workers": None}, {"workers": [1]}, {"workers": {"a": None}}, {"workers": {"a": {"status": "running"}}}):
             made.client.sync.return_value = answer
             with self.assertRaisesRegex(errors.Lost, "^the cluster C doesn't answer any more$"):
-                made.count_workers()
+                made.count_workers_or_raise()
 
     def test_no_worker(self):
         made = self.cluster()
@@ -520,7 +520,7 @@ class Hanging(unittest.TestCase):
         made = cluster.Cluster.__new__(cluster.Cluster)
         made.name, made.reports, made.client = "the cluster C", {}, unittest.mock.Mock()
         with unittest.mock.patch.object(cluster.time, "monotonic", return_value=100.0):
-            made.watch_workers()
+            made.restart_watch()
         return made
 
     def look(self, made, now, seen):
@@ -528,7 +528,7 @@ class Hanging(unittest.TestCase):
         workers = {address: {"last_seen": when, "status": "running"} for address, when in seen.items()}
         made.client.sync.return_value = {"workers": workers}
         with unittest.mock.patch.object(cluster.time, "monotonic", return_value=now):
-            return made.count_workers()
+            return made.count_workers_or_raise()
 
 
 if __name__ == "__main__":

@@ -204,7 +204,7 @@ class Audit(Audited):
         self.audit(3, "day.csv", "--receipts", "sealed/receipts")
         Path("sealed/receipts/A.jsonl").unlink()
         Path("sealed/receipts/A.jsonl").write_bytes(b"x\n" * heads.MOST_ENTRIES)
-        with mock.patch.object(heads, "parse", wraps=heads.parse) as parsed, self.assertRaisesRegex(command.Stop, r"A\.jsonl line 1: "):
+        with mock.patch.object(heads, "parse_line", wraps=heads.parse_line) as parsed, self.assertRaisesRegex(command.Stop, r"A\.jsonl line 1: "):
             under_head.read_findings_of_folder("sealed/receipts", receipts.read_key("key.pem.pub"))
         self.assertEqual(parsed.call_count, 1)
 
@@ -223,8 +223,8 @@ class Audit(Audited):
         """A journal that is longer than its head's, or of another length of a day; earlier heads of another key and another day."""
         key = signing.parse_private(Path("key.pem").read_bytes())
         self.seal()
-        head, _ = heads.parse(Path("sealed/head.json").read_bytes(), heads.parse_head)
-        salts, _ = heads.parse(Path("sealed/salts.json").read_bytes(), heads.parse_salts)
+        head, _ = heads.parse_line(Path("sealed/head.json").read_bytes(), heads.parse_head)
+        salts, _ = heads.parse_line(Path("sealed/salts.json").read_bytes(), heads.parse_salts)
         seal = sealed_of(AUCTION.read_bytes(), key=key, salts=salts)
         shorter = signing.sign(key, head._replace(size=head.size - 1, root=seal.tree.root(head.size - 1)))
         for other, said in (

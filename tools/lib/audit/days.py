@@ -255,7 +255,7 @@ def run_process(pair, options, running, seconds):
     this number of seconds it is ended."""
     files = [file_name(path) for path in (pair.journal, pair.results) if path is not None]
     words = [*modules.this_python(), os.fspath(TOOL), "--json", *options, "--", *files]
-    with running.start(words, stdin=subprocess.DEVNULL, stdout=subprocess.PIPE, stderr=subprocess.PIPE) as process, process:
+    with running.running_process(words, stdin=subprocess.DEVNULL, stdout=subprocess.PIPE, stderr=subprocess.PIPE) as process, process:
         try:
             out, err = process.communicate(timeout=seconds)
         except BaseException:
@@ -328,7 +328,7 @@ class Audits:
         """No day is begun any more, and those that run end."""
         with self.lock:
             self.places = iter(())
-        self.running.end()
+        self.running.kill_all()
 
 
 def run_audits(pairs, options, jobs, bar, seconds=MORE_SECONDS, is_json=False):

@@ -137,7 +137,7 @@ class Audit:
 
     def check_replies(self, periods, reasons, published):
         self.checked.append("replies")
-        data, odd = results.plain_text(published)
+        data, odd = results.plain_text_and_faults(published)
         self.odd += odd
         wrong = reply_faults(periods, reasons, data)
         self.wrong += wrong
@@ -147,7 +147,7 @@ class Audit:
 
     def check_results(self, closed, reasons, published):
         self.checked.append("results")
-        data, odd = results.plain_text(published)
+        data, odd = results.plain_text_and_faults(published)
         self.odd += odd
         if not closed.closed:
             self.wrong.append(Fault("no command closes the book, so it has no results", "journal"))

@@ -27,7 +27,7 @@ def with_commands_of_here(words):
     return with_installed_commands(words) if IS_INSTALLED else words
 
 
-def docstring(path, function=None):
+def read_docstring(path, function=None):
     """The docstring of a script, or of a function in it, also if Python has left it out (python3 -OO)."""
     import ast
 

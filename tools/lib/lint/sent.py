@@ -151,7 +151,7 @@ def compare_sent(own, published, closed, who, look, proof_words=no_proof_words):
         wrong = min(wrong, at_the_end, key=len)
     count = f"{text.counted(len(commands), 'command')} of {who}"
     line = f"as sent: {count}, each once, in their order, and no others{refused_words(reasons)}{others}"
-    return wrong, [line, *replies(commands, published)]
+    return wrong, [line, *reply_lines(commands, published)]
 
 
 def refused_words(reasons):
@@ -221,7 +221,7 @@ def record_before(one, found):
     return found[before - 1][1] if before else 0
 
 
-def replies(sent, published):
+def reply_lines(sent, published):
     """The reply to each command, if all are published as they were sent."""
     for one, other in zip(sent, published):
         shown = journal.command_record(one.command)

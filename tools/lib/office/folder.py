@@ -206,7 +206,7 @@ class DayFolder:
 
     def read_salts(self):
         with stopping_if_damaged(self.path_of(SALTS), "the salts of a day"):
-            return heads.parse(self.read_file(SALTS), heads.parse_salts)[0]
+            return heads.parse_line(self.read_file(SALTS), heads.parse_salts)[0]
 
 
 class Folder:

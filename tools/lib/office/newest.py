@@ -16,7 +16,7 @@ def read_signed_head(path, key):
     """The head in a file. None without the file, or if it isn't whole: a crash may leave it so. Ends with a contradiction if it is whole,
     and this key hasn't signed it: the office would sign a day with two keys."""
     try:
-        head, _ = heads.parse(path.read_bytes(), heads.parse_head)
+        head, _ = heads.parse_line(path.read_bytes(), heads.parse_head)
     except (FileNotFoundError, heads.BadRecord):
         return None
     if not signing.is_signed(key.public_key(), head):

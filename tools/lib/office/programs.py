@@ -53,7 +53,7 @@ def require_dam(named=None, may_compile=False):
 def require_desk(named=None, may_compile=False):
     """The program dam-desk, found the same way."""
     here = DESK_BUILT if os.access(DESK_BUILT, os.X_OK) else None
-    path = named or os.environ.get("DAM_DESK") or which.packaged("bin", "dam-desk") or here or shutil.which("dam-desk")
+    path = named or os.environ.get("DAM_DESK") or which.find_packaged("bin", "dam-desk") or here or shutil.which("dam-desk")
     return require_runnable(path or (compile_unproved("dam_desk") if may_compile else None), "dam-desk", "--desk")
 
 

@@ -57,7 +57,7 @@ def read_value(path, read, name, odd):
 def parse_value(path, data, read, name, odd):
     """The same from the bytes of the file."""
     try:
-        value, is_written = heads.parse(data, read)
+        value, is_written = heads.parse_line(data, read)
     except heads.BadRecord as fault:
         raise command.Stop(f"{command.shown(path)} isn't {name}: {fault}") from None
     if not is_written:
@@ -172,13 +172,13 @@ class Links:
             if found in (RIGHT, UNDECIDED):
                 yield Finding(*self.signed.places[other], found, words, about=HEAD)
 
-    def days(self):
+    def day_lines(self):
         """A line for each day of the heads."""
         for day, own in groupby(self.signed.heads(), lambda head: head.day):
             *others, last = own
             yield f"{day}: {text.counted(len(others) + 1, 'head')}, the last with {text.counted(last.size, 'entry', 'entries')}"
 
-    def summary(self):
+    def summary_words(self):
         """How many heads there are, of how many days."""
         signed = self.signed.heads()
         return f"{text.counted(len(signed), 'head')} of {text.counted(len({head.day for head in signed}), 'day')}"
@@ -203,9 +203,9 @@ def size_key(head):
     return head.size, head.root
 
 
-def verdict_and_words(receipt, head, key, links, place=Place("the receipt")):
-    """The verdict on a receipt, compared with a head that was published if one is given, and the words for it. The links get what the
-    operator signed."""
+def judge_and_add_receipt(receipt, head, key, links, place=Place("the receipt")):
+    """The verdict on a receipt, compared with a head that was published if one is given, and the words for it. It adds to the links what
+    the operator signed."""
     entry, signer = f"entry {receipt.number} of {receipt.head}", signing.signer_name(key, receipt.head)
     if signer is None:
         return WRONG, f"its head {NOT_SIGNED}"
@@ -236,18 +236,18 @@ def impossible_reply_words(receipt):
     return None
 
 
-def read_findings(path, head, key, links, who=None):
-    """The findings on the receipts of a file, one in each line. A line that is none is named, and so is a file that can't be read. If a
+def read_and_judge_receipts(path, head, key, links, who=None):
+    """The findings on the receipts of a file, one in each line, which are added to the links. A line that is none is named, and so is a file that can't be read. If a
     participant is named, all are its own."""
     try:
         data = file_io.read_bytes(path)
     except command.Stop as fault:
         yield unread_finding(path, fault)
         return
-    yield from findings_on_bytes(path, data, head, key, links, who)
+    yield from judge_receipt_lines(path, data, head, key, links, who)
 
 
-def findings_on_bytes(path, data, head, key, links, who=None):
+def judge_receipt_lines(path, data, head, key, links, who=None):
     """The same from the bytes of the file."""
     try:
         lines = heads.require_lines(data)
@@ -258,11 +258,11 @@ def findings_on_bytes(path, data, head, key, links, who=None):
         yield Finding(path, None, UNREAD, EMPTY)
     for number, data in enumerate(lines, 1):
         try:
-            receipt, is_written = heads.parse(data, heads.parse_receipt)
+            receipt, is_written = heads.parse_line(data, heads.parse_receipt)
         except heads.BadRecord as fault:
             yield Finding(path, number, UNREAD, f"it isn't a receipt: {fault}", about=LINE)
             continue
-        found, words = verdict_and_words(receipt, head, key, links, Place(path, number))
+        found, words = judge_and_add_receipt(receipt, head, key, links, Place(path, number))
         if who is not None and receipt.who != who and STATUSES[found] != command.DIFFERS:
             found, words = UNREAD, f"it isn't a receipt of {who}: {words}"
         if found == RIGHT and not is_written:
@@ -294,7 +294,7 @@ def is_none_read(findings):
     return all(finding.receipt is None for finding in findings) and any(finding.words != EMPTY for finding in findings)
 
 
-def differences(path, commands, findings, who):
+def difference_findings(path, commands, findings, who):
     """The findings on the commands that a participant sent, compared with those of which there are receipts. Whether the published journal
     has these may be undecided. A receipt that contradicts the published head is of another journal, whose entries may have other numbers:
     of the comparisons with the ones, the others and both, the one with the fewest differences is meant."""
@@ -305,7 +305,7 @@ def differences(path, commands, findings, who):
     return [Finding(path, None, WRONG, str(fault)) for fault in found]
 
 
-def refusals(findings):
+def refusal_lines(findings):
     """The entries of right receipts that the book refused, each once, in words."""
     kept = [finding.receipt for finding in findings if finding.receipt and finding.verdict == RIGHT]
     every = {receipt.number: receipt for receipt in kept if receipt.reply != heads.DONE}
@@ -320,11 +320,11 @@ def counts_of(findings):
     return count, len(own) - len(set(own))
 
 
-def summary(findings, unlike, head, as_sent=None):
+def summary_line(findings, unlike, head, as_sent=None):
     """The last line about receipts, and about the differences from the commands that were sent; `as_sent` is their number, if there are
     none. These commands are as they were sent in the published journal only if the receipts are right. Several receipts of an entry count
     once."""
-    found, refused = verdict([*findings, *unlike]), len(refusals(findings))
+    found, refused = verdict([*findings, *unlike]), len(refusal_lines(findings))
     count, more = counts_of(findings)
     others = [f"{more} more of the same entries"] if more else []
     others += [f"{text.counted(len(unlike), 'difference')} from the commands that were sent"] if unlike else []

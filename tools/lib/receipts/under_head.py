@@ -176,7 +176,7 @@ def read_findings_of_folder(folder, key, read=file_io.read_bytes):
     receipts."""
     links, findings = receipts.Links([], key, []), []
     for path in list_receipt_files(folder):
-        for finding in receipts.findings_on_bytes(str(path), read(path), None, key, links):
+        for finding in receipts.judge_receipt_lines(str(path), read(path), None, key, links):
             if finding.verdict == receipts.UNREAD:
                 raise command.Stop(str(finding))
             findings.append(finding)

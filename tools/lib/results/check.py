@@ -8,7 +8,7 @@ from .faults import Fault, subject_fault
 MOST, MOST_WITH_A_FAULT = 1 / 2, 3 / 4
 
 
-def better_word(row, price):
+def limit_words(row, price):
     """How an hourly order's limit compares with the price."""
     if row.order.price == price:
         return "its limit is the price"
@@ -89,7 +89,7 @@ def hourly_faults(problem, said, follows):
         wanted = right[row.who, row.name]
         if wanted is not None and executed != wanted:
             price = follows.cleared[row.order.volumes[0][0]].price
-            gives = f"the rule gives {wanted} ({better_word(row, price)})"
+            gives = f"the rule gives {wanted} ({limit_words(row, price)})"
             yield subject_fault(said, "executed", f"hour {row}", f"hour {row}: {executed} is executed, and {gives}")
 
 

@@ -112,7 +112,7 @@ class Judge:
     def twin_why(self, place, family, twin):
         other, own = self.problem.blocks[twin], self.problem.blocks[place]
         name = other.name if other.who == own.who else str(other)
-        return f"{self.at_the_prices(place, family)}, but {name} offers the same and stands earlier in the book"
+        return f"{self.at_the_prices_words(place, family)}, but {name} offers the same and stands earlier in the book"
 
     def accepted_why(self, place):
         surplus, parent = self.surpluses[place], self.problem.parents[place]
@@ -149,18 +149,18 @@ class Judge:
         return Other(accepted, unbalanced, then.welfare, losers)
 
     def rejected_why(self, place, family, other):
-        why = self.at_the_prices(place, family)
+        why = self.at_the_prices_words(place, family)
         if family.rivals:
-            return f"{why}; {self.instead(place, family)} {self.consequence(place, other)}"
+            return f"{why}; {self.instead_words(place, family)} {self.consequence_words(place, other)}"
         if family.gains[place] < 0:
             parent = self.problem.parents[place]
             return why + (f"; its parent {self.name(parent)} is rejected" if parent in family.needed else "")
         count = len(family.members)
         word = {1: "it", 2: "both"}.get(count, f"all {count}")
         join = "; " if family.losers() else ", but " if family.gain() else ", and "
-        return f"{why}{join}if {word} were added and the other blocks stayed as they are, {self.consequence(place, other)}"
+        return f"{why}{join}if {word} were added and the other blocks stayed as they are, {self.consequence_words(place, other)}"
 
-    def at_the_prices(self, place, family):
+    def at_the_prices_words(self, place, family):
         """The gain or loss of a block at the prices, with its family."""
         own, helping = family.gains[place], family.members.intersection(self.problem.rescuers[place])
         if own < 0:
@@ -177,7 +177,7 @@ class Judge:
             why += f" {self.eur(-family.gains[losers[0]])} even with {'it' if below == {place} else self.names(below)}"
         return why
 
-    def instead(self, place, family):
+    def instead_words(self, place, family):
         """Which accepted blocks leave no room in the groups, and the blocks that would take their place."""
         own = self.problem.blocks[place].order.group
         groups = []
@@ -192,21 +192,21 @@ class Judge:
         besides = f" and that of {self.names(orphans)}, which can't be accepted without {them}," if orphans else ""
         return f"{listed(groups)} {are} accepted, and with {self.names(family.members)} in {their} place{besides}"
 
-    def consequence(self, place, other):
+    def consequence_words(self, place, other):
         """The welfare of another selection, and who would lose in it."""
         if other.unbalanced is not None:
-            return f"period {other.unbalanced} wouldn't balance: {self.unmatched(other)}"
-        worth = self.worth(other)
+            return f"period {other.unbalanced} wouldn't balance: {self.unmatched_words(other)}"
+        worth = self.worth_words(other)
         if other.losers:
             more = self.outcome.welfare is not None and other.welfare > self.outcome.welfare
-            return f"{self.losses(place, other)}, {'though' if more else 'and'} {worth}"
+            return f"{self.loss_words(place, other)}, {'though' if more else 'and'} {worth}"
         if other.welfare == self.outcome.welfare:
             flags = len(self.problem.blocks), other.welfare, other.accepted, other.welfare, self.accepted
             above = selection.ranks_above(*flags)
             return worth + (", and it ranks above" if above else ", and of equal selections the one with the earlier block is taken")
         return worth
 
-    def unmatched(self, other):
+    def unmatched_words(self, other):
         """The volume of the accepted blocks that the period's hourly orders of the other side can't match."""
         number, net = other.unbalanced, 0
         for place in other.accepted:
@@ -215,7 +215,7 @@ class Judge:
         volume = abs(net) - sum(quantity for one, _, quantity in self.problem.orders[number] if one == side)
         return f"{text.mw(volume)} MW would have no {word}"
 
-    def worth(self, other):
+    def worth_words(self, other):
         if self.outcome.welfare is None:
             return f"the welfare would be {self.eur(other.welfare)}"
         more = other.welfare - self.outcome.welfare
@@ -223,7 +223,7 @@ class Judge:
             return "the welfare would be the same"
         return f"the welfare would be {self.eur(abs(more))} {'greater' if more > 0 else 'less'}"
 
-    def losses(self, place, other):
+    def loss_words(self, place, other):
         """Who would lose in another selection, the block itself first."""
         words = []
         first = sorted(other.losers, key=lambda loser: (loser != place, loser))[:MOST_LOSERS]
@@ -243,7 +243,7 @@ def listed(words):
     return " and ".join([", ".join(words[:-1]), words[-1]] if len(words) > 1 else words)
 
 
-def hourly(day, row, executed):
+def hourly_code_and_words(day, row, executed):
     """The code and the words for the reason that decided an hourly order."""
     number = row.order.volumes[0][0]
     if not day.said.volumes[number - 1]:

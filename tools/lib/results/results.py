@@ -79,7 +79,7 @@ MARKS[b"\xfe\xff"] = MARKS[b"\xff\xfe"]
 UTF_32 = b"\xff\xfe\0\0"  # its mark begins as the mark of UTF-16
 
 
-def plain_text(data):
+def plain_text_and_faults(data):
     """The text as `dam` writes it, if other programs have changed only how it is encoded; and the changes."""
     odd = []
     for mark, (encoding, words) in MARKS.items():

@@ -37,8 +37,8 @@ def require_program(program=None):
     return os.fspath(named or found.path)
 
 
-def require_timeout(seconds):
-    """Refuses a timeout that is none, such as NaN, or too long to wait for."""
+def refuse_wrong_timeout(seconds):
+    """Raises ValueError for a timeout that is none, such as NaN, or too long to wait for."""
     if seconds is not None and not seconds <= MOST_SECONDS:
         raise ValueError(f"timeout should be a number of seconds, at most {MOST_SECONDS:,}")
 
@@ -49,7 +49,7 @@ def run_program(words, text, timeout=None, running=None):
         raise Unstarted(f"{words[0]} can't be run: this process ignores SIGCHLD, so it wouldn't see with which status a run ends")
     with contextlib.ExitStack() as ends:
         try:
-            process = ends.enter_context((running or Running()).start(words, **PIPES))
+            process = ends.enter_context((running or Running()).running_process(words, **PIPES))
         except OSError as fault:
             raise Unstarted(f"{words[0]} can't be run: {fault.strerror}") from None
         ends.enter_context(process)
@@ -62,7 +62,7 @@ def run_program(words, text, timeout=None, running=None):
             process.kill()
             raise
     if not process.returncode:
-        print_once(said)
+        relay_lines_once(said)
     return process.returncode, out, said
 
 
@@ -136,7 +136,7 @@ class LastOutput:
         return begin + self.kept
 
 
-def print_once(said):
+def relay_lines_once(said):
     """Passes on the lines of a run that succeeded, such as that it isn't proved; each once, and not too many."""
     for line in said.decode(errors="replace").splitlines():
         if line not in RELAYED and len(RELAYED) <= MOST_RELAYED and sys.stderr:
@@ -172,7 +172,7 @@ class Running:
         self.starting, self.changed = 0, threading.Condition()
 
     @contextlib.contextmanager
-    def start(self, words, **streams):
+    def running_process(self, words, **streams):
         """A process of these words. None is started any more once the threads are no longer wanted."""
         with self.changed:
             if self.is_over:
@@ -190,7 +190,7 @@ class Running:
         finally:
             self.processes.discard(process)
 
-    def end(self):
+    def kill_all(self):
         """Ends all programs, also those that threads are just starting."""
         with self.changed:
             self.is_over = True

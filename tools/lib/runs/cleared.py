@@ -36,7 +36,7 @@ class Cleared:
             raise Fault(NO_RESULTS) from None
         if welfare is None or len(prices) != periods or orders.keys() != rows.keys():
             raise Fault(NO_RESULTS)
-        refuse_wrong(Held(rows, periods), orders, printed, name)
+        refuse_wrong_results(Held(rows, periods), orders, printed, name)
         return cls(rows, periods, welfare, prices, volumes, orders)
 
     @classmethod
@@ -109,7 +109,7 @@ def parse_printed(printed):
     return welfare, prices, volumes, orders
 
 
-def refuse_wrong(held, orders, printed, name):
+def refuse_wrong_results(held, orders, printed, name):
     """A fault if results break the rules. They may be right, and another selection of blocks better: this isn't looked at."""
     problem = selection.Problem(held)
     accepted = {place for place, block in enumerate(problem.blocks) if orders[block.who, block.name]}

@@ -47,7 +47,7 @@ def import_dask():
     return distributed
 
 
-def set_certificates(address):
+def load_tls_settings(address):
     """Takes the settings of TLS, which are no code, if the address needs them."""
     if address.startswith("tls:"):
         import dask.config
@@ -62,8 +62,8 @@ class Cluster:
     def __init__(self, address):
         self.name, self.reports = f"the cluster {text.safe(address)}", {}
         self.client = self.connect(address)
-        self.watch_workers()
-        while not self.count_workers():
+        self.restart_watch()
+        while not self.count_workers_or_raise():
             time.sleep(PAUSE)
         self.executor = self.client.get_executor()
 
@@ -77,7 +77,7 @@ class Cluster:
         warnings.simplefilter("ignore")
         began = time.monotonic()
         try:
-            set_certificates(address)
+            load_tls_settings(address)
             socket.create_connection((found["host"].strip("[]"), int(found["port"])), SECONDS).close()
             return distributed.Client(address, timeout=SECONDS, set_as_default=False)
         except Exception as fault:
@@ -86,11 +86,11 @@ class Cluster:
             words = first_line(fault) if is_late else "it closed the connection"
             raise Fault(f"{self.name} can't be reached: {words}") from None
 
-    def watch_workers(self):
+    def restart_watch(self):
         """From now on each worker has to report in time, and there has to be one."""
         self.heard, self.had = {}, time.monotonic()
 
-    def count_workers(self):
+    def count_workers_or_raise(self):
         """How many workers the cluster has. A fault if it doesn't answer or has none, or if one of them hasn't reported for long: its
         scenarios would never come."""
         try:
@@ -135,7 +135,7 @@ class Awaited:
         self.cluster, self.future = cluster, future
 
     def result(self):
-        self.cluster.watch_workers()
+        self.cluster.restart_watch()
         while True:
             try:
                 return self.future.result(PAUSE)
@@ -144,7 +144,7 @@ class Awaited:
             except concurrent.futures.TimeoutError:
                 if self.future.done():
                     return self.future.result()
-                self.cluster.count_workers()
+                self.cluster.count_workers_or_raise()
 
     def cancel(self):
         """Nothing: the cluster drops the jobs of a client that leaves it."""

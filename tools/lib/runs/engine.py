@@ -25,7 +25,7 @@ def running_threads(jobs):
     try:
         yield threads, running
     finally:
-        running.end()
+        running.kill_all()
         threads.shutdown(wait=False, cancel_futures=True)
 
 
@@ -51,14 +51,14 @@ class Team:
     def __init__(self, jobs):
         self.given, self.jobs, self.is_over = queue.SimpleQueue(), jobs, False
         for _ in range(jobs):
-            threading.Thread(target=self.work, daemon=True).start()
+            threading.Thread(target=self.do_jobs, daemon=True).start()
 
     def submit(self, call, *words):
         promise = Promise()
         self.given.put((promise, call, words))
         return promise
 
-    def work(self):
+    def do_jobs(self):
         for promise, call, words in iter(self.given.get, None):
             if self.is_over:
                 continue
@@ -80,7 +80,7 @@ def running_team(jobs):
     try:
         yield team, running
     finally:
-        running.end()
+        running.kill_all()
         team.end()
 
 
@@ -142,9 +142,9 @@ def submit_in_order(texts, submit, most):
         for text in texts:
             waiting.append(text if isinstance(text, Fault) else submit_or_raise(submit, text))
             if len(waiting) >= most:
-                yield wait_for(waiting.popleft())
+                yield wait_for_result(waiting.popleft())
         while waiting:
-            yield wait_for(waiting.popleft())
+            yield wait_for_result(waiting.popleft())
     finally:
         for future in waiting:
             if not isinstance(future, Fault):
@@ -158,7 +158,7 @@ def submit_or_raise(submit, text):
         raise Fault(f"the executor takes no more journals: {fault}") from None
 
 
-def wait_for(future):
+def wait_for_result(future):
     """The result of a future; a fault if its executor has lost it."""
     if isinstance(future, Fault):
         return future

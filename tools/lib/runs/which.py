@@ -44,7 +44,7 @@ class Where(NamedTuple):
     path: str
 
 
-def packaged(*parts):
+def find_packaged(*parts):
     """The path of a file of the package that this module is part of; None if there is none."""
     path = PREFIX and PREFIX.joinpath(*parts)
     return path if path and path.exists() else None
@@ -57,7 +57,7 @@ def where():
         if path := os.environ.get(name):
             return Where(what, "environment", path)
     for of, path in (
-        ("package", packaged("lib", "x86_64-linux-gnu", LIBRARY.name)),
+        ("package", find_packaged("lib", "x86_64-linux-gnu", LIBRARY.name)),
         ("wheel", WHEELS if WHEELS.exists() else None),
         ("clone", LIBRARY if had_library_at_first_look() else None),
     ):
@@ -71,7 +71,7 @@ def where():
 def find_program():
     """The program that belongs to this module, or that the system finds; None if there is none."""
     cloned = BUILT if os.access(BUILT, os.X_OK) else None
-    for of, path in ("package", packaged("bin", "dam")), ("clone", cloned), ("system", shutil.which("dam")):
+    for of, path in ("package", find_packaged("bin", "dam")), ("clone", cloned), ("system", shutil.which("dam")):
         if path:
             return Where("program", of, os.fspath(path))
     return None

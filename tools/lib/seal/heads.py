@@ -224,7 +224,7 @@ def require_unrepeated(pairs):
     return made
 
 
-def parse(data, read):
+def parse_line(data, read):
     """The value that the text of a head, a receipt, an extension or salts has, and whether the text is its written form."""
     if len(data) > LONGEST_LINE:
         raise BadRecord(f"it has {len(data):,} bytes, and none has more than {LONGEST_LINE:,}")

@@ -135,7 +135,7 @@ def results_by_row(day):
         sums = energy(day, sum(trade.volume for trade in trades_made)), euros(day, amount)
         if row.order.kind == "hour":
             done = next(executed)
-            made[row.who, row.name] = Result(trades.execution_words(row.order, done), "", *sums, *decisions.hourly(day, row, done))
+            made[row.who, row.name] = Result(trades.execution_words(row.order, done), "", *sums, *decisions.hourly_code_and_words(day, row, done))
         else:
             decision, surplus = next(found)
             made[row.who, row.name] = Result(decision.kind, euros(day, surplus), *sums, decision.code, decision.why)

@@ -21,7 +21,7 @@ class Stop(Exception):
         self.status = status
 
 
-def run(name, main):
+def run_and_exit(name, main):
     """Runs a tool's `main`, and ends with its status. A fault, Ctrl-C or another signal is one line on standard error."""
     open_closed_streams()
     children.heed_children()
