@@ -172,4 +172,4 @@ def figure():
 if __name__ == "__main__":
     from lib.pictures import canvas
 
-    sys.stdout.buffer.write(canvas.picture(figure(), "svg"))
+    sys.stdout.buffer.write(canvas.render_and_close(figure(), "svg"))

@@ -79,7 +79,7 @@ def main():
     modules.exec_or_require_modules("matplotlib")
     from lib.pictures import canvas
 
-    sys.stdout.buffer.write(canvas.picture(figure(), "svg"))
+    sys.stdout.buffer.write(canvas.render_and_close(figure(), "svg"))
 
 
 if __name__ == "__main__":

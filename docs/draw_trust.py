@@ -184,7 +184,7 @@ def main():
     modules.exec_or_require_modules("matplotlib")
     from lib.pictures import canvas
 
-    sys.stdout.buffer.write(canvas.picture(draw(read_sunny_day()), "svg"))
+    sys.stdout.buffer.write(canvas.render_and_close(draw(read_sunny_day()), "svg"))
 
 
 if __name__ == "__main__":

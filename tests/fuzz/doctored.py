@@ -101,7 +101,7 @@ def write_and_audit(folder, data, text):
     audit = verdict.Audit(options)
     try:
         with contextlib.redirect_stderr(io.StringIO()):
-            audit.run()
+            audit.make_checks()
     except command.Stop as stop:
         return stop.status, audit.record(stop.status, str(stop))
     return audit.status, audit.record(audit.status)

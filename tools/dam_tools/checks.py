@@ -177,7 +177,7 @@ def audit(
     made = Audited(sources, types.SimpleNamespace(**named, **flags))
     message, status = None, None
     try:
-        made.run()
+        made.make_checks()
     except command.Stop as stop:
         if stop.status != command.UNDECIDED:
             raise Fault(str(stop)) from None

@@ -134,7 +134,7 @@ class Bound(unittest.TestCase):
     def test_what_the_picture_says(self):
         from lib.pictures import canvas
 
-        drawn = canvas.picture(draw_bound.figure(), "svg", words_as_text=True).decode()
+        drawn = canvas.render_and_close(draw_bound.figure(), "svg", words_as_text=True).decode()
         for words in ("COAL BASE", "gains at these prices", "of 8,191 nodes", "accepted (solid)"):
             self.assertIn(words, drawn)
 
@@ -145,7 +145,7 @@ class Hour(unittest.TestCase):
         """The numbers of GUIDE.md's first step."""
         from lib.pictures import canvas
 
-        drawn = canvas.picture(draw_hour.figure(), "svg", words_as_text=True).decode()
+        drawn = canvas.render_and_close(draw_hour.figure(), "svg", words_as_text=True).decode()
         for words in ("WIND: 45 MW", "executed in full", "GAS: 50 MW", "35 MW executed", "not executed", "the price: 60.00", "TOWN buys 80 MW"):
             self.assertIn(words, drawn)
 
@@ -162,7 +162,7 @@ class Trust(unittest.TestCase):
 
         day = draw_trust.read_sunny_day()
         for draw, words in (draw_trust.draw_effect, ["hour 19", "its limit: 130"]), (draw_trust.draw_selections, ["4,096 ways", "207 of"]):
-            drawn = canvas.picture(draw(day), "svg", words_as_text=True).decode()
+            drawn = canvas.render_and_close(draw(day), "svg", words_as_text=True).decode()
             for word in words:
                 self.assertIn(word, drawn)
 

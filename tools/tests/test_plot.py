@@ -59,7 +59,7 @@ class Pictures(unittest.TestCase):
             day = day_of(data, text)
             for figure in (pictures.day_picture(day), pictures.period_picture(day, 1)):
                 with self.subTest(name):
-                    drawn = canvas.picture(figure, "svg", words_as_text=True).decode()
+                    drawn = canvas.render_and_close(figure, "svg", words_as_text=True).decode()
                     for words in ("EUR/MWh", "MW"):
                         self.assertIn(words, drawn)
 
@@ -67,12 +67,12 @@ class Pictures(unittest.TestCase):
         from lib.pictures import canvas, pictures
 
         day = day_of(AUCTION.read_bytes(), support.read_results(AUCTION))
-        drawn = canvas.picture(pictures.day_picture(day), "svg", words_as_text=True).decode()
+        drawn = canvas.render_and_close(pictures.day_picture(day), "svg", words_as_text=True).decode()
         said = ["GAS EVENING", "sell 90 MW at 93.00 EUR/MWh", "paradoxically rejected", "surplus at these prices, EUR"]
         said += ["supporting prices", ">24<", ">23:00<"]
         for words in said:
             self.assertIn(words, drawn)
-        drawn = canvas.picture(pictures.period_picture(day, 19), "svg", words_as_text=True).decode()
+        drawn = canvas.render_and_close(pictures.period_picture(day, 19), "svg", words_as_text=True).decode()
         for words in ("165.00", "accepted blocks sell 350.0 MW net", "730.0 MW of hourly buys are executed", "volume, MW"):
             self.assertIn(words, drawn)
 
@@ -80,12 +80,12 @@ class Pictures(unittest.TestCase):
         from lib.pictures import canvas, pictures
 
         day = day_of(QUARTERS.read_bytes(), support.read_results(QUARTERS))
-        drawn = canvas.picture(pictures.day_picture(day), "svg", words_as_text=True).decode()
+        drawn = canvas.render_and_close(pictures.day_picture(day), "svg", words_as_text=True).decode()
         for words in ("GAS RAMP", "900.00", ">00:00<", ">93<", ">23:00<"):
             self.assertIn(words, drawn)
         for words in ("3,600.00", ">94<", ">23:15<"):
             self.assertNotIn(words, drawn)
-        drawn = canvas.picture(pictures.period_picture(day, 75), "svg", words_as_text=True).decode()
+        drawn = canvas.render_and_close(pictures.period_picture(day, 75), "svg", words_as_text=True).decode()
         for words in ("Period 75, 18:30 to 18:45", "165.00", "726.0 MW of hourly buys are executed"):
             self.assertIn(words, drawn)
 
@@ -96,7 +96,7 @@ class Pictures(unittest.TestCase):
         figure = pictures.prices_picture(day)
         least, most = figure.axes[0].get_ylim()
         self.assertTrue(50 < least < 68 < most < 90, (least, most))
-        drawn = canvas.picture(figure, "svg", words_as_text=True).decode()
+        drawn = canvas.render_and_close(figure, "svg", words_as_text=True).decode()
         self.assertEqual(drawn.count(">no trade<"), 2)
 
     def test_a_used_sheet_draws_what_a_new_one_does(self):
@@ -110,8 +110,8 @@ class Pictures(unittest.TestCase):
             # With many orders and few, none, and then many again; with accepted blocks that sell, and without.
             for day, number in ((auction, 19), (few, 8), (few, 19), (auction, 19), (auction, 3), (few, 19)):
                 for words_as_text in (True, False):
-                    fresh = canvas.picture(pictures.period_picture(day, number, width), "svg", words_as_text)
-                    self.assertEqual(canvas.picture(sheet.draw(day, number), "svg", words_as_text), fresh, (number, width))
+                    fresh = canvas.render_and_close(pictures.period_picture(day, number, width), "svg", words_as_text)
+                    self.assertEqual(canvas.render_and_close(sheet.draw(day, number), "svg", words_as_text), fresh, (number, width))
 
     def test_the_axes_of_small_volumes_and_of_no_orders(self):
         from lib.pictures import canvas, pictures
@@ -126,7 +126,7 @@ class Pictures(unittest.TestCase):
 
         self.assertEqual(ticks(8)[0][:6], ["0.0", "0.2", "0.4", "0.6", "0.8", "1.0"])
         self.assertEqual(ticks(19), [[], []])
-        drawn = canvas.picture(pictures.period_picture(day, 19), "svg", words_as_text=True).decode()
+        drawn = canvas.render_and_close(pictures.period_picture(day, 19), "svg", words_as_text=True).decode()
         self.assertIn("no hourly orders", drawn)
 
     def test_links_groups_and_surpluses_of_blocks(self):
@@ -140,7 +140,7 @@ class Pictures(unittest.TestCase):
             arrows = [note for note in axes.texts if getattr(note, "arrow_patch", None)]
             self.assertEqual([tuple(note.xy)[0] for note in arrows], [10.5, 16.5])
             self.assertEqual([text.get_text() for text in axes.texts].count("FILL"), 1)
-            drawn = canvas.picture(figure, "svg", words_as_text=True).decode()
+            drawn = canvas.render_and_close(figure, "svg", words_as_text=True).decode()
             for words in ("-8,960.00", "146,520.00", "GAS START", "sell 80 MW at 120.00 EUR/MWh"):
                 self.assertIn(words, drawn)
 
@@ -159,7 +159,7 @@ class Pictures(unittest.TestCase):
         from lib.pictures import canvas, pictures
 
         day = day_of(AUCTION.read_bytes(), support.read_results(AUCTION))
-        one, other = (canvas.picture(pictures.day_picture(day), "svg") for _ in range(2))
+        one, other = (canvas.render_and_close(pictures.day_picture(day), "svg") for _ in range(2))
         self.assertEqual(one, other)
 
     def test_what_matters_differs_in_lightness(self):

@@ -243,7 +243,7 @@ class Page(unittest.TestCase):
 
         day = day_of(SUNNY.read_bytes(), read_results(SUNNY))
         for number in (13, 20):
-            drawn = canvas.picture(pictures.period_picture(day, number), "svg", words_as_text=True).decode()
+            drawn = canvas.render_and_close(pictures.period_picture(day, number), "svg", words_as_text=True).decode()
             self.assertIn("limits go up to 3,000.00 EUR/MWh", drawn)
             demand, supply = curves.steps(day.problem.orders[number], "buy", 0), curves.steps(day.problem.orders[number], "sell", 0)
             bottom, top = curves.price_range(day, number, (demand, supply))

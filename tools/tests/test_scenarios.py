@@ -172,9 +172,9 @@ class Distribution(unittest.TestCase):
     def test_what_is_counted(self):
         over = scenarios.Distribution(HELD, [("GEN", "UNIT")])
         for number in range(1, 21):
-            over.add("S", printed("accepted", number * 1_000))
+            over.add_or_raise("S", printed("accepted", number * 1_000))
         for _ in range(20):
-            over.add("S", printed("rejected", 999_980))
+            over.add_or_raise("S", printed("rejected", 999_980))
         _, row = over.table()
         self.assertEqual(row, ["GEN", "UNIT", "40.00", 40, 20, "0.5000", "5.25", "1.00", "5.00", "10.00", "15.00", "19.00"])
         self.assertEqual(list(scenarios.distribution_words(over)),
@@ -185,7 +185,7 @@ class Distribution(unittest.TestCase):
         self.assertEqual(list(quarters.table())[1][7:], ["0.25", "1.25", "2.50", "3.75", "4.75"])
         self.assertIn("the median of its surplus is then 2.50 EUR", list(scenarios.distribution_words(quarters))[0])
         none = scenarios.Distribution(HELD, [("GEN", "UNIT")])
-        none.add("S", printed("rejected", 20))
+        none.add_or_raise("S", printed("rejected", 20))
         self.assertEqual(list(none.table())[1][4:], [0, "0.0000", "0.00", "", "", "", "", ""])
 
     def test_a_surplus_that_is_not_the_one_at_the_prices(self):
@@ -194,7 +194,7 @@ class Distribution(unittest.TestCase):
             right = 20 * (price - 4_000)
             words = f"block GEN,UNIT: the surplus is {surplus}, and at the prices {right}"
             with self.assertRaises(errors.Wrong) as fault:
-                over.add("scenario x", printed(outcome, surplus, price))
+                over.add_or_raise("scenario x", printed(outcome, surplus, price))
             self.assertEqual(str(fault.exception), f"the program's results of scenario x break the rules ({words})")
         self.assertEqual((over.surpluses, over.rejected), ({("GEN", "UNIT"): []}, {("GEN", "UNIT"): 0}))
 
@@ -219,12 +219,12 @@ class Distribution(unittest.TestCase):
         begin = right.index(b"accepted")
         for end in (b"accepted,x\n", b"accepted,\xff\n", b"rejected,\n", b"accepted\n", b"accepted,1000", b"Accepted,1000\n"):
             with self.assertRaisesRegex(errors.Fault, cleared.NO_RESULTS):
-                over.add("S", right[:begin] + end)
+                over.add_or_raise("S", right[:begin] + end)
         for other in (b"day,24\n", right[: right.index(b"block")], right.replace(b"period,1,4050", b"period,1,x"), right[:40]):
             with self.assertRaisesRegex(errors.Fault, cleared.NO_RESULTS):
-                over.add("S", other)
+                over.add_or_raise("S", other)
         self.assertEqual((over.surpluses, over.rejected), ({("GEN", "UNIT"): []}, {("GEN", "UNIT"): 0}))
-        over.add("S", right)
+        over.add_or_raise("S", right)
         self.assertEqual(over.surpluses, {("GEN", "UNIT"): [1_000]})
 
 
@@ -238,7 +238,7 @@ class Samples(unittest.TestCase):
 
     def test_the_text_is_that_of_the_orders(self):
         sampler = self.sampler()
-        for scenario in sampler.scenarios(5):
+        for scenario in sampler.draw_scenarios(5):
             self.assertEqual(scenario.text, cleared.book_text(scenario.rows(), 24))
 
     def test_each_depends_on_the_seed_and_its_number(self):
@@ -248,7 +248,7 @@ class Samples(unittest.TestCase):
         self.assertEqual(len(texts), 8)
 
     def test_what_changes_and_what_does_not(self):
-        drawn = [self.sampler().rows(number) for number in range(1, 201)]
+        drawn = [self.sampler().draw_rows(number) for number in range(1, 201)]
         for key, order in self.held.rows.items():
             for rows in drawn[:20]:
                 self.assertEqual(rows[key]._replace(price=0, volumes=()), order._replace(price=0, volumes=()))
@@ -265,14 +265,14 @@ class Samples(unittest.TestCase):
         self.assertLess(max(volume / was for (_, volume), (_, was) in zip(one, order.volumes)) - factors[0], 0.01)
 
     def test_limits_and_volumes_stay_in_their_ranges(self):
-        rows = self.sampler(price_sd=1e6, volume_sd=1e4).rows(1)
+        rows = self.sampler(price_sd=1e6, volume_sd=1e4).draw_rows(1)
         prices = {order.price for order in rows.values()}
         volumes = {volume for order in rows.values() for _, volume in order.volumes}
         self.assertLessEqual({rules.LOWEST_PRICE, rules.HIGHEST_PRICE}, prices)
         self.assertLessEqual({1, rules.GREATEST_VOLUME}, volumes)
         self.assertEqual((min(prices), max(prices)), (rules.LOWEST_PRICE, rules.HIGHEST_PRICE))
         self.assertEqual((min(volumes), max(volumes)), (1, rules.GREATEST_VOLUME))
-        self.assertEqual(self.sampler(price_sd=0, volume_sd=0).rows(7), self.held.rows)
+        self.assertEqual(self.sampler(price_sd=0, volume_sd=0).draw_rows(7), self.held.rows)
 
 
 class Tool(unittest.TestCase):
@@ -318,7 +318,7 @@ class Tool(unittest.TestCase):
     def test_random_scenarios_whose_results_break_the_rules(self):
         """Each 16th is checked whole, from the first. In the others, the surpluses of the blocks are those at the prices."""
         sampler, own = scenarios.Sampler(HELD, "GEN", "1", 300, 0.1), "the day as it was"
-        marks = [sampler.text(number).decode().partition("TOWN,")[2].partition("\n")[0] for number in range(1, 18)]
+        marks = [sampler.draw_text(number).decode().partition("TOWN,")[2].partition("\n")[0] for number in range(1, 18)]
         self.assertEqual(len({"hour,buy,5000,1:20,,", *marks}), 18)
         welfare, price = "s/^welfare,/welfare,1/", r"s/^period,1,\([0-9]*\),/period,1,9\1,/"
         for mark, edit, name, place in (

@@ -75,10 +75,10 @@ class Search:
     def find_best(self):
         """The best selection."""
         net = dict.fromkeys(self.curves, 0)
-        self.descend(0, frozenset(), {}, net, {number: curve.welfare(0) for number, curve in self.curves.items()}, 0)
+        self.try_selections(0, frozenset(), {}, net, {number: curve.welfare(0) for number, curve in self.curves.items()}, 0)
         return self.best
 
-    def descend(self, place, accepted, taken, net, worth, value):
+    def try_selections(self, place, accepted, taken, net, worth, value):
         """Tries the selections that accept these blocks before a place: `taken` are their numbers by group, `net` and `worth` the net
         volumes and welfares of the periods, `value` the welfare that the blocks themselves add."""
         if place == len(self.problem.blocks):
@@ -89,8 +89,8 @@ class Search:
         of_group = 0 if group is None else taken.get(group, 0)
         if (parent is None or parent in accepted) and of_group < rules.MOST_OF_GROUP:
             groups = taken if group is None else {**taken, group: of_group + 1}
-            self.descend(place + 1, accepted | {place}, groups, *self.sums_with_block(order, net, worth, value))
-        self.descend(place + 1, accepted, taken, net, worth, value)
+            self.try_selections(place + 1, accepted | {place}, groups, *self.sums_with_block(order, net, worth, value))
+        self.try_selections(place + 1, accepted, taken, net, worth, value)
 
     def sums_with_block(self, order, net, worth, value):
         net, worth = dict(net), dict(worth)

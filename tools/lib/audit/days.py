@@ -45,7 +45,7 @@ def require_pairs(place, notes):
     """The days of a folder, by name, or of a manifest, in its order. None of their files is read. Notes say how a manifest was read."""
     path = Path(place)
     try:
-        pairs = pairs_by_name(path) if path.is_dir() else require_listed_pairs(path, notes)
+        pairs = list_pairs_by_name(path) if path.is_dir() else require_listed_pairs(path, notes)
     except OSError as fault:
         raise command.Stop(f"{command.shown(place)} can't be read: {fault.strerror}") from None
     if not pairs:
@@ -53,7 +53,7 @@ def require_pairs(place, notes):
     return pairs
 
 
-def pairs_by_name(folder):
+def list_pairs_by_name(folder):
     """Each journal of a folder with the results of the same name; results without a journal too. A suffix may have capital letters, but a
     day of which two files have one name isn't read."""
     found, alike = {}, {}
@@ -63,7 +63,7 @@ def pairs_by_name(folder):
             said = f"{command.shown(found[key])} and {command.shown(path)} have one name: rename one of them"
             alike.setdefault(key[0], said)
     names = sorted({name for name, _ in found})
-    pairs = (pair_of(name, *(found.get((name, suffix), folder / f"{name}{suffix}") for suffix in (JOURNAL, RESULTS))) for name in names)
+    pairs = (find_pair(name, *(found.get((name, suffix), folder / f"{name}{suffix}") for suffix in (JOURNAL, RESULTS))) for name in names)
     return [pair._replace(unread=alike[pair.name]) if pair.name in alike else pair for pair in pairs]
 
 
@@ -73,7 +73,7 @@ def split_suffix(name):
     return stem, f"{dot}{suffix.lower()}"
 
 
-def pair_of(name, journal, published):
+def find_pair(name, journal, published):
     if os.path.lexists(published):
         return Pair(name, journal, published, file_io.find_unread_reason(journal) or file_io.find_unread_reason(published), None)
     return Pair(name, journal, None, file_io.find_unread_reason(journal), f"{command.shown(published)} is missing")
@@ -89,15 +89,15 @@ def require_listed_pairs(path, notes):
         rows = iter(sheets.text_rows(data, notes))
         header = next(rows, (0, []))[1]
         heads = [cell.strip().lower() for cell in header]
-        refuse_heads(path, heads)
+        refuse_wrong_heads(path, heads)
         refuse_lost_day(path, header)
         pairs, lines = [], {}
         for line, row in rows_within_limit(path, rows):
             cells = {name: without_outer_spaces(path.parent, cell) for name, cell in zip(heads, row)}
-            pairs.append(listed_pair(path.parent, cells, extra_cells_words(line, row, heads)))
+            pairs.append(find_listed_pair(path.parent, cells, extra_cells_words(line, row, heads)))
             if cells.get(NAME):
                 lines[len(pairs) - 1] = line
-        pairs = name_apart(pairs, lines)
+        pairs = mark_shared_names(pairs, lines)
     except sheets.BadTable as fault:
         raise command.Stop(f"{command.shown(path)} isn't a table of days: {fault}") from None
     if not pairs:
@@ -113,7 +113,7 @@ def rows_within_limit(path, rows):
         yield row
 
 
-def refuse_heads(path, heads):
+def refuse_wrong_heads(path, heads):
     """Ends the audit if the header of a manifest doesn't name each column once that it needs."""
     if not set(COLUMNS) <= set(heads):
         raise command.Stop(f"{command.shown(path)} isn't a table of days: its first line should name the columns {', '.join(COLUMNS)}")
@@ -138,7 +138,7 @@ def extra_cells_words(line, row, heads):
     return f"{unnamed[0]} of the table: its cell is in a column without a name" if unnamed else None
 
 
-def listed_pair(folder, cells, extra):
+def find_listed_pair(folder, cells, extra):
     """The pair of a row of a manifest."""
     journal, published = (folder / cells.get(name, "") for name in COLUMNS)
     has_results = bool(cells.get("results"))
@@ -148,7 +148,7 @@ def listed_pair(folder, cells, extra):
     return Pair(cells.get(NAME) or journal.stem, journal, published if has_results else None, unread, missing)
 
 
-def name_apart(pairs, lines):
+def mark_shared_names(pairs, lines):
     """The pairs of a manifest, of which none is read whose row gives it another's name. `lines` has the line of each such row, by the place
     of its pair."""
     places = {}  # by name
@@ -390,7 +390,7 @@ def status_of(records):
     return next((status for status in WORST if status in found), command.DONE)
 
 
-def run_audits_of(args):
+def require_and_audit_days(args):
     """As much as is kept of the records of all days."""
     notes = []
     pairs = require_pairs(args.days, notes)

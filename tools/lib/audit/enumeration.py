@@ -139,7 +139,7 @@ class Floor:
     def __init__(self, welfare, number):
         self.welfare, self.number = welfare, number
 
-    def rank_above(self, welfares, numbers):
+    def are_above(self, welfares, numbers):
         """Which selections rank above it."""
         return (welfares > self.welfare) | ((welfares == self.welfare) & (numbers > self.number))
 
@@ -241,7 +241,7 @@ class Rows:
         welfares = self.welfares()
         waiting, held = [], 0
         for row in reversed(range(len(self.highs))):
-            found = self.above(row, welfares[row])
+            found = self.select_above(row, welfares[row])
             waiting.append(found)
             held += len(found[0])
             if held >= BATCH or row == 0:
@@ -254,11 +254,11 @@ class Rows:
         every, rows = self.every, self.highs >> self.every.low_bits
         welfares = every.high_own[rows][:, None] + every.low_own[every.lows][None, :]
         for period in every.periods.values():
-            self.add(welfares, period, rows)
+            self.add_period_welfare(welfares, period, rows)
             self.progress.step_or_raise(len(self.highs))
         return welfares
 
-    def add(self, welfares, period, rows):
+    def add_period_welfare(self, welfares, period, rows):
         """Adds the welfare of a period. Rows whose blocks take the same volume of it get the same welfare."""
         table = period.welfares()
         places = period.low[self.every.lows] - period.low.min()
@@ -270,26 +270,26 @@ class Rows:
                 worths = table[last:].take(places)
             welfares[row] += worths
 
-    def above(self, row, welfares):
+    def select_above(self, row, welfares):
         """The numbers and welfares of the selections of a row that rank above the floor."""
         every, high = self.every, int(self.highs[row])
         admitted = every.links.are_admitted_across(every.all_low, every.lows, high)
         self.admitted += numpy.count_nonzero(admitted)
         places = numpy.flatnonzero(admitted & (welfares >= self.floor.welfare))
         numbers, welfares = every.lows[places] | high, welfares[places]
-        over = self.floor.rank_above(welfares, numbers)
+        over = self.floor.are_above(welfares, numbers)
         return numbers[over], welfares[over]
 
     def lift_floor(self, numbers, welfares):
         """Checks some selections that rank above the floor for a loss. The best one without is the new floor."""
         for first in range(0, len(numbers), BATCH):
             part = slice(first, first + BATCH)
-            over = self.floor.rank_above(welfares[part], numbers[part])
-            gaining = self.without_loss(numbers[part][over])
+            over = self.floor.are_above(welfares[part], numbers[part])
+            gaining = self.drop_losing(numbers[part][over])
             lasting = numpy.isin(numbers[part], gaining)
             self.floor.lift_to_best(welfares[part][lasting], numbers[part][lasting])
 
-    def without_loss(self, numbers):
+    def drop_losing(self, numbers):
         """Those of some selections of which no accepted block loses. As long as the block that has lost most often leaves out many,
         it alone is looked at, in the selections that accept it; then all blocks are."""
         self.looked += len(numbers)

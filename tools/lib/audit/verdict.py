@@ -58,11 +58,11 @@ class Audit:
         self.right, self.last = [], None  # lines about the right parts, and one after the faults
         self.progress = None
 
-    def run(self):
+    def make_checks(self):
         """Makes the checks that the options ask for. Ends with `command.Stop` if that can't be done."""
         options = self.options
         written, published = self.read_texts()
-        read = self.read_journal(written)
+        read = self.parse_journal(written)
         closed, reasons = book.run_commands(read)
         self.day = {"periods": read.periods, "commands": len(reasons), "refused": sum(reason is not None for reason in reasons)}
         try:
@@ -73,13 +73,13 @@ class Audit:
             self.is_signed, self.wrong, self.last = False, [Fault(str(fault), "head")], f"{WRONG}: {fault}"
             return
         if options.sent is not None:
-            self.check_sent(read, reasons, closed, signed.proof_words if options.receipts is not None else sent.no_proof_words)
+            self.compare_sent_commands(read, reasons, closed, signed.proof_words if options.receipts is not None else sent.no_proof_words)
         if signed is not None:
-            self.check_head(signed)
+            self.compare_with_signed(signed)
         if options.replies:
-            self.check_replies(read.periods, reasons, published)
+            self.compare_replies(read.periods, reasons, published)
         elif published is not None:
-            self.check_results(closed, reasons, published)
+            self.judge_results(closed, reasons, published)
 
     @property
     def status(self):
@@ -92,9 +92,9 @@ class Audit:
     @property
     def message(self):
         """Why there is no verdict, though the audit ended; None if there is one."""
-        return f"{self.uncompared()}: not the operator's, or of another day" if self.status == command.NO_INPUT else None
+        return f"{self.uncompared_words()}: not the operator's, or of another day" if self.status == command.NO_INPUT else None
 
-    def uncompared(self):
+    def uncompared_words(self):
         return f"not compared: {text.counted(len(self.foreign), 'receipt or head', 'receipts or heads')}"
 
     @property
@@ -128,14 +128,14 @@ class Audit:
             self.inputs[0]["role"] = "journal"
         return written, published
 
-    def read_journal(self, written):
+    def parse_journal(self, written):
         read = day_files.require_journal(self.options.journal, written)
         is_of_day = self.inputs[0]["role"] == "day"
         if is_of_day and journal.journal_text(read).encode() != written:
             self.odd.append(Fault("the journal of the day isn't in its written form, but has the same commands", "encoding"))
         return read
 
-    def check_replies(self, periods, reasons, published):
+    def compare_replies(self, periods, reasons, published):
         self.checked.append("replies")
         data, odd = results.plain_text_and_faults(published)
         self.odd += odd
@@ -145,7 +145,7 @@ class Audit:
             return
         self.right.append(f"as the rules say: {text.counted(len(reasons), 'reply', 'replies')}{sent.refused_words(reasons)}")
 
-    def check_results(self, closed, reasons, published):
+    def judge_results(self, closed, reasons, published):
         self.checked.append("results")
         data, odd = results.plain_text_and_faults(published)
         self.odd += odd
@@ -188,7 +188,7 @@ class Audit:
             self.search["better"] = [str(problem.blocks[place]) for place in sorted(found.accepted)]
         return how
 
-    def check_sent(self, read, reasons, closed, proof_words):
+    def compare_sent_commands(self, read, reasons, closed, proof_words):
         """Compares a participant's sent commands with the journal. If the journal lacks a command, `proof_words` says what receipts
         show."""
         options = self.options
@@ -232,7 +232,7 @@ class Audit:
         signed.odd += odd
         return signed
 
-    def check_head(self, signed):
+    def compare_with_signed(self, signed):
         """Compares the journal and its replies with the head that the operator signed, with earlier heads, and with receipts."""
         options = self.options
         self.checked += ["head", "receipts"] if options.receipts is not None else ["head"]
@@ -259,7 +259,7 @@ class Audit:
         unlike, signed = self.unlike, self.unlike + self.unsigned
         own, unsigned, rest = self.wrong[:unlike], self.wrong[unlike:signed], self.wrong[signed:]
         headlines = [
-            self.uncompared(),
+            self.uncompared_words(),
             f"not as sent: {text.counted(len(own), 'difference')} in the commands of {self.options.participant}",
             f"not as signed: {text.counted(len(unsigned), 'difference')} from what the operator signed",
             f"not as the rules say: {text.counted(len(rest), 'fault')} in the results",

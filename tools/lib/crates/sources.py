@@ -35,7 +35,7 @@ def read_own_crates():
     return crates.without_foreign(crates.read_crates(TOP))
 
 
-def source_files_of(name):
+def list_source_files(name):
     folders = [f"{TOP}/crates/{name}/{part}" for part in PARTS]
     return [f"{at}/{it}" for folder in folders for at, _, names in os.walk(folder) for it in names]
 
@@ -59,7 +59,7 @@ def read_source_sums(crate):
     handles = read_file_sum(f"{TOP}/HANDLES") if os.path.exists(f"{TOP}/HANDLES") else ""
     found = {}
     for name in sorted({crate, *crates.all_below(below, crate)}):
-        found[name] = read_sum_of_files(f"{TOP}/crates/{name}", source_files_of(name), handles, *below[name])
+        found[name] = read_sum_of_files(f"{TOP}/crates/{name}", list_source_files(name), handles, *below[name])
     if crate == LIBRARY:
         found["library"] = read_sum_of_files(f"{TOP}/library", [f"{TOP}/library/{it}" for it in IN_C])
     return found

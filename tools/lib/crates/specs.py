@@ -128,7 +128,7 @@ class Repository:
         module = "/".join(rest)
         return self.home(crate, module), "specs", module, name
 
-    def used(self, text, into):
+    def add_used_names(self, text, into):
         """The targets of the names of a file's text, by its `use` lines."""
         for path, words in USE.findall(text):
             for alias, name in aliases(words):
@@ -163,7 +163,7 @@ class Repository:
             if home in self.crates:
                 for alias, name in aliases(words or word):
                     found[alias] = self.type_of(home, name)
-        self.used("\n".join(re.findall(r"^ghost use [^;]*;", text, re.M)), found)
+        self.add_used_names("\n".join(re.findall(r"^ghost use [^;]*;", text, re.M)), found)
         return text, found
 
     def head(self, function, crate, module):
@@ -192,14 +192,14 @@ class Repository:
                 raise Unknown(f"{crate}/specs/{module}.antt has no definition {name}")
             return {(crate, kind, module, holder)}
         found = {other: (crate, kind, module, other) for other in texts}
-        self.used(self.read(f"crates/{crate}/specs/{module}.antt"), found)
+        self.add_used_names(self.read(f"crates/{crate}/specs/{module}.antt"), found)
         return {found.get(word) for word in names_used(texts[name])} - {None, node}
 
     def below_type(self, crate, module, name):
         text, found = self.source_names(crate, module)
         model = re.search(rf"^impl(?:<[^>]*>)? Model for {name}\b.*?^\}}$", text, re.M | re.S)
         if model:
-            self.used(model[0], found)
+            self.add_used_names(model[0], found)
             told = re.search(r"ghost Value = \{(.*?)\};", model[0], re.S)[1]
         else:
             told = re.search(rf"^pub(?:\(crate\))? (?:struct|enum) {name}\b.*?(?:^\}}|;)$", text, re.M | re.S)

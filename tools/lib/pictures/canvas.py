@@ -64,7 +64,7 @@ def add_legend(axes, *entries, columns, below=False, right=1):
     axes.legend(*entries, ncols=columns, borderaxespad=0, **look)
 
 
-def picture(figure, suffix, words_as_text=False):
+def render_and_close(figure, suffix, words_as_text=False):
     """The bytes of a figure, in the format `svg` or `png`."""
     out = io.BytesIO()
     if not words_as_text:

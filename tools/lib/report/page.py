@@ -74,7 +74,7 @@ def with_hover(drawn, hover):
 def inlined_picture(figure, name, kind, words):
     """A picture within the page: its colours are the page's, and its identifiers its own."""
     hover = canvas.hover_of(figure)
-    drawn = with_hover(canvas.picture(figure, "svg", words_as_text=True).decode(), hover)
+    drawn = with_hover(canvas.render_and_close(figure, "svg", words_as_text=True).decode(), hover)
     drawn = drawn[drawn.index("<svg") :]
     drawn = re.sub(r"<metadata>.*?</metadata>", "", drawn, flags=re.DOTALL)
     drawn = re.sub(r'(<svg[^>]*?) width="[^"]*" height="[^"]*"', r"\1", drawn, count=1)

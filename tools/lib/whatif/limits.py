@@ -262,7 +262,7 @@ def run_for_sentence(held, block, own, was, running):
         return not_computed_words(BROKEN if isinstance(fault, Wrong) else "a run of the program failed")
 
 
-def columns(rows):
+def aligned_lines(rows):
     """Rows of cells as aligned lines: the first cell to the left, the others to the right."""
     widths = [max(map(len, column)) for column in zip(*rows)]
     for first, *rest in rows:
@@ -295,11 +295,11 @@ def other_lines(search, found):
         return
     yield f"The result of {text.counted(len(keys), 'other order')} differs. Executed, in MWh, one cent past the limit and at it:"
     rows = [[" ".join(key), *(text.energy(day.executed(key), day.hours) for day in (found.past, found.at))] for key in keys[:MOST_OTHERS]]
-    yield from (f"  {line}" for line in columns(rows))
+    yield from (f"  {line}" for line in aligned_lines(rows))
     if len(keys) > MOST_OTHERS:
         yield f"  and {len(keys) - MOST_OTHERS} more: --json has all"
 
 
 def lines(search, found):
     """All of it, as lines for readers."""
-    return [*sentences(search, found), "", *columns(list(table(search, found))), "", *other_lines(search, found)]
+    return [*sentences(search, found), "", *aligned_lines(list(table(search, found))), "", *other_lines(search, found)]

@@ -10,7 +10,7 @@ MEDIAN = "median of the surplus"
 HEIGHT = 1.7  # inches, of a block
 
 
-def picture(over, suffix):
+def render_picture(over, suffix):
     """The bytes of the picture of a distribution."""
     with pyplot.rc_context(canvas.STYLE):
         figure, rows = pyplot.subplots(len(over.keys), 1, figsize=(canvas.BROAD, HEIGHT * len(over.keys) + 0.6), squeeze=False)
@@ -18,7 +18,7 @@ def picture(over, suffix):
             draw(axes, over, key)
         rows[-1][0].set_xlabel("surplus in the scenarios that accept the block, EUR")
         figure.tight_layout()
-        return canvas.picture(figure, suffix)
+        return canvas.render_and_close(figure, suffix)
 
 
 def draw(axes, over, key):

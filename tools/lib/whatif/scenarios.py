@@ -74,7 +74,7 @@ class Sampler:
         volumes = ";".join(f"{period}:%d" for period, _ in order.volumes)
         return f"submit,{who},{name},{order.kind},{order.side},%d,{volumes},{order.parent},{order.group}\n"
 
-    def numbers(self, number):
+    def draw_numbers(self, number):
         """The limits and volumes of a scenario."""
         digest = hashlib.sha256(f"{self.seed} {number}".encode(errors="surrogateescape")).digest()
         self.random.seed(self.numpy.frombuffer(digest, dtype="<u4"))
@@ -83,23 +83,23 @@ class Sampler:
         volumes = self.numpy.rint(self.volumes * (1 + factors)[self.owners]).clip(1, rules.GREATEST_VOLUME)
         return prices.astype(int), volumes.astype(int)
 
-    def text(self, number):
-        prices, volumes = self.numbers(number)
+    def draw_text(self, number):
+        prices, volumes = self.draw_numbers(number)
         every = self.numpy.empty(len(prices) + len(volumes), dtype=int)
         every[self.at_price], every[self.at_volume] = prices, volumes
         return f"day,{self.held.periods},,,,,,,\n{self.template % tuple(every.tolist())}close,,,,,,,,\n".encode()
 
-    def rows(self, number):
-        prices, volumes = self.numbers(number)
+    def draw_rows(self, number):
+        prices, volumes = self.draw_numbers(number)
         rest, made = iter(volumes.tolist()), {}
         for (key, order), price in zip(self.held.rows.items(), prices.tolist()):
             made[key] = order._replace(price=price, volumes=tuple((period, next(rest)) for period, _ in order.volumes))
         return made
 
-    def scenarios(self, count):
+    def draw_scenarios(self, count):
         """The first scenarios, named by their numbers from 1."""
         for number in range(1, count + 1):
-            yield Scenario(str(number), self.text(number), functools.partial(self.rows, number))
+            yield Scenario(str(number), self.draw_text(number), functools.partial(self.draw_rows, number))
 
 
 class Table:
@@ -112,7 +112,7 @@ class Table:
             self.columns = Columns(order_table.parse_cells(data, MOST_ROWS, is_long=True), (SCENARIO,))
         except order_table.BadOrders as fault:
             raise Fault(f"{name}: {changes.in_few_lines(fault)}") from None
-        self.count = self.checked()
+        self.count = self.count_or_raise()
 
     def __len__(self):
         return self.count
@@ -125,7 +125,7 @@ class Table:
         lines = ((line, self.columns.cell(cells, SCENARIO), cells) for line, cells in self.columns.table.rows)
         return itertools.groupby(lines, lambda each: each[1])
 
-    def checked(self):
+    def count_or_raise(self):
         """The number of the scenarios, which are right. They are tried out in one book, since a copy for each would take long."""
         seen, trial = {}, self.held.copy()
         for scenario, rows in self.parts():
@@ -152,7 +152,7 @@ class Table:
         after = self.held
         for line, command in self.commands_of(rows):
             after = self.held.copy() if after is self.held else after
-            self.enter(after, line, command)
+            self.enter_or_raise(after, line, command)
         return after
 
     def try_out(self, trial, rows):
@@ -160,7 +160,7 @@ class Table:
         before = {}
         for line, command in self.commands_of(rows):
             before.setdefault((command.who, command.name), trial.order(command))
-            self.enter(trial, line, command)
+            self.enter_or_raise(trial, line, command)
         for key, order in before.items():
             trial.put_back(key, order)
 
@@ -170,7 +170,7 @@ class Table:
             if (command := self.command_of(line, cells)) is not None:
                 yield line, command
 
-    def enter(self, held, line, command):
+    def enter_or_raise(self, held, line, command):
         try:
             changes.enter_or_raise(held, f"line {line}", command)
         except Fault as fault:
@@ -239,7 +239,7 @@ class Distribution:
         self.surpluses = {key: [] for key in keys}  # of the scenarios that accept it
         self.rejected = dict.fromkeys(keys, 0)
 
-    def add(self, name, printed):
+    def add_or_raise(self, name, printed):
         """Adds a scenario by the output of `dam clear` for it. A fault if it isn't of this book, or a surplus isn't the one at its prices."""
         try:
             lines = printed.decode().split("\n", self.periods + 2)[2:-1]  # after the day and the welfare

@@ -370,7 +370,7 @@ def run_scenarios(args):
     else:
         sds = [3 if args.price_sd is None else args.price_sd, 0.1 if args.volume_sd is None else args.volume_sd]
         sampler = scenarios.Sampler(held, args.participant, args.seed or "1", sds[0] * 100, sds[1])
-        given, count = sampler.scenarios(args.sample), args.sample
+        given, count = sampler.draw_scenarios(args.sample), args.sample
     over = scenarios.Distribution(held, require_asked_keys(args, held)) if args.sample and not args.rows else None
     rows = list(scenario_rows(args, held, given, count, over))
     if over is None:
@@ -406,7 +406,7 @@ def scenario_rows(args, held, given, count, over):
                 continue
             if number % scenarios.EACH == 0:
                 day_of(name, scenario.rows(), held.periods, printed)
-            over.add(name, require_printed(name, printed))
+            over.add_or_raise(name, require_printed(name, printed))
 
 
 def asked_of(args):
@@ -433,7 +433,7 @@ def write_distribution(args, held, over):
     if is_picture(args.out):
         from . import scenario_picture
 
-        data = scenario_picture.picture(over, args.out.lower().rpartition(".")[2])
+        data = scenario_picture.render_picture(over, args.out.lower().rpartition(".")[2])
         file_io.write_file_or_stdout("whatif", args.out, data)
         args.out = "-"
     output.write_table("whatif", args, "distribution", over.table(), held.periods)
