@@ -16,7 +16,7 @@ from pathlib import Path
 
 from support import AUCTION, QUARTERS, TOOLS, new_folder, read_results, results_of, run_tool
 
-from lib.audit import days, verdict
+from lib.audit import day_pairs, days, verdict
 from lib.base import record, text
 from lib.results import faults
 from lib.runs import by_program
@@ -190,7 +190,7 @@ class Days(unittest.TestCase):
         self.write(a=(DATA, TEXT))
         tracemalloc.start()
         self.addCleanup(tracemalloc.stop)
-        self.assertEqual(len(days.require_pairs(self.folder / "list", [])), 20)
+        self.assertEqual(len(day_pairs.require_pairs(self.folder / "list", [])), 20)
         self.assertLess(tracemalloc.get_traced_memory()[1], 16 * 2**20)
 
     def test_cells_of_a_manifest_in_no_column(self):
@@ -236,7 +236,7 @@ class Days(unittest.TestCase):
         self.assertEqual([line.split()[:2] for line in self.audit(place=self.folder / "list")[1].splitlines()[1:3]], [["a", "wrong"], ["b", "wrong"]])
 
     def test_a_manifest_of_many_days(self):
-        (self.folder / "list").write_text("journal,results\n" + "x,y\n" * (days.MOST_DAYS + 1))
+        (self.folder / "list").write_text("journal,results\n" + "x,y\n" * (day_pairs.MOST_DAYS + 1))
         said = f"audit: {self.folder / 'list'} has more than 20,000 days\n"
         self.assertEqual(self.audit(place=self.folder / "list"), (command.NO_INPUT, "", said))
 
@@ -286,7 +286,7 @@ class Days(unittest.TestCase):
         self.assertTrue(lacks.endswith(".csv can't be read: its name has a NUL, or a character that this locale lacks"), lacks)
 
     def test_a_process_that_cannot_be_started(self):
-        pair, full = days.Pair("a", Path("a.csv"), Path("a.txt")), OSError(errno.EMFILE, os.strerror(errno.EMFILE))
+        pair, full = day_pairs.Pair("a", Path("a.csv"), Path("a.txt")), OSError(errno.EMFILE, os.strerror(errno.EMFILE))
         with unittest.mock.patch.object(days.subprocess, "Popen", side_effect=full):
             made = days.run_audit_of_day(pair, [], by_program.Running())
         said = "its process can't be started: Too many open files"
@@ -296,7 +296,7 @@ class Days(unittest.TestCase):
         """It's ended, and another day has its record."""
         hanging, real, begun = self.folder / "hanging", subprocess.Popen, []
         hanging.write_text("import time; time.sleep(600)")
-        hung = days.Pair("a", Path("a.csv"), Path("a.txt"))
+        hung = day_pairs.Pair("a", Path("a.csv"), Path("a.txt"))
 
         def start(*words, **streams):
             begun.append(real(*words, **streams))
@@ -318,7 +318,7 @@ class Days(unittest.TestCase):
                 unittest.mock.patch.object(subprocess.Popen, "communicate", side_effect=fault, autospec=True) as call,
                 self.assertRaises(fault),
             ):
-                days.run_process(days.Pair("a", Path("a.csv"), None), [], by_program.Running(), 1)
+                days.run_process(day_pairs.Pair("a", Path("a.csv"), None), [], by_program.Running(), 1)
             process = call.call_args_list[0].args[0]
             self.addCleanup(process.kill)
             self.assertEqual(process.returncode, -signal.SIGKILL)
@@ -385,7 +385,7 @@ class Days(unittest.TestCase):
             self.assertEqual((ran.returncode, ran.stderr), (0, ""), ran.stdout)
 
     def test_memory_or_threads_for_a_day_that_run_out(self):
-        pairs, bar = [days.Pair(name, Path("a.csv"), Path("a.txt")) for name in "ab"], unittest.mock.Mock()
+        pairs, bar = [day_pairs.Pair(name, Path("a.csv"), Path("a.txt")) for name in "ab"], unittest.mock.Mock()
         for patched, faults in (("run_process", [MemoryError]), ("record_without_verdict", [MemoryError, unittest.mock.DEFAULT])):
             with unittest.mock.patch.object(days, patched, side_effect=faults * 2, wraps=getattr(days, patched)):
                 found = days.run_audits(pairs, ["--none"], 1, bar)
@@ -400,7 +400,7 @@ class Days(unittest.TestCase):
         wrong = [faults.line_fault("stray", line, None, "'hour,A,NAME,1' doesn't belong here").record() for line in range(3_000)]
         made = {**record.unread_record(verdict.WRONG, command.DIFFERS, None), "faults": wrong}
         out = json.dumps(made, indent=1).encode() + b"\n"
-        pairs = [days.Pair(f"{number}\udcff", Path("a.csv"), None, "x" if number == 3 else None) for number in range(8)]
+        pairs = [day_pairs.Pair(f"{number}\udcff", Path("a.csv"), None, "x" if number == 3 else None) for number in range(8)]
         unread = {"name": "3\\xff", **record.unread_record(verdict.UNREAD, command.NO_INPUT, "x", [("journal", "a.csv")])}
         wanted = [unread if number == 3 else {"name": f"{number}\\xff", **made} for number in range(8)]
         for words in ({}, {"is_json": True}):
@@ -425,7 +425,7 @@ class Days(unittest.TestCase):
                 return super().__getitem__(name)
 
         with unittest.mock.patch.object(days, "run_audit_of_day", side_effect=lambda *_: Counted(status=command.DIFFERS)):
-            found = days.run_audits([days.Pair("a", Path("a.csv"), None)] * 50, [], 2, bar)
+            found = days.run_audits([day_pairs.Pair("a", Path("a.csv"), None)] * 50, [], 2, bar)
         self.assertEqual((len(found), len(reads), bar.step.call_args.args), (50, 50, (1, "50 wrong")))
 
     def test_a_record_without_days(self):

@@ -68,12 +68,12 @@ import os, sys, time
 from pathlib import Path
 from lib.base import ending
 ending.guard_tool("audit")
-from lib.audit import days
+from lib.audit import day_pairs, days
 from lib.base.progress import StepBar
 from lib.pictures import drawing
 from lib.tool import command
 days.TOOL = Path(sys.argv[1])
-pairs = [days.Pair(str(number), Path(sys.argv[1]), None) for number in range(8)]
+pairs = [day_pairs.Pair(str(number), Path(sys.argv[1]), None) for number in range(8)]
 def main():
     with drawing.empty_settings():
         days.run_audits(pairs, [], 3, StepBar("audit", 8, "days"))

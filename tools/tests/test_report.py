@@ -79,7 +79,7 @@ class Trades(unittest.TestCase):
 def made(data, text, curves):
     from lib.report import page
 
-    return page.day_page(day_of(data, text), "A <day> & its results", list(curves))
+    return page.make_day_page(day_of(data, text), "A <day> & its results", list(curves))
 
 
 PACKAGES = "matplotlib or jinja2 is missing (Debian's python3-matplotlib, python3-jinja2)"
@@ -219,23 +219,23 @@ class Page(unittest.TestCase):
         place = next(place for place, block in enumerate(day.problem.blocks) if block.name == "UNIT-7")
         with unittest.mock.patch("lib.whatif.limits.run_for_rejected", lambda *_: {place: "With a limit of 92.00 EUR/MWh."}):
             for who in (None, "OLD"):
-                page = importlib.import_module("lib.report.page").day_page(day, "day", [], None, who)
+                page = importlib.import_module("lib.report.page").make_day_page(day, "day", [], None, who)
                 whys.append(re.search(r"[^>]*With a limit of 92.00 EUR/MWh[^<]*", page)[0].strip())
         self.assertEqual(whys[0], whys[1])
         self.assertIn("7,920.00 EUR", whys[0])
 
     def test_many_curves_are_the_same_as_few(self):
         """Several processes draw them, in their order."""
-        from lib.report import page
+        from lib.report import page_pictures
 
         day = day_of(QUARTERS.read_bytes(), read_results(QUARTERS))
-        numbers = list(range(60, 60 + page.FEW_CURVES + 2))
-        with page.drawing_curves(day, numbers) as many:
+        numbers = list(range(60, 60 + page_pictures.FEW_CURVES + 2))
+        with page_pictures.drawing_curves(day, numbers) as many:
             for child in multiprocessing.active_children():  # which this process ends at Ctrl-C
                 blocked = re.search(r"^SigBlk:\t(\w+)$", Path(f"/proc/{child.pid}/status").read_text(), re.MULTILINE)[1]
                 self.assertTrue(int(blocked, 16) >> signal.SIGINT - 1 & 1)
             self.assertNotIn(signal.SIGINT, signal.pthread_sigmask(signal.SIG_BLOCK, ()))
-            self.assertEqual(list(many), [page.draw_curves(day, number, True) for number in numbers])
+            self.assertEqual(list(many), [page_pictures.draw_curves(day, number, True) for number in numbers])
 
     def test_the_axis_is_cut_about_the_price(self):
         """The limits go from -40 to 3,000 EUR/MWh; those far from the price are said in words."""

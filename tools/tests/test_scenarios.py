@@ -242,7 +242,7 @@ class Samples(unittest.TestCase):
             self.assertEqual(scenario.text, cleared.book_text(scenario.rows(), 24))
 
     def test_each_depends_on_the_seed_and_its_number(self):
-        self.assertEqual(self.sampler().text(3), list(self.sampler().scenarios(3))[2].text)
+        self.assertEqual(self.sampler().draw_text(3), list(self.sampler().draw_scenarios(3))[2].text)
         seeds = ("1", "2", "é", "\udcff")  # the last is a byte that isn't UTF-8
         texts = {self.sampler(seed=seed).text(number) for seed in seeds for number in (1, 2)}
         self.assertEqual(len(texts), 8)

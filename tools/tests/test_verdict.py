@@ -19,7 +19,7 @@ from support import AUCTION, AUCTION_RESULTS, QUARTERS, TOOLS, TOP, cleared_case
 
 from lib.audit import verdict
 from lib.base import rules
-from lib.results import faults, results
+from lib.results import encodings, faults, results
 from lib.tool import command
 
 DATA, TEXT = AUCTION.read_bytes(), read_results(AUCTION)
@@ -65,14 +65,14 @@ class Encoding(unittest.TestCase):
         data = b'"a",' * (1 << 18) + b"\n"
         tracemalloc.start()
         self.addCleanup(tracemalloc.stop)
-        self.assertEqual(results.plain_text_and_faults(data)[0], data.replace(b'"', b""))
+        self.assertEqual(encodings.plain_text_and_faults(data)[0], data.replace(b'"', b""))
         self.assertLess(tracemalloc.get_traced_memory()[1], 8 * len(data))
         rng = random.Random(7)
         for part in (1, 2, 5):
             with unittest.mock.patch.object(results, "PART", part):
                 for _ in range(300):
                     data = bytes(rng.choices(b'"",\nab', k=rng.randrange(1, 20))) + b"a\n"
-                    self.assertEqual(results.plain_text_and_faults(data)[0], results.QUOTED.sub(rb"\1", data), data)
+                    self.assertEqual(encodings.plain_text_and_faults(data)[0], encodings.QUOTED.sub(rb"\1", data), data)
 
     def test_replies_and_days(self):
         replies = b"day,24\r\n1,done\r\n"

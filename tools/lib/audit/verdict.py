@@ -7,7 +7,7 @@ import time
 from ..base import place, text
 from ..journal import book, journal
 from ..lint import sent
-from ..results import check, results, selection, sums
+from ..results import check, encodings, results, selection, sums
 from ..sheets import kinds
 from ..tool import command, day_files, file_io
 from . import better
@@ -137,7 +137,7 @@ class Audit:
 
     def compare_replies(self, periods, reasons, published):
         self.checked.append("replies")
-        data, odd = results.plain_text_and_faults(published)
+        data, odd = encodings.plain_text_and_faults(published)
         self.odd += odd
         wrong = reply_faults(periods, reasons, data)
         self.wrong += wrong
@@ -147,7 +147,7 @@ class Audit:
 
     def judge_results(self, closed, reasons, published):
         self.checked.append("results")
-        data, odd = results.plain_text_and_faults(published)
+        data, odd = encodings.plain_text_and_faults(published)
         self.odd += odd
         if not closed.closed:
             self.wrong.append(Fault("no command closes the book, so it has no results", "journal"))

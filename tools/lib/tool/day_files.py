@@ -3,7 +3,7 @@
 from ..base import place, text
 from ..journal import book, journal
 from ..lint import lint
-from ..results import results, selection
+from ..results import encodings, results, selection
 from ..sheets import kinds
 from . import command, file_io
 
@@ -78,7 +78,7 @@ class Day:
         if not self.book.closed:
             raise command.Stop(f"no command of {command.shown(path)} closes the book, so it has no results")
         self.problem = selection.Problem(self.book)
-        data, self.odd = results.plain_text_and_faults(results_data)
+        data, self.odd = encodings.plain_text_and_faults(results_data)
         self.said, self.wrong = check.results_and_faults(self.problem, data)
         if self.said is None:
             raise command.Stop(f"{command.shown(results_path)} has no results of this journal: {self.wrong[0]}")

@@ -1,90 +1,27 @@
-"""The commands of tools/whatif: their words on the command line, and the work of each."""
+"""The work of each command of tools/whatif."""
 
-import argparse
 import collections
 import contextlib
-import inspect
 import itertools
 import json
-import re
 
 from ..base import place, rules, text
 from ..runs import by_program, cleared, cluster, engine, errors, which
 from ..tool import command, command_line, day_files, file_io, modules, output
-from . import changes, limits, scenarios
+from . import changes, limits, options, scenarios
 from ..runs.cleared import Cleared
 
 GRID = 2_000, 100  # cents per MWh: how far the limits of an hourly order reach from the price, and their distance
 MOST_LIMITS = 100_000
 
 
-def parse_price(word):
-    """A price of the command line in cents per MWh."""
-    if not re.fullmatch(r"-?[0-9]{1,6}(\.[0-9]{1,2})?", word):
-        raise argparse.ArgumentTypeError(f"{text.quoted(word)} should be a price in EUR/MWh, such as 92.50")
-    cents = round(float(word) * 100)
-    if not rules.LOWEST_PRICE <= cents <= rules.HIGHEST_PRICE:
-        ends = [text.eur_per_mwh(end) for end in (rules.LOWEST_PRICE, rules.HIGHEST_PRICE)]
-        raise argparse.ArgumentTypeError(f"{text.quoted(word)} should be from {ends[0]} to {ends[1]} EUR/MWh")
-    return cents
-
-
-def parse_order_name(word):
-    """An order's name on the command line."""
-    if text.parse_name(word.encode(errors="surrogateescape")) is None:
-        raise argparse.ArgumentTypeError(f"{text.quoted(word)} should be {text.A_NAME}")
-    return word
-
-
-def parse_jobs(word):
-    if not re.fullmatch(r"[1-9][0-9]{0,2}", word):
-        raise argparse.ArgumentTypeError(f"{text.quoted(word)} should be a number from 1 to 999")
-    return int(word)
-
-
-def add_command(commands, call, name, epilog, words):
-    """The parser of a command, with what all commands read."""
-    words_of_call = call.__doc__ or place.read_docstring(__file__, call.__name__)
-    parser = commands.add_parser(name, description=inspect.cleandoc(words_of_call), epilog=epilog, help=words)
-    parser.add_argument("journal", metavar="JOURNAL", help="a closed journal; - for standard input")
-    parser.add_argument("--program", metavar="PATH", help="the program `dam` to run (default: the library, or the built program)")
-    output.add_options(parser)
-    parser.set_defaults(call=call)
-    return parser
-
-
-def add_limit(commands, epilog):
-    parser = add_command(commands, limit, "limit", epilog, "the worst limit at which a block is accepted")
-    add = parser.add_argument
-    add("--participant", metavar="NAME", type=command_line.parse_participant, required=True, help="the participant that entered the order")
-    add("--order", metavar="NAME", type=parse_order_name, help="the order")
-    add("--all", action="store_true", help="every block of the participant, a row each")
-    add("--jobs", metavar="N", type=parse_jobs, help="the number of clearings at the same time (default: the number of processors)")
-    add("--from", dest="least", metavar="EUR", type=parse_price, help="for an hourly order: the least limit (default: 20 below the price)")
-    add("--to", dest="greatest", metavar="EUR", type=parse_price, help="the greatest limit (default: 20 above the price)")
-    add("--step", metavar="EUR", type=parse_price, help="the distance between two limits (default: 1.00)")
-
-
-def add_change(commands, epilog):
-    parser = add_command(commands, change, "change", epilog, "the effect of further commands")
-    words = "further commands: records as in a journal, or a table of orders, or of commands with the column what (CSV or Excel); - for"
-    words += " standard input"
-    parser.add_argument("changes", metavar="CHANGES", help=words)
-    words = "only this participant's orders, with its gain and net amount"
-    parser.add_argument("--participant", metavar="NAME", type=command_line.parse_participant, help=words)
-    add_quiet(parser)
-
-
-def add_quiet(parser):
-    parser.add_argument("--quiet", action="store_true", help="leave out notes on standard error; faults are still printed")
-
-
 def main(description, epilog):
     """Reads the command line, and does what it says."""
     parser = command_line.Parser("whatif", description, epilog)
     commands = parser.add_subparsers(dest="command", metavar="COMMAND", required=True)
-    for add in (add_limit, add_change, add_scenarios):
-        add(commands, epilog[epilog.index("\nstatuses:") :])
+    each = (options.add_limit, write_limit), (options.add_change, write_change), (options.add_scenarios, write_scenarios)
+    for add, call in each:
+        add(commands, call, epilog[epilog.index("\nstatuses:") :])
     args = parser.parse_args()
     try:
         return args.call(args)
@@ -125,7 +62,7 @@ def engine_of(program, running=None):
     return lambda given: engine.result_or_fault(engine.run_clear(given, program, running))
 
 
-def limit(args):
+def write_limit(args):
     """Prints the worst limit at which a block is accepted, to the cent, or why no limit is enough. It adds the prices, the block's surplus,
     the participant's gain and the welfare at that limit and one cent past it, and the other orders whose results differ. The answer is in
     words; with --decimal-comma, or a file whose name ends with .csv or .xlsx, it is a table of one row. For an hourly order it prints the
@@ -140,7 +77,7 @@ def limit(args):
     if key not in held.rows:
         raise command.Stop(unknown_words(held, *key))
     if held.rows[key].kind == "hour":
-        return write_sampled(args, held, key)
+        return write_samples(args, held, key)
     if (args.least, args.greatest, args.step) != (None,) * 3:
         raise command.Stop("--from, --to and --step can't be used with a block, whose limit is found exactly", command.COMMAND_LINE)
     search = limits.LimitSearch(held, key, engine_of(args.program))
@@ -183,7 +120,7 @@ def write_all_limits(args, held):
     return command.DONE
 
 
-def write_sampled(args, held, key):
+def write_samples(args, held, key):
     """An hourly order under a grid of limits, as a table."""
     search = limits.LimitSearch(held, key, engine_of(args.program))
     period = held.rows[key].volumes[0][0]
@@ -214,7 +151,7 @@ def write_sampled(args, held, key):
     return command.DONE
 
 
-def change(args):
+def write_change(args):
     """Prints the differences if further commands are put before the close: the welfare, prices and volumes, and each order's executed
     energy and amount, in the table of tools/compare."""
     output.refuse_wrong_options(args, args.journal, args.changes)
@@ -246,72 +183,6 @@ def run_and_compare(books, who, program):
     names = cleared.THE_DAY, f"{cleared.THE_DAY} with the changes"
     days = [Cleared.of_text(one.rows, one.periods, found, name) for one, found, name in zip(books, printed, names)]
     return changes.table(*days, who)
-
-
-def add_scenarios(commands, epilog):
-    parser = add_command(commands, run_scenarios, "scenarios", epilog, "the results of many scenarios")
-    add = parser.add_argument
-    words = "a table with the column scenario and those of a table of orders, or of commands with the column what (CSV or Excel)"
-    add("scenarios", metavar="SCENARIOS", nargs="?", help=words)
-    words = "the table that is printed for each scenario (default: welfare; with --sample the blocks over all scenarios)"
-    add("--rows", choices=scenarios.TABLES, help=words)
-    words = "only this participant's rows; with --sample, its orders stay"
-    add("--participant", metavar="NAME", type=command_line.parse_participant, help=words)
-    add("--order", metavar="NAME", type=parse_order_name, help="only this order of the participant")
-    add("--jobs", metavar="N", type=parse_jobs, help="the number of clearings at the same time (default: the number of processors)")
-    add("--sample", metavar="N", type=parse_sample_count, help="random scenarios instead of a table")
-    add("--seed", metavar="WORD", help="the seed of the random scenarios (default: 1)")
-    add("--price-sd", metavar="EUR", type=parse_standard_deviation, help="the standard deviation of the changes of limits (default: 3)")
-    words = "the standard deviation of the factor of volumes (default: 0.1)"
-    add("--volume-sd", metavar="SHARE", type=parse_standard_deviation, help=words)
-    add("--cluster", metavar="ADDRESS", help="the scheduler of a dask cluster to run on, such as tcp://10.0.0.1:8786; with tls:// the"
-        " certificates are those of ~/.config/dask or /etc/dask")
-    add_quiet(parser)
-
-
-def parse_sample_count(word):
-    if not re.fullmatch(r"[1-9][0-9]{0,6}", word):
-        raise argparse.ArgumentTypeError(f"{text.quoted(word)} should be a number from 1 to 9999999")
-    return int(word)
-
-
-def parse_standard_deviation(word):
-    if not re.fullmatch(r"[0-9]{1,4}(\.[0-9]{1,6})?", word):
-        raise argparse.ArgumentTypeError(f"{text.quoted(word)} should be a number from 0 to 9999, such as 0.1")
-    return float(word)
-
-
-def is_picture(path):
-    return path.lower().endswith((".svg", ".png"))
-
-
-def refuse_wrong_options(args):
-    """Ends the tool if the options of scenarios can't be used together."""
-    def stop(words):
-        raise command.Stop(words, command.COMMAND_LINE)
-
-    drawn = {"--seed": args.seed, "--price-sd": args.price_sd, "--volume-sd": args.volume_sd}
-    if (args.scenarios is None) == (args.sample is None):
-        both = "; for another limit of your own, put an amend into a copy of the journal" if args.sample else ""
-        stop(f"give a table of scenarios, or --sample with how many random ones{', not both' * bool(both)}{both}")
-    if args.sample is None:
-        given = [name for name, value in drawn.items() if value is not None]
-        if given:
-            stop(f"{given[0]} can't be used without --sample")
-        if is_picture(args.out):
-            stop("a picture can't be drawn without --sample")
-        if args.participant and args.rows in (None, "welfare", "prices"):
-            stop(f"--participant can't be used with --rows {args.rows or 'welfare'}: give --rows orders or --rows participants")
-    elif not args.participant:
-        stop("--sample needs --participant, whose orders stay as they are")
-    if args.order and not args.participant:
-        stop("--order can't be used without --participant")
-    if is_picture(args.out) and args.rows:
-        stop("--rows can't be used with a picture, which shows the blocks over all scenarios")
-    if args.rows in ("welfare", "prices") and args.order:
-        stop(f"--order can't be used with --rows {args.rows}")
-    if args.journal == args.scenarios == "-":
-        stop("only one file can be standard input")
 
 
 def require_asked_order(args, books):
@@ -348,13 +219,13 @@ def connecting_executor(args):
         yield executor, dam_tools.engine.run_clear  # by the name that it has in the package
 
 
-def run_scenarios(args):
+def write_scenarios(args):
     """Prints the results of many scenarios. In a table, each scenario has a name, with the orders or commands that it adds to the journal.
     With --sample the scenarios are random: the orders of all but one participant have other limits and volumes. An output that ends with
     .svg or .png is a picture of these."""
     output.refuse_wrong_options(args, args.journal, args.scenarios)
-    refuse_wrong_options(args)
-    if is_picture(args.out):
+    options.refuse_wrong_scenario_options(args)
+    if options.is_picture_name(args.out):
         modules.exec_or_require_modules("matplotlib")
     if args.sample:
         modules.exec_or_require_modules("numpy")
@@ -372,7 +243,7 @@ def run_scenarios(args):
         sampler = scenarios.Sampler(held, args.participant, args.seed or "1", sds[0] * 100, sds[1])
         given, count = sampler.draw_scenarios(args.sample), args.sample
     over = scenarios.Distribution(held, require_asked_keys(args, held)) if args.sample and not args.rows else None
-    rows = list(scenario_rows(args, held, given, count, over))
+    rows = list(run_for_scenario_rows(args, held, given, count, over))
     if over is None:
         output.write_table("whatif", args, "scenarios", rows, held.periods)
     else:
@@ -380,7 +251,7 @@ def run_scenarios(args):
     return command.DONE
 
 
-def scenario_rows(args, held, given, count, over):
+def run_for_scenario_rows(args, held, given, count, over):
     """The rows of the scenarios, or none, and then their results are added to the distribution."""
     make, heads = scenarios.TABLES[args.rows or "welfare"]
     waiting = collections.deque()
@@ -397,15 +268,15 @@ def scenario_rows(args, held, given, count, over):
         executor, call = ends.enter_context(connecting_executor(args))
         program = args.program if args.cluster is None else None
         answers = ends.enter_context(contextlib.closing(engine.run_clears(texts(), args.jobs, executor, program, call)))
-        before = day_of("the day as it was", held.rows, held.periods, next(answers))
+        before = require_day("the day as it was", held.rows, held.periods, next(answers))
         for number, printed in enumerate(engine.stepping_bar(answers, count, "scenario", args.quiet)):
             scenario = waiting.popleft()
             name = f"scenario {scenario.name}"
             if over is None:
-                yield from make(scenario.name, before, day_of(name, scenario.rows(), held.periods, printed), asked_of(args))
+                yield from make(scenario.name, before, require_day(name, scenario.rows(), held.periods, printed), asked_of(args))
                 continue
             if number % scenarios.EACH == 0:
-                day_of(name, scenario.rows(), held.periods, printed)
+                require_day(name, scenario.rows(), held.periods, printed)
             over.add_or_raise(name, require_printed(name, printed))
 
 
@@ -421,7 +292,8 @@ def require_printed(name, printed):
     return printed
 
 
-def day_of(name, rows, periods, printed):
+def require_day(name, rows, periods, printed):
+    """The cleared day of a printed text, which has to be no fault, and to obey the rules."""
     return Cleared.of_text(rows, periods, require_printed(name, printed), text.safe(name))
 
 
@@ -430,7 +302,7 @@ def write_distribution(args, held, over):
     if not args.quiet:
         for line in scenarios.distribution_words(over):
             command.print_note("whatif", line)
-    if is_picture(args.out):
+    if options.is_picture_name(args.out):
         from . import scenario_picture
 
         data = scenario_picture.render_picture(over, args.out.lower().rpartition(".")[2])

@@ -1,0 +1,159 @@
+"""The days that an audit of many checks: each journal of a folder with its results, or the pairs that a manifest lists."""
+
+import os
+from pathlib import Path
+from typing import NamedTuple
+
+from ..base import text
+from ..sheets import kinds, sheets
+from ..tool import command, file_io
+
+JOURNAL, RESULTS = ".csv", ".txt"
+MOST_DAYS = 20_000  # of a manifest
+NAME, COLUMNS = "day", ["journal", "results"]  # the columns of a manifest: the day's name, and those that it needs
+
+
+class Pair(NamedTuple):
+    """The files of a day; no results if the journal's file is the text of a day, or if they are missing."""
+
+    name: str
+    journal: Path
+    results: object
+    unread: object = None  # why they can't be read, if that is known beforehand
+    missing: object = None  # the message if there are no results, and the journal isn't the text of a day
+
+
+def require_pairs(place, notes):
+    """The days of a folder, by name, or of a manifest, in its order. None of their files is read. Notes say how a manifest was read."""
+    path = Path(place)
+    try:
+        pairs = list_pairs_by_name(path) if path.is_dir() else require_listed_pairs(path, notes)
+    except OSError as fault:
+        raise command.Stop(f"{command.shown(place)} can't be read: {fault.strerror}") from None
+    if not pairs:
+        raise command.Stop(f"{command.shown(place)} has no days: a day is NAME{JOURNAL} with its results NAME{RESULTS}")
+    return pairs
+
+
+def list_pairs_by_name(folder):
+    """Each journal of a folder with the results of the same name; results without a journal too. A suffix may have capital letters, but a
+    day of which two files have one name isn't read."""
+    found, alike = {}, {}
+    for path in sorted(folder.iterdir()):
+        key = split_suffix(path.name)
+        if key[1] in (JOURNAL, RESULTS) and found.setdefault(key, path) is not path:
+            said = f"{command.shown(found[key])} and {command.shown(path)} have one name: rename one of them"
+            alike.setdefault(key[0], said)
+    names = sorted({name for name, _ in found})
+    pairs = (find_pair(name, *(found.get((name, suffix), folder / f"{name}{suffix}") for suffix in (JOURNAL, RESULTS))) for name in names)
+    return [pair._replace(unread=alike[pair.name]) if pair.name in alike else pair for pair in pairs]
+
+
+def split_suffix(name):
+    """A file's name without its suffix, and the suffix in small letters. The file `.csv` is a day too, whose name is empty."""
+    stem, dot, suffix = name.rpartition(".")
+    return stem, f"{dot}{suffix.lower()}"
+
+
+def find_pair(name, journal, published):
+    if os.path.lexists(published):
+        return Pair(name, journal, published, file_io.find_unread_reason(journal) or file_io.find_unread_reason(published), None)
+    return Pair(name, journal, None, file_io.find_unread_reason(journal), f"{command.shown(published)} is missing")
+
+
+def require_listed_pairs(path, notes):
+    """The pairs of a manifest: a table with the columns `journal` and `results`, whose files are sought from its own folder."""
+    data = file_io.read_bytes(path)
+    kind = kinds.kind_of(data)
+    if kind in kinds.FILES:
+        raise command.Stop(f"{command.shown(path)} is {kind}: save the table of days as CSV")
+    try:
+        rows = iter(sheets.text_rows(data, notes))
+        header = next(rows, (0, []))[1]
+        heads = [cell.strip().lower() for cell in header]
+        refuse_wrong_heads(path, heads)
+        refuse_lost_day(path, header)
+        pairs, lines = [], {}
+        for line, row in rows_within_limit(path, rows):
+            cells = {name: without_outer_spaces(path.parent, cell) for name, cell in zip(heads, row)}
+            pairs.append(find_listed_pair(path.parent, cells, extra_cells_words(line, row, heads)))
+            if cells.get(NAME):
+                lines[len(pairs) - 1] = line
+        pairs = mark_shared_names(pairs, lines)
+    except sheets.BadTable as fault:
+        raise command.Stop(f"{command.shown(path)} isn't a table of days: {fault}") from None
+    if not pairs:
+        raise command.Stop(f"{command.shown(path)} has no days: it has no row below its header")
+    return pairs
+
+
+def rows_within_limit(path, rows):
+    """The rows of a manifest, which may not have too many days."""
+    for count, row in enumerate(rows):
+        if count == MOST_DAYS:
+            raise command.Stop(f"{command.shown(path)} has more than {MOST_DAYS:,} days")
+        yield row
+
+
+def refuse_wrong_heads(path, heads):
+    """Ends the audit if the header of a manifest doesn't name each column once that it needs."""
+    if not set(COLUMNS) <= set(heads):
+        raise command.Stop(f"{command.shown(path)} isn't a table of days: its first line should name the columns {', '.join(COLUMNS)}")
+    for name in (NAME, *COLUMNS):
+        if heads.count(name) > 1:
+            raise command.Stop(f"{command.shown(path)} isn't a table of days: its first line names the column {name} twice")
+
+
+def refuse_lost_day(path, header):
+    """Ends the audit if the header of a manifest goes on with the files of a day."""
+    for cell in header:
+        if split_suffix(cell.strip())[1] in (JOURNAL, RESULTS):
+            words = f"{text.quoted(cell)} of its first line is no heading, but may be of a day: write each day on a line of its own"
+            raise command.Stop(f"{command.shown(path)} isn't a table of days: {words}")
+
+
+def extra_cells_words(line, row, heads):
+    """Why a row of a manifest can't be read, if it has cells in no named column. A name with a comma that isn't quoted is two cells."""
+    if len(row) > len(heads):
+        return f"line {line} of the table has {len(row)} cells, but the header has {len(heads)}"
+    unnamed = [f"line {line}, column {at}" for at, (head, cell) in enumerate(zip(heads, row), 1) if cell.strip() and not head]
+    return f"{unnamed[0]} of the table: its cell is in a column without a name" if unnamed else None
+
+
+def find_listed_pair(folder, cells, extra):
+    """The pair of a row of a manifest."""
+    journal, published = (folder / cells.get(name, "") for name in COLUMNS)
+    has_results = bool(cells.get("results"))
+    missing = None if has_results else f"its row names no results, and {command.shown(journal)} has no line 'results'"
+    unread = extra or unread_row_words(cells) or file_io.find_unread_reason(journal)
+    unread = unread or (file_io.find_unread_reason(published) if has_results else None)
+    return Pair(cells.get(NAME) or journal.stem, journal, published if has_results else None, unread, missing)
+
+
+def mark_shared_names(pairs, lines):
+    """The pairs of a manifest, of which none is read whose row gives it another's name. `lines` has the line of each such row, by the place
+    of its pair."""
+    places = {}  # by name
+    for place in lines:
+        places.setdefault(pairs[place].name, []).append(place)
+    for name, (first, *others) in places.items():
+        for place in [first, *others] if others else []:
+            both = f"lines {lines[first]} and {lines[others[0] if place == first else place]}"
+            said = f"{both} of the table give two days the name {text.quoted(name)}: change one of them"
+            pairs[place] = pairs[place]._replace(unread=pairs[place].unread or said)
+    return pairs
+
+
+def without_outer_spaces(folder, cell):
+    """A cell without the spaces around it, unless a file has them in its name."""
+    return cell if "\0" not in cell and os.path.lexists(folder / cell) else cell.strip()
+
+
+def unread_row_words(cells):
+    """Why a row of a manifest names no files, if it names none."""
+    if not cells.get("journal"):
+        return "its row names no journal"
+    for name in COLUMNS:
+        if "\0" in cells.get(name, ""):
+            return f"the name {text.quoted(cells[name])} has a NUL"
+    return None

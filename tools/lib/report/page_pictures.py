@@ -1,0 +1,134 @@
+"""The pictures of a day's page, which stand in it with the page's colours; the curves of many periods are drawn by several processes."""
+
+import contextlib
+import functools
+import multiprocessing
+import os
+import re
+from typing import NamedTuple
+
+from markupsafe import Markup, escape
+
+from ..base import aside, clock, text
+from ..pictures import canvas, curves
+from ..results import trades
+from .page_tables import MARKS
+from ..base.progress import StepBar
+
+MOST_SHOWN = 4  # curves that stand open
+FEW_CURVES = 8  # that are drawn in one process
+
+
+class Picture(NamedTuple):
+    words: str
+    broad: Markup
+    narrow: Markup
+    summary: object = None  # the part shown of a picture that has to be opened
+    heads = None
+
+
+def with_hover(drawn, hover):
+    """A picture in which each area of some groups shows its words when the pointer is there."""
+    for name, words in hover.items():
+        begin = drawn.index(f'<g id="hover-{name}">')
+        end = drawn.index("</g>", begin)
+        waiting = iter(words)
+        areas = re.sub(r"/>", lambda _: f"><title>{escape(next(waiting))}</title></path>", drawn[begin:end])
+        drawn = drawn[:begin] + areas + drawn[end:]
+    return drawn
+
+
+def render_inlined(figure, name, kind, words):
+    """A picture within the page: its colours are the page's, and its identifiers its own."""
+    hover = canvas.hover_of(figure)
+    drawn = with_hover(canvas.render_and_close(figure, "svg", words_as_text=True).decode(), hover)
+    drawn = drawn[drawn.index("<svg") :]
+    drawn = re.sub(r"<metadata>.*?</metadata>", "", drawn, flags=re.DOTALL)
+    drawn = re.sub(r'(<svg[^>]*?) width="[^"]*" height="[^"]*"', r"\1", drawn, count=1)
+    drawn = drawn.replace("<svg", f'<svg class="{kind}" role="img" aria-label="{escape(words)}"', 1)
+    for pattern in (r'(id=")', r"(url\(#)", r'(href="#)'):
+        drawn = re.sub(pattern, rf"\g<1>{name}-{kind}-", drawn)
+    for colour, hexadecimal in canvas.COLOURS.items():
+        drawn = drawn.replace(f'fill="{hexadecimal}"', f'style="fill: var(--{colour})"')
+        drawn = drawn.replace(hexadecimal, f"var(--{colour})")
+    return Markup(drawn)
+
+
+def draw_picture(draw, name, words):
+    """A picture, for broad screens and for narrow ones."""
+    broad, narrow = (render_inlined(draw(width), name, kind, words) for kind, width in canvas.WIDTHS.items())
+    return Picture(words, broad, narrow)
+
+
+def prices_words(day):
+    """The picture of prices and volumes in words."""
+    traded = trades.traded_periods(day)
+    if not traded:
+        return "Price and volume of each period: nothing is traded."
+    prices = {day.said.prices[number - 1] for number in traded}
+    if len(prices) == 1:
+        return f"Price and volume of each period. The price of all that are traded is {text.shown_price(*prices)} EUR/MWh."
+    least, most = (of(traded, key=lambda number: day.said.prices[number - 1]) for of in (min, max))
+    ends = [f"{text.shown_price(day.said.prices[number - 1])} EUR/MWh in period {number}" for number in (least, most)]
+    return f"Price and volume of each period. The price goes from {ends[0]} to {ends[1]}."
+
+
+def curve_words(day, number):
+    words = f"Supply and demand in period {number}"
+    if not trades.is_traded(day, number):
+        return f"{words}: nothing is traded."
+    said = day.said
+    return f"{words}: {text.shown_volume(said.volumes[number - 1])} MW are traded at {text.shown_price(said.prices[number - 1])} EUR/MWh."
+
+
+def block_words(found):
+    counts = [f"{sum(decision.kind == kind for decision in found)} {kind}" for kind in MARKS]
+    words = f"Blocks over their periods: {', '.join(counts)}."
+    return f"{words} An arrow leads from a parent to its child, and a bracket joins the blocks of an exclusive group."
+
+
+@functools.cache
+def curve_sheet(width):
+    return curves.CurveSheet(width)
+
+
+def draw_curves(day, number, folded):
+    """The curves of a period, under a line that opens them if there are many: then one at a time is open."""
+    picture = draw_picture(lambda width: curve_sheet(width).draw(day, number), f"period{number}", curve_words(day, number))
+    if not folded:
+        return picture
+    said, words = day.said, "no trade"
+    if trades.is_traded(day, number):
+        words = f"{text.shown_price(said.prices[number - 1])} EUR/MWh, {text.shown_volume(said.volumes[number - 1])} MW"
+    summary = Markup('<b>Period {}</b> {}: <span class="soft">{}</span>')
+    return picture._replace(summary=summary.format(number, clock.time_span(day.problem.periods, number), words))
+
+
+def draw_folded_curves(number):
+    """The same in a process of its own, which has the day from the one that started it."""
+    return draw_curves(drawing_curves.day, number, True)
+
+
+@contextlib.contextmanager
+def drawing_curves(day, numbers):
+    """A source of the curves of some periods, in their order. Many are drawn by several processes, which begin at once, so that the rest of
+    the page can be made in the meantime; a line says how far they are."""
+    jobs = min(len(os.sched_getaffinity(0)), len(numbers))
+    if len(numbers) <= FEW_CURVES or jobs == 1:
+        yield (draw_curves(day, number, len(numbers) > MOST_SHOWN) for number in numbers)
+        return
+    drawing_curves.day, bar = day, StepBar("report", len(numbers), "curves")
+    with aside.blocking_interrupts():
+        made = multiprocessing.get_context("fork").Pool(jobs)
+    with made as pool:
+        try:
+            yield stepping(pool.imap(draw_folded_curves, numbers), bar)
+        finally:
+            bar.end()
+
+
+def stepping(made, bar):
+    """Yields each that is made, and takes a step of the bar after it."""
+    for one in made:
+        yield one
+        bar.step()
