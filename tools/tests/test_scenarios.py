@@ -244,7 +244,7 @@ class Samples(unittest.TestCase):
     def test_each_depends_on_the_seed_and_its_number(self):
         self.assertEqual(self.sampler().draw_text(3), list(self.sampler().draw_scenarios(3))[2].text)
         seeds = ("1", "2", "é", "\udcff")  # the last is a byte that isn't UTF-8
-        texts = {self.sampler(seed=seed).text(number) for seed in seeds for number in (1, 2)}
+        texts = {self.sampler(seed=seed).draw_text(number) for seed in seeds for number in (1, 2)}
         self.assertEqual(len(texts), 8)
 
     def test_what_changes_and_what_does_not(self):
