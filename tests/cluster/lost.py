@@ -12,6 +12,8 @@ import time
 from pathlib import Path
 from typing import NamedTuple
 
+from lib.base import children
+
 TOP = Path(__file__).resolve().parents[2]
 SECONDS = 30  # after which the fault is there
 SOON = 5  # seconds that Ctrl-C may take
@@ -39,9 +41,7 @@ def running_process(words, **how):
     try:
         yield running
     finally:
-        with contextlib.suppress(ProcessLookupError):
-            send_signal(running, signal.SIGKILL)
-        running.wait()
+        children.kill_group(running)
 
 
 def wait_for(found, what):

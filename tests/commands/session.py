@@ -8,6 +8,7 @@ import sys
 from pathlib import Path
 from typing import NamedTuple
 
+from lib.base import children
 from lib.base.place import with_installed_commands
 from lib.base.rules import VERSION
 from lib.tool import modules
@@ -203,7 +204,7 @@ def run_and_check_commands(counts, name, reader, room):
         except subprocess.TimeoutExpired:
             counts.check(f"{reader.form}: {name}: its commands take longer than {SECONDS} seconds", False)
         finally:
-            end_process(process)
+            children.kill_group(process)
     printed = {step.quoted: check_step(counts, step, room / str(number), process.returncode) for number, step in enumerate(made)}
     return {quoted: shown for quoted, shown in printed.items() if quoted and shown}
 
@@ -217,13 +218,6 @@ def exiting_at_signals():
     finally:
         for number, action in before.items():
             signal.signal(number, action)
-
-
-def end_process(process):
-    """Ends a shell and all that it has started."""
-    with contextlib.suppress(ProcessLookupError):
-        os.killpg(process.pid, signal.SIGKILL)
-    process.wait()
 
 
 def check_step(counts, step, at, status):

@@ -1,7 +1,10 @@
 """How the processes end that a tool starts. If a process ignores SIGCHLD, as the one that started it may have done, the system forgets how
-its children end, and for Python each ends with 0."""
+its children end, and for Python each ends with 0. Python 3.8 is enough."""
 
+import contextlib
+import os
 import signal
+import subprocess
 
 
 def heed_children():
@@ -11,3 +14,20 @@ def heed_children():
 
 def are_children_heeded():
     return signal.getsignal(signal.SIGCHLD) != signal.SIG_IGN
+
+
+def kill_group(process):
+    """Ends a process that leads a group, and all others of the group, at once."""
+    with contextlib.suppress(ProcessLookupError):
+        os.killpg(process.pid, signal.SIGKILL)
+    process.wait()
+
+
+def end_group(process, seconds):
+    """Ends a process that leads a group, and all others of the group. It gets these seconds to end by itself, which the others don't get if
+    it ends sooner."""
+    with contextlib.suppress(ProcessLookupError):
+        os.killpg(process.pid, signal.SIGTERM)
+    with contextlib.suppress(subprocess.TimeoutExpired):
+        process.wait(seconds)
+    kill_group(process)
