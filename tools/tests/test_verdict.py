@@ -69,7 +69,7 @@ class Encoding(unittest.TestCase):
         self.assertLess(tracemalloc.get_traced_memory()[1], 8 * len(data))
         rng = random.Random(7)
         for part in (1, 2, 5):
-            with unittest.mock.patch.object(results, "PART", part):
+            with unittest.mock.patch.object(encodings, "PART", part):
                 for _ in range(300):
                     data = bytes(rng.choices(b'"",\nab', k=rng.randrange(1, 20))) + b"a\n"
                     self.assertEqual(encodings.plain_text_and_faults(data)[0], encodings.QUOTED.sub(rb"\1", data), data)
