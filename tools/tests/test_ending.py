@@ -376,7 +376,8 @@ class Interrupted(unittest.TestCase):
         """As those of a pool, which ends them by SIGTERM."""
         copy = "made = multiprocessing.get_context('fork').Process(target=time.sleep, args=(600,))"
         ends = "made.start(), time.sleep(0.5), made.terminate(), made.join(), print(made.exitcode)"
-        code = f"import multiprocessing, time\nfrom lib.tool import command\ndef main():\n    {copy}\n    {ends}\ncommand.run('report', main)\n"
+        main = f"def main():\n    {copy}\n    {ends}\n"
+        code = f"import multiprocessing, time\nfrom lib.tool import command\n{main}command.run_and_exit('report', main)\n"
         ran = subprocess.run([sys.executable, "-B", "-c", code], cwd=TOOLS, capture_output=True, text=True, timeout=SECONDS)
         self.assertEqual((ran.returncode, ran.stdout, ran.stderr), (0, f"{-signal.SIGTERM}\n", ""))
 
