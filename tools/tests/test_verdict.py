@@ -19,7 +19,7 @@ from support import AUCTION, AUCTION_RESULTS, QUARTERS, TOOLS, TOP, cleared_case
 
 from lib.audit import verdict
 from lib.base import rules
-from lib.results import encodings, faults, results
+from lib.results import encodings, faults
 from lib.tool import command
 
 DATA, TEXT = AUCTION.read_bytes(), read_results(AUCTION)
