@@ -160,7 +160,7 @@ class LateDay(Day):
         if name not in self.PARTS:
             raise AttributeError(f"a day has no {name}")
         with as_faults():
-            self.read(as_journal(self.source), self.text, "the journal", "the text")
+            self.set_contents(as_journal(self.source), self.text, "the journal", "the text")
         return self.__dict__[name]
 
 
