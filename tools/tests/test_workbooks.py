@@ -915,7 +915,7 @@ class Long(unittest.TestCase):
         rows = "".join(f"amend,GAS,B,1,1-96,{number / 10}\n" for number in range(1, 3_001))
         data = f"what,participant,order,price_eur_mwh,periods,volume_mw\n{rows}".encode()
         held = Book(96)
-        held.change(Submit("GAS", "B", Order("block", "sell", 1, ())))
+        held.carry_out(Submit("GAS", "B", Order("block", "sell", 1, ())))
 
         def amended():
             return changes.book_with_commands(held, changes.parse_changes(data, 96)[0]).rows["GAS", "B"].volumes[::95]

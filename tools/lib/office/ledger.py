@@ -39,7 +39,7 @@ class Ledger:
         if who is not None:
             self.own[who].append(self.size)
         if reply == heads.DONE:
-            self.book.change(command)
+            self.book.carry_out(command)
 
     def enter_rest_of_journal(self, records, replies):
         """Enters the rest of the journal that a desk shows at its opening: it begins with the entries that are here."""

@@ -144,7 +144,7 @@ class Entered:
         """`orders`: the owner's in the book, as pairs of a name and a kind."""
         self.held, self.owner = book.Book(periods), owner
         for name, kind in orders:
-            self.held.change(journal.Submit(owner, name, journal.Order(kind, "buy", 0, ())))
+            self.held.carry_out(journal.Submit(owner, name, journal.Order(kind, "buy", 0, ())))
         self.lines = {}  # the line and the kind of each order, by participant and name
 
     def enter_or_note_faults(self, line, row, command):
