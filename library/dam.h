@@ -20,7 +20,7 @@
  *
  * `length` is the length of the whole answer in bytes; a zero byte doesn't follow it.
  *
- * Stack: 512 KiB were enough in tests. Memory: a call takes at most 8 MiB and four times the text's bytes, by malloc, and frees all
+ * Stack: 512 KiB were enough in tests. Memory: a call takes at most 10 MiB and four times the text's bytes, by malloc, and frees all
  * of it. A program that is linked with the static library, and defines rattle_alloc, rattle_realloc and rattle_dealloc, gives the
  * library its own memory instead (tests/library/refusals.c of a clone).
  *

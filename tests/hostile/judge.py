@@ -10,6 +10,7 @@ from lib.results import results
 
 NOTHING_REFUSED = RefusedCalls("memory")
 MACHINE = 4  # the status of a fault of the machine
+UNFINISHED = 3  # that of a search that came to its limit on nodes
 MEMORY = Printed(MACHINE, b"", b"memory\n")
 READ = Printed(MACHINE, b"", b"device: read\n")
 WRITE = re.compile(rb"device: write after (\d+) bytes\n")

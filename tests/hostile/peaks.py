@@ -4,19 +4,21 @@ A journal's text is read into one block, which moves as it grows. A field is a p
 are joined in a block of their own, which moves as it grows, and is at most as long as the text. A block that moves counts twice, and may
 have grown to twice its length. So a text and its longest field take at most TIMES the text's bytes, however many fields a record has.
 
-ROOM is for a book at its limits, the journal of a day and the search, which take 5 MiB with the shortest text of such a book. With that
-text, and with a text of as many short commands as a day takes, each engine holds at most MORE times what it held with a full book; with a
-few commands it holds at most LITTLE, and with some hundred at most EACH times the text's bytes more. `read_journal`, which `dam_refusals`
-calls twice, holds at most as much each time."""
+ROOM is for a book at its limits, the journal of a day and the search, which take 5 MiB with the shortest text of such a book, and 10 MiB
+if a limit on nodes may stop the search: its bounds take most of them, with 8 workers as with one. With that text, and with a text of as
+many short commands as a day takes, each engine without such a limit holds at most MORE times what it held with a full book; with a few
+commands it holds at most LITTLE, and with some hundred at most EACH times the text's bytes more. `read_journal`, which `dam_refusals` calls
+twice, holds at most as much each time."""
 
 import itertools
 
 from again import REFUSALS
+from judge import UNFINISHED
 from shared.preload import HostileProgram, RefusedCalls  # by which `lib` is found
 from shared.printed import Printed
 from lib.base import rules
 
-TIMES, ROOM = 4, 8 << 20
+TIMES, ROOM = 4, 10 << 20
 HELD, MORE = {"replay": 2.5, "clear": 2.8, "day": 4.9}, 1.5  # the megabytes that were held with a full book; a copy of the book takes 2
 SHORT = 1 << 20  # a text of fewer bytes isn't a long one
 FEW, LITTLE = 1 << 10, 64 << 10  # the bytes of a text of a few commands, and the most that is held then
@@ -24,6 +26,8 @@ SOME, EACH = 8 << 10, 40  # the bytes of a text of some hundred commands, and ho
 LONGEST = rules.MOST_BYTES
 ENGINES = [["replay"], ["clear", "--workers", "8", "--cut", "8"], ["day", "--workers", "8", "--cut", "8"]]
 REPLAY, CLEAR, DAY = ENGINES
+ALONE = ["clear", "--workers", "1", "--cut", "0"]
+LIMIT = ["--nodes", "10"]
 DAY_RECORD, CLOSE = b"day,100,,,,,,,\n", b"close,,,,,,,,\n"
 PERIODS = b";".join(b"%d:%d" % (period, rules.GREATEST_VOLUME) for period in range(1, 101))
 NAMES = [b"K-%010d" % number for number in range(rules.MOST_BLOCKS)]
@@ -98,6 +102,15 @@ def long_journals():
     yield "a close after empty lines", filled_text(DAY_RECORD, b"\n", CLOSE), [REPLAY, CLEAR]
 
 
+def limited_journals():
+    """Yields journals of a book at its limits, each with the engines whose search comes to a limit on nodes."""
+    book = b"".join([DAY_RECORD, *map(block_submit, NAMES), *hourly_submits(rules.MOST_HOURLY)])
+    full = book + b"cancel,A,X,,,,,,\n" * (rules.MOST_DAY_COMMANDS - rules.MOST_HOURLY - rules.MOST_BLOCKS)
+    for about, text in [("a full book", book), ("a full book and journal", full)]:
+        yield f"{about}, closed", text + CLOSE, [[*words, *LIMIT] for words in (CLEAR, ALONE)]
+        yield about, text, [[*DAY, *LIMIT]]
+
+
 def texts_with_engines():
     """Yields each text, with the engines that it is tried with and the line of its fault, if it has one."""
     for about, text, line in faulty_texts():
@@ -125,6 +138,11 @@ def check_peaks(runs):
             runs.check(f"{word} of {about}: {peak:,} bytes were held, and the text has {len(text):,}", fits)
             most = max(most, peak)
         runs.program.write_input(text).unlink()
+    for about, text, engines in limited_journals():
+        for words in engines:
+            got, peak = runs.program.run(words, text, RefusedCalls("peak"))
+            fits = (got.status, got.stdout) == (UNFINISHED, b"") and peak <= TIMES * len(text) + ROOM
+            runs.check(f"{' '.join(words)} of {about}: status {got.status}, {peak:,} bytes were held, and the text has {len(text):,}", fits)
     check_journals_read(runs)
     print(f"the longest texts: at most {most / 1e6:.1f} MB were held at once", flush=True)
 

@@ -18,7 +18,8 @@ from pathlib import Path
 from typing import NamedTuple
 
 from again import REFUSALS
-from costs import UNFINISHED, crowded_book
+from costs import crowded_book
+from judge import UNFINISHED
 from shared.cost_tables import Cost
 from shared.instructions import FIXED, run_for_counts
 from shared.preload import HostileProgram, RefusedCalls  # by which `lib` is found
