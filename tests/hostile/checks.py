@@ -1,4 +1,4 @@
-"""Checks of the program on its own, each of one property: its streams, threads, seeds, texts, stacks and small books."""
+"""Checks of the program on its own, each of one property: its streams, threads, seeds, texts, stacks and books of each size."""
 
 import fcntl
 import itertools
@@ -10,7 +10,7 @@ import judge
 import peaks
 import shapes
 from shared.preload import LEFT, SECONDS, HostileProgram, RefusedCalls
-from rows import AUCTION, CLOSE, DAY, OPEN_AUCTION, QUARTERS, TOP
+from rows import AUCTION, CLOSE, DAY, OPEN_AUCTION, TOP
 from shared.printed import Printed
 from lib.base import rules
 
@@ -18,8 +18,7 @@ CHUNK = 65_536  # bytes of a read
 LENGTHS = [10_000, CHUNK - 1, CHUNK, 2 * CHUNK, 100_000, 1_000_000, 4_000_000, 10_000_000, rules.MOST_BYTES]  # of texts that are read
 PIPE = 1 << 20  # the most bytes of a pipe
 AMENDS = [9, 1_100, rules.MOST_DAY_COMMANDS - rules.MOST_BLOCKS - 100]  # of all periods, whose journals have 40 KB, 900 KB and 8 MB
-SMALL_BOOK = 30  # orders
-UNFINISHED = 3  # the status of a search that came to its limit on nodes
+SMALL_BOOK, STEP = 30, 250  # orders, and those that a book has more than the one before
 
 
 def run_with_closed_stream(program, words, data, stream):
@@ -63,21 +62,22 @@ def check_seeds(runs):
 def check_threads(runs):
     """A search starts a thread for each worker but one, whose work the calling thread does, and so does a day for its participants."""
     lines = [b"cancel,%c,X,,,,,,\n" % ord(code) for code in "ABCDEFGH"[: rules.MOST_DAY_PARTICIPANTS]]
-    days = [(others, DAY + b"".join(lines[: others + 1])) for others in range(len(lines))]
-    many = b"day,96,,,,,,,\n" + 40 * b"".join(lines)
     tried = [
         ("clear", AUCTION, 0, range(1, 9), []),
         ("clear", AUCTION, 0, (1, 8), ["--nodes", "67108863"]),
-        ("clear", QUARTERS, 0, (1, 2, 8), []),
         ("day", OPEN_AUCTION, 7, (1, 3, 8), []),
-        ("day", many, len(lines) - 1, (1,), []),
-        *(("day", data, others, (1,), []) for others, data in days),
     ]
+    for periods in rules.DAYS:
+        day = b"day,%d,,,,,,,\n" % periods
+        tried += [("clear", AUCTION.replace(DAY, day), 0, (1, 2, 8), more) for more in ([], ["--nodes", "10"])]
+        tried += [("day", day + b"".join(lines[: others + 1]), others, (1,), []) for others in range(len(lines))]
+        tried.append(("day", day + 40 * b"".join(lines), len(lines) - 1, (1, 8), []))
     for word, data, others, counts, more in tried:
         for workers in counts:
             words = [word, "--workers", str(workers), "--cut", "8", *more]
             _, started = runs.program.run(words, data, RefusedCalls("thread"))
-            runs.check(f"{' '.join(words)}, {others} participants more: {started} threads", started == workers - 1 + others)
+            about = f"{' '.join(words)} of {data.splitlines()[0]}, {others} participants more: {started} threads"
+            runs.check(about, started == workers - 1 + others)
 
 
 def check_strays(runs):
@@ -172,19 +172,22 @@ def amended_journals(program, count):
     yield "clear", closed, 100, short.stdout
 
 
-def check_small_books(runs):
-    """Books of a few orders, on each length of a day. With one order more, a run asks for memory at least as often, and holds at least as
-    many bytes: a copy that is made of books of one size only would be seen."""
+def check_books_by_size(runs):
+    """Books of a few orders, and larger ones with a block, up to a full one, on each length of a day. With more orders, a run asks for
+    memory at least as often, and holds at least as many bytes: a copy that is made of books of one size only would be seen."""
+    sides, sizes = [b"buy", b"sell"], range(STEP, rules.MOST_HOURLY + 1, STEP)
+    orders = [b"submit,A,%d,hour,%b,%d,%d:1,,\n" % (at, sides[at % 2], at % 97, at % 23 + 1) for at in range(rules.MOST_HOURLY)]
+    block = b"submit,A,K,block,sell,-100,1:1;23:1,,\n"
     for words, periods in itertools.product([shapes.REPLAY, shapes.CLEAR, shapes.DAY], rules.DAYS):
-        orders = [b"submit,A,%d,hour,%b,%d,%d:1,,\n" % (at, [b"buy", b"sell"][at % 2], at, at % 23 + 1) for at in range(SMALL_BOOK)]
-        begin, end = b"day,%d,,,,,,,\n" % periods, CLOSE * (words != shapes.DAY)
-        texts = [begin + b"".join(orders[:count]) + end for count in range(SMALL_BOOK + 1)]
-        found = list(runs.pool.map(lambda text: runs.program.run_for_peak(words, text), texts))
-        for count, ((got, held, growths), (_, more_held, more)) in enumerate(zip(found, [*found[1:], found[-1]])):
-            about = f"{words[0]} of {count} orders on {periods} periods"
-            runs.check(f"{about}: status {got.status}, {got.stderr[:80]!r}", (got.status, got.stderr) == (0, b""))
-            runs.check(f"{about}: {growths} calls for memory, and {more} with one order more", growths <= more)
-            runs.check(f"{about}: {held} bytes, and {more_held} with one order more", held <= more_held)
+        for first, counts in ((b"", range(SMALL_BOOK + 1)), (block, sizes)):
+            begin, end = b"day,%d,,,,,,,\n" % periods + first, CLOSE * (words != shapes.DAY)
+            texts = [begin + b"".join(orders[:count]) + end for count in counts]
+            found = list(runs.pool.map(lambda text: runs.program.run_for_peak(words, text), texts))
+            for count, (got, held, growths), (_, more_held, more) in zip(counts, found, [*found[1:], found[-1]]):
+                about = f"{words[0]} of {count} hourly orders{' and a block' * (first == block)} on {periods} periods"
+                runs.check(f"{about}: status {got.status}, {got.stderr[:80]!r}", (got.status, got.stderr) == (0, b""))
+                runs.check(f"{about}: {growths} calls for memory, and {more} with more orders", growths <= more)
+                runs.check(f"{about}: {held} bytes, and {more_held} with more orders", held <= more_held)
 
 
 def check_stacks(runs):
@@ -193,7 +196,7 @@ def check_stacks(runs):
     small = ["sh", "-c", 'ulimit -s 512; exec "$@"', "sh"]
     for family in (["paradox", "500"], ["paradox", "4000", "24", "4"], ["nearties", "4000"]):
         data = subprocess.run([sys.executable, TOP / "bench" / "make_family.py", *family], stdout=subprocess.PIPE, check=True).stdout
-        for limit, status in ([], 0), (["--nodes", "100"], UNFINISHED):
+        for limit, status in ([], 0), (["--nodes", "100"], judge.UNFINISHED):
             words = ["clear", "--workers", "1", "--cut", "0", *limit]
             got, _ = runs.program.run(words, data, judge.NOTHING_REFUSED, under=small)
             about = f"{' '.join(words)} of {' '.join(family)} with 512 KiB of stack"

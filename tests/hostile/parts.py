@@ -50,7 +50,7 @@ def check_threads(runs):
 
 
 def check_books(runs):
-    checks.check_small_books(runs)
+    checks.check_books_by_size(runs)
     checks.check_copies(runs)
 
 
