@@ -3,7 +3,8 @@ depend on what else the machine does.
 
 Names that collide in a book's map under the fixed seed cost no more than others, since the program draws a seed of its own. If it gets no
 random bytes, it takes the fixed seed, and then they do: so the names collide, and each engine passes its seed on. So do
-`Gate::begin_seeded` and `run_commands`, which `dam_refusals` calls with a seed that it draws in the same way.
+`Gate::begin_seeded` and `run_commands`, which `dam_refusals` calls with a seed that it draws in the same way. Nor do participants and names
+cost more that differ in a few letters alone, in whichever places: each letter is hashed.
 
 An old order costs no more to cancel than a new one, and a name that is used again no more than another. A book that moved all later
 orders up at each cancel would take ten times as much. The cost is that of a journal that submits as many orders as a book holds, less that
@@ -13,10 +14,12 @@ A run on a full book, or of a full journal, takes about as many instructions as 
 calls at a gate up to a full journal, each with a look after it. With a step for each order, command or look that goes over all orders,
 entries or receipts, they would take several times as many."""
 
+import itertools
 import struct
 from typing import NamedTuple
 
 from again import REFUSALS
+from judge import UNFINISHED
 from shared.instructions import DRAWN, FIXED, MOST_TIMES, TIMES, check_and_print_millions, run_for_instructions
 from shared.preload import HostileProgram, RefusedCalls  # by which `lib` is found
 from shared.records import (
@@ -35,10 +38,13 @@ from lib.base import rules
 CANCEL_TIMES = 2  # cancels take less than twice the instructions of others
 SOME = 1_000  # of the names, if there are many runs: with the fixed seed, those that collide take 20 times the instructions
 RANDOM = bytes(range(1, 17))  # random bytes, each another
+VARIED = list(map("".join, itertools.product("ABCDEFGHIJ", repeat=3)))  # the letters in which the orders of a kind differ
+KINDS = ORDERS // len(VARIED)  # of a journal
+KINDS_TIMES = 2  # a journal takes less than 2 times the instructions of another: if those of a kind collided, 3.5 times or more
+LONG = "PARTICIP"
 WORKERS = {"clear": {2: 23, 3: 25, 4: 92, 8: 100}, "day": {2: 100, 3: 92, 4: 25, 8: 23}}  # and the length of the day
 AGAIN = 2_990  # the orders that are cancelled, each with a submit after it, so that all fit a journal of 10,000 records
 SEARCH_TIMES = 1.5  # and as many for a search by relaxed welfares, most of whose time goes to finding places among many steps
-UNFINISHED = 3  # the status of a search that came to its limit on nodes
 REFUSED = 500  # the commands that are refused, each after an accepted one
 # Each engine by its words, and the two calls of the gate that take a seed by those of `dam_refusals`; those of `OPEN` take no close.
 ENGINES = [["replay"], ["clear"], ["day"], ["clear", "--nodes", "20"], ["clear", "--workers", "1"], ["day", "--workers", "1", "--cut", "0"]]
@@ -69,15 +75,16 @@ def check_names(runs):
         runs.check(f"{about}: with the fixed seed, names that collide take only {fixed:.1f} times those of others", fixed > TIMES)
     check_names_by_plans(runs)
     check_seed_bytes(runs)
+    check_letters(runs)
 
 
 def check_names_by_plans(runs):
     """Names that collide, with several workers and on other days, compared with others on the longest day."""
-    others, colliding = ordinary_names()[:SOME], run_for_colliding_names(runs.program.room, SOME)
+    others, colliding = ordinary_names()[:SOME], run_for_colliding_names(runs.program.room, SOME, LONG)
     for word in ("clear", "day"):
         asked = [([word], 100, others)]
         asked += [([word, "--workers", str(workers)], periods, colliding) for workers, periods in WORKERS[word].items()]
-        texts = [(words, journal_text(submits_of(names), word != "day", periods)) for words, periods, names in asked]
+        texts = [(words, journal_text(submits_of(names, LONG), word != "day", periods)) for words, periods, names in asked]
         usual, *found = runs.pool.map(lambda it: run_for_instructions(runs.program, *it, DRAWN), texts)
         for (words, periods, _), count in zip(asked[1:], found):
             about = f"{' '.join(words)}, {periods} periods: names that collide take {count / usual:.1f} times the instructions of others"
@@ -87,7 +94,7 @@ def check_names_by_plans(runs):
 def check_seed_bytes(runs):
     """The seed is of all random bytes: names that collide under the seed of these take few instructions if any byte is another."""
     refusals = HostileProgram(REFUSALS, runs.program.room)
-    records = submits_of(run_for_colliding_names(runs.program.room, SOME, struct.unpack("<2Q", RANDOM)))
+    records = submits_of(run_for_colliding_names(runs.program.room, SOME, LONG, struct.unpack("<2Q", RANDOM)), LONG)
     engines = [(runs.program, [word]) for word in ("replay", "clear", "day")] + [(refusals, words) for words in GATES.values()]
     others = [RANDOM[:place] + b"\0" + RANDOM[place + 1 :] for place in range(len(RANDOM))]
     asked = [(*engine, RANDOM) for engine in engines] + [(*engines[0], other) for other in others]
@@ -102,6 +109,34 @@ def check_seed_bytes(runs):
     took = f"names that collide under the seed of given random bytes take {times:.1f} times as long as if a byte is another"
     print(took, flush=True)
     runs.check(f"{took}: {slow}, {quick}", min(slow) > TIMES * max(quick))
+
+
+def texts_that_differ(length, place):
+    """Texts of this length that differ in the letters from this place on alone."""
+    return ["Z" * place + letters + "Z" * (length - place - len(letters)) for letters in VARIED]
+
+
+def submits_by_kind():
+    """Yields the submits of orders whose participants, or whose names, differ in three letters alone: of each length, in each place."""
+    for longest, is_name in ((rules.LONGEST_PARTICIPANT, False), (rules.LONGEST_NAME, True)):
+        for length in range(3, longest + 1):
+            for place in range(length - 2):
+                texts = texts_that_differ(length, place)
+                if is_name:
+                    yield submits_of(texts, LONG[: 1 + length % len(LONG)])
+                else:
+                    yield [record for text in texts for record in submits_of([f"B{length}"], text)]
+
+
+def check_letters(runs):
+    """Each letter of a participant and of a name is hashed. Orders of several kinds share a journal, and take about as long as others."""
+    kinds = list(submits_by_kind())
+    journals = [journal_text(itertools.chain.from_iterable(kinds[at : at + KINDS])) for at in range(0, len(kinds), KINDS)]
+    counts = list(runs.pool.map(lambda data: run_for_instructions(runs.program, ["replay"], data, DRAWN), journals))
+    times = max(counts) / min(counts)
+    took = f"participants and names that differ in three letters take at most {times:.2f} times the instructions of others"
+    print(took, flush=True)
+    runs.check(f"{took}: {counts}", times < KINDS_TIMES)
 
 
 def numbered_submits(numbers):

@@ -12,16 +12,17 @@ def journal_text(records, is_closed=True, periods=24):
     return "".join([f"day,{periods},,,,,,,\n", *records, *["close,,,,,,,,\n"] * is_closed]).encode()
 
 
-def submits_of(names):
-    return [f"submit,A,{name},hour,buy,0,1:1,,\n" for name in names]
+def submits_of(names, code="A"):
+    return [f"submit,{code},{name},hour,buy,0,1:1,,\n" for name in names]
 
 
 def ordinary_names():
     return [f"N-{number:010}" for number in range(ORDERS)]
 
 
-def run_for_colliding_names(room, count=ORDERS, keys=()):
-    return subprocess.run([room / "collide", *map(str, (count, *keys))], stdout=subprocess.PIPE, text=True, check=True).stdout.split()
+def run_for_colliding_names(room, count=ORDERS, code="A", keys=()):
+    words = [room / "collide", *map(str, (count, code, *keys))]
+    return subprocess.run(words, stdout=subprocess.PIPE, text=True, check=True).stdout.split()
 
 
 def participant_codes():
