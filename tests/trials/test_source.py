@@ -2,7 +2,7 @@
 
 import unittest
 
-from source import functions_of, homes_of, leaders_of, listed_name, parts_outside
+from trials.source import functions_of, homes_of, leaders_of, listed_name, parts_outside
 
 STEP = """\
 use crate::hour::Hour;

@@ -7,10 +7,10 @@ import re
 import tempfile
 import unittest
 
-from edit_files import read_edits, read_text, write_text
-from report import CheckReport
-from source import functions_of
-from trial import NotProved, Trial
+from trials.edit_files import read_edits, read_text, write_text
+from trials.report import CheckReport
+from trials.source import functions_of
+from trials.trial import NotProved, Trial
 
 NUMBERS = ("one", "two", "three", "four")
 CYCLE = NUMBERS[:2]

@@ -2,7 +2,7 @@
 
 import unittest
 
-from report import CheckReport, function_of
+from trials.report import CheckReport, function_of
 
 REFUSED = """\
 checked toy::stack::Stack::low, 11 of 28

@@ -7,9 +7,9 @@ import subprocess
 import time
 from collections import Counter
 
-from edit_files import batches_of, read_text, write_text
-from report import CheckReport
-from source import functions_of, homes_of, leaders_of, listed_name, parts_outside
+from .edit_files import batches_of, read_text, write_text
+from .report import CheckReport
+from .source import functions_of, homes_of, leaders_of, listed_name, parts_outside
 
 
 class Trial:

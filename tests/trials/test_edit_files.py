@@ -4,7 +4,7 @@ import os
 import tempfile
 import unittest
 
-from edit_files import UnfitEdit, batches_of, read_and_edit, read_edits, read_edits_that_tests_find, write_text
+from trials.edit_files import UnfitEdit, batches_of, read_and_edit, read_edits, read_edits_that_tests_find, write_text
 
 LIB = """\
 const MOST: u64 = 5;

@@ -8,7 +8,7 @@ import os
 import re
 from functools import cached_property
 
-from source import functions_of, parts_outside
+from .source import functions_of, parts_outside
 
 FOLDERS = ("must-fail", "wrong-bodies")
 NAMED = re.compile(r"^name:[ \t]*(.*?)[ \t]*$", re.MULTILINE)
