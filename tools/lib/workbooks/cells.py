@@ -218,14 +218,14 @@ def unescaped(words):
 
 
 @functools.lru_cache(None)
-def name_of(column):
+def column_name(column):
     """The letters of a column."""
     before, last = divmod(column - 1, 26)
-    return (name_of(before) if before else "") + chr(ord("A") + last)
+    return (column_name(before) if before else "") + chr(ord("A") + last)
 
 
 @functools.lru_cache(2**15)
-def number_of(letters):
+def column_number(letters):
     """The number of a column; 0 if the letters are none."""
     if not COLUMN.fullmatch(letters):
         return 0

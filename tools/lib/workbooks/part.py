@@ -21,13 +21,13 @@ UNSIGNED = re.compile(r"\+?0*([0-9]{1,10})")
 
 
 @functools.lru_cache(64)
-def unsigned(words):
+def unsigned_number_or_none(words):
     """The number of an attribute, around which blanks may stand; None if it has none."""
     found = UNSIGNED.fullmatch(words.strip(BLANK))
     return int(found[1]) if found else None
 
 
-def truth_of(attributes, name):
+def truth_word_or_none(attributes, name):
     """The truth value of an attribute, around which blanks may stand; None if it has none."""
     return TRUTHS.get(attributes.get(name, "").strip(BLANK))
 
@@ -63,7 +63,7 @@ class Part:
         self.parser = parser = expat.ParserCreate(None, " ", names)
         parser.buffer_text = True
         parser.XmlDeclHandler, parser.StartDoctypeDeclHandler = self.refuse_encoding, self.refuse_type
-        parser.StartNamespaceDeclHandler = self.count_namespace
+        parser.StartNamespaceDeclHandler = self.count_namespace_or_refuse
         parser.StartElementHandler, parser.EndElementHandler = self.open_element, self.close_element
         parser.CharacterDataHandler = self.refuse_text
         fed = seen = characters = 0
@@ -90,7 +90,7 @@ class Part:
     def refuse_type(self, *type):
         raise broken("it has a document type")
 
-    def count_namespace(self, prefix, uri):
+    def count_namespace_or_refuse(self, prefix, uri):
         self.namespaces += 1
         if self.namespaces > MOST_NAMESPACES:
             raise too_many(MOST_NAMESPACES, "namespaces")
@@ -101,10 +101,10 @@ class Part:
         if self.package.elements > MOST_ELEMENTS:
             raise too_many(MOST_ELEMENTS, "elements: delete the rows and columns that the table doesn't need")
         if self.left_out:
-            self.pass_left_out(name)
+            self.pass_left_out_or_refuse(name)
             return
         if not self.prefix:
-            self.begin_root(name)
+            self.begin_root_or_refuse(name)
         within, is_own = self.within[-1], name.startswith(self.prefix)
         local = name[len(self.prefix) :] if is_own else name
         place = self.places[within].get(local) if is_own else None
@@ -121,7 +121,7 @@ class Part:
         if call := self.opening[local]:
             call(attributes)
 
-    def pass_left_out(self, name):
+    def pass_left_out_or_refuse(self, name):
         """Passes an element in one that is left out."""
         self.left_out += 1
         if self.left_out > DEEPEST:
@@ -159,7 +159,7 @@ class Part:
         if words := words.strip(BLANK):
             raise self.fault(f"the text {text.quoted(words)} stands in {text.quoted(self.within[-1])}")
 
-    def begin_root(self, name):
+    def begin_root_or_refuse(self, name):
         """Takes the namespace of the first element, or refuses the element."""
         namespace, _, name = name.rpartition(" ")
         if namespace not in self.NAMESPACES or name != self.ROOT:
@@ -171,9 +171,9 @@ class Part:
 
     def keep_text(self):
         """From now on keeps the text of an element."""
-        self.parser.CharacterDataHandler = self.keep_words
+        self.parser.CharacterDataHandler = self.keep_words_or_refuse
 
-    def keep_words(self, words):
+    def keep_words_or_refuse(self, words):
         self.length += len(words)
         if self.length > LONGEST_CELL:
             raise self.fault(f"it has more than {LONGEST_CELL:,} characters")
@@ -220,7 +220,7 @@ OF_FONTS = {ANY_OTHERS, *"b i condense extend outline shadow u sz color name rFo
 
 def strikes_out(attributes):
     """Whether the element strike of a font strikes a text out."""
-    return truth_of(attributes, "val") != "FALSE"
+    return truth_word_or_none(attributes, "val") != "FALSE"
 
 
 class Texts(Part):
@@ -261,7 +261,7 @@ class Texts(Part):
     def close_t(self):
         self.allow_no_text()
 
-    def pop_whole_text(self):
+    def pop_whole_text_or_refuse(self):
         words = self.pop_text()
         if self.is_pronounced and not words:
             raise self.fault("its only text is how it is pronounced (rPh)")

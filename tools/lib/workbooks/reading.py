@@ -5,7 +5,7 @@ import posixpath
 from ..base import text
 from .limits import LONGEST_NAME, MOST_HEADS, MOST_SHEETS, broken, too_many
 from .package import Package
-from .part import ANY_OTHERS, Part, truth_of
+from .part import ANY_OTHERS, Part, truth_word_or_none
 from .sheet import FirstRow, Sheet, Strings, is_due
 from .styles import Styles
 
@@ -25,10 +25,10 @@ def parse_rows(data, preferred, needed=(), most=None):
     there are several."""
     package = Package(data)
     book = Workbook(package)
-    name, part, note = book.choose_sheet(preferred, needed)
+    name, part, note = book.choose_sheet_or_refuse(preferred, needed)
     sheet = Sheet(name, part, book, most)
     package.parse_part(sheet.part, sheet)
-    return sheet.whole(book.parse_strings(sheet.needed)), note
+    return sheet.rows_or_refuse(book.parse_strings(sheet.needed)), note
 
 
 class Relations(Part):
@@ -59,7 +59,7 @@ class Relations(Part):
             raise broken(f"{text.quoted(target)} isn't a part of it")
         self.found[identifier] = kind, posixpath.normpath(posixpath.join(self.folder, target)).lstrip("/")
 
-    def only(self, kind):
+    def only_part_or_refuse(self, kind):
         """The only part of a kind; None if there is none."""
         found = [part for each, part in self.found.values() if each == kind]
         if len(found) > 1:
@@ -81,15 +81,16 @@ class Workbook(Part):
         self.package, self.from_1904, self.is_computed, self.sheets, self.hidden = package, False, True, [], set()
         if not package.has("_rels/.rels"):
             raise broken("it isn't an Excel workbook (.xlsx), but another archive")
-        part = self.parse_relations("").only(WORKBOOK)
+        part = self.parse_relations("").only_part_or_refuse(WORKBOOK)
         if part is None:
             raise broken("it has no sheets")
         self.relations = self.parse_relations(part)
         package.parse_part(part, self)
         styles = Styles()
-        if part := self.relations.only(STYLES):
+        if part := self.relations.only_part_or_refuse(STYLES):
             package.parse_part(part, styles)
-        self.formats, self.styled, self.struck, self.conditional = styles.of_cells(), styles.of_texts(), styles.struck, styles.conditional
+        self.formats, self.styled = styles.cell_formats(), styles.styled_formats()
+        self.struck, self.conditional = styles.struck, styles.conditional
 
     def parse_relations(self, owner):
         relations = Relations(owner)
@@ -97,11 +98,11 @@ class Workbook(Part):
         return relations
 
     def open_workbookPr(self, attributes):
-        self.from_1904 = truth_of(attributes, "date1904") == "TRUE"
+        self.from_1904 = truth_word_or_none(attributes, "date1904") == "TRUE"
 
     def open_calcPr(self, attributes):
         """A program that doesn't compute formulas stores any values, and lets Excel compute them once it opens the workbook."""
-        self.is_computed = not is_due(attributes) and truth_of(attributes, "calcCompleted") != "FALSE"
+        self.is_computed = not is_due(attributes) and truth_word_or_none(attributes, "calcCompleted") != "FALSE"
 
     def open_sheet(self, attributes):
         if len(self.sheets) == MOST_SHEETS:
@@ -113,7 +114,7 @@ class Workbook(Part):
         if attributes.get("state", "visible") != "visible":
             self.hidden.add(name)
 
-    def tables(self):
+    def tables_or_refuse(self):
         """The sheets with cells: the part of each, by its name; None of a sheet of macros, whose cells aren't read. Excel takes names that
         differ by capitals alone for one."""
         sheets, names = {}, set()
@@ -130,36 +131,36 @@ class Workbook(Part):
             raise broken("it has no sheets")
         return sheets
 
-    def choose_sheet(self, preferred, needed):
+    def choose_sheet_or_refuse(self, preferred, needed):
         """The name and the part of the sheet that is read, and a note on it if there are several."""
-        sheets = self.tables()
+        sheets = self.tables_or_refuse()
         if len(sheets) == 1:
             return *next(iter(sheets.items())), None
         named = [name for name in sheets if name.lower() == preferred]
         if named and sheets[named[0]] is None:
             raise broken(f"the sheet {text.quoted(named[0])} is one of macros: copy its table to another sheet")
         tables = {name: part for name, part in sheets.items() if part is not None}
-        found = named or self.find_sheets_with(tables, needed)
+        found = named or self.find_sheets_or_refuse(tables, needed)
         name = sorted([*found, *tables], key=lambda name: (name not in found, name in self.hidden))[0]
         others = [text.quoted(other) for other in found if other != name]
         more = f"; {', '.join(others)} {'has' if len(others) == 1 else 'have'} the columns of orders too" if others else ""
         return name, sheets[name], f"of {len(sheets)} sheets, {text.quoted(name)} was read{', a hidden one' * (name in self.hidden)}{more}"
 
-    def find_sheets_with(self, sheets, needed):
+    def find_sheets_or_refuse(self, sheets, needed):
         """The sheets with the needed names in their first rows."""
         rows, heads = {name: FirstRow(name, part, self, needed) for name, part in sheets.items()} if needed else {}, 0
         for row in rows.values():
-            row.parse_first_row()
+            row.parse_first_row_if_readable()
             heads += len(row.needed)
             if heads > MOST_HEADS:
                 raise too_many(MOST_HEADS, "strings in the first rows of its sheets")
         shared = self.parse_strings(set().union(*(row.needed for row in rows.values())))
-        return [name for name, row in rows.items() if set(needed) <= row.names(shared)]
+        return [name for name, row in rows.items() if set(needed) <= row.sought_names(shared)]
 
     def parse_strings(self, needed):
         """The shared strings, of which those that are needed are read."""
         strings = Strings(needed)
-        part = self.relations.only(STRINGS)
+        part = self.relations.only_part_or_refuse(STRINGS)
         if needed and part:
             self.package.parse_part(part, strings)
         return strings

@@ -6,10 +6,10 @@ import re
 
 from ..base import text
 from .cells import Date, Hidden, Kept, Numbers, Rows, Struck, StruckString, Styled, StyledString, Truth, Uncomputed
-from .cells import name_of, number_of, trimmed, unescaped
+from .cells import column_name, column_number, trimmed, unescaped
 from .limits import LAST_COLUMN, LAST_ROW, MOST_CELLS, MOST_ELEMENTS, MOST_TEXT, BadWorkbook, broken, size_of, too_many
-from .part import ANY_OTHERS, EXTENSIONS, FONT, OF_FONTS, TRUTHS, Texts, truth_of, unsigned
-from .styles import digits_of, general
+from .part import ANY_OTHERS, EXTENSIONS, FONT, OF_FONTS, TRUTHS, Texts, truth_word_or_none, unsigned_number_or_none
+from .styles import digits_text, general_text
 
 NUMBER = re.compile(r"[+-]?(?:[0-9]+(?:\.[0-9]*)?|\.[0-9]+)(?:[eE][+-]?[0-9]{1,3})?")
 WHOLE = re.compile(r"-?[0-9]{1,15}")
@@ -21,7 +21,7 @@ CLOCK = re.compile(r"T?([0-9]{2}:[0-9]{2})(?::[0-9.]*)?Z?")
 
 def is_due(attributes):
     """Whether Excel computes all formulas once it opens the workbook."""
-    return truth_of(attributes, "fullCalcOnLoad") == "TRUE"
+    return truth_word_or_none(attributes, "fullCalcOnLoad") == "TRUE"
 
 
 class Strings(Texts):
@@ -43,7 +43,7 @@ class Strings(Texts):
 
     def close_si(self):
         if self.is_taken:
-            words = unescaped(self.pop_whole_text())
+            words = unescaped(self.pop_whole_text_or_refuse())
             self.size += size_of(words)
             if self.size > MOST_TEXT:
                 raise too_many(MOST_TEXT, "bytes of text in its cells")
@@ -97,14 +97,14 @@ class Sheet(Texts):
         self.has_data = self.hides_zeros = False
 
     def fault(self, words):
-        column = name_of(self.column) if self.column else ""
+        column = column_name(self.column) if self.column else ""
         place = f", {'cell' if column else 'row'} {column}{self.row}" if self.row and self.cells is not None else ""
         if self.row and self.cells is None and self.within[-1] == "sheetData":
             place = f", after row {self.row}"
         return BadWorkbook(f"{self.place}{place}: {words}")
 
     def open_sheetView(self, attributes):
-        self.hides_zeros = self.hides_zeros or truth_of(attributes, "showZeros") == "FALSE"
+        self.hides_zeros = self.hides_zeros or truth_word_or_none(attributes, "showZeros") == "FALSE"
 
     def open_sheetData(self, _):
         self.has_data = True
@@ -135,14 +135,14 @@ class Sheet(Texts):
             self.column += 1
         else:
             letters = found.rstrip("0123456789")
-            column = number_of(letters)
+            column = column_number(letters)
             if not column or found != f"{letters}{self.row}":
                 raise self.fault(f"a cell of this row has the place {text.quoted(found)}")
             self.column = column
         if self.column > LAST_COLUMN:
             raise self.fault(f"a row has at most {LAST_COLUMN} cells")
         if self.column <= last:
-            words = f"it stands after {name_of(last)}{self.row}, but the cells of a row should increase"
+            words = f"it stands after {column_name(last)}{self.row}, but the cells of a row should increase"
             raise self.fault("it occurs twice" if self.column == last else words)
         self.kind, self.style = attributes.get("t", "n"), attributes.get("s", "0")
         self.value = self.formula = None
@@ -170,7 +170,7 @@ class Sheet(Texts):
         self.value = self.pop_text()
 
     def close_is(self):
-        self.value = self.pop_whole_text()
+        self.value = self.pop_whole_text_or_refuse()
 
     def close_f(self):
         self.allow_no_text()
@@ -178,7 +178,7 @@ class Sheet(Texts):
         self.first_formula = self.first_formula or (self.row, self.column)
 
     def close_c(self):
-        words = self.words()
+        words = self.content_or_refuse()
         if words == "":
             return
         self.count_of_cells += self.column - len(self.cells)
@@ -189,14 +189,14 @@ class Sheet(Texts):
         if isinstance(words, int):
             self.needed.add(words)
         else:
-            self.count_text(words)
+            self.count_text_or_refuse(words)
 
-    def count_text(self, words):
+    def count_text_or_refuse(self, words):
         self.size += size_of(words)
         if self.size > MOST_TEXT:
             raise self.fault(f"the sheet has more than {MOST_TEXT:,} bytes of text before this cell")
 
-    def words(self):
+    def content_or_refuse(self):
         """The content of a cell, as it would stand in a text; of a shared string its number. A formula that was saved without its value
         stands for itself, so that it isn't taken for an empty cell."""
         value, kind = self.value, self.kind
@@ -205,13 +205,13 @@ class Sheet(Texts):
         if value is None or value == "" and kind in ("n", "str", "inlineStr"):
             return ""
         if kind == "n":
-            return self.number(value.strip())
+            return self.number_text_or_refuse(value.strip())
         if kind == "s":
             if not WHOLE.fullmatch(value) or not 0 <= int(value) < MOST_ELEMENTS:
                 raise self.fault(f"it has no string {text.quoted(value)}")
-            return self.shown(int, StyledString, StruckString)(value)
+            return self.text_kind_or_refuse(int, StyledString, StruckString)(value)
         if kind in ("str", "inlineStr"):
-            return self.shown(str, Styled, Struck)(unescaped(value))
+            return self.text_kind_or_refuse(str, Styled, Struck)(unescaped(value))
         if kind == "e" and value:
             return value
         if kind == "b" and value in TRUTHS:
@@ -220,38 +220,38 @@ class Sheet(Texts):
             return Date(found[1])
         raise self.fault(f"{text.quoted(value)} isn't of its type, {text.quoted(kind)}")
 
-    def shown(self, plain, styled, struck):
+    def text_kind_or_refuse(self, plain, styled, struck):
         """Of the kinds of a text, the one that the cell is: shown as it is, in another way, or struck out."""
-        number = self.style_number()
+        number = self.style_number_or_refuse()
         if number in self.book.struck:
             return struck
         return styled if self.is_marked or number in self.book.styled else plain
 
-    def number(self, value):
+    def number_text_or_refuse(self, value):
         """A number with the digits that Excel shows, or the date that it stands for."""
         if not NUMBER.fullmatch(value) or not math.isfinite(float(value)):
             raise self.fault(f"{text.quoted(value)} isn't a number")
-        made = self.format()
+        shown = self.number_format_or_refuse()
         if self.hides_zeros and not float(value):
             return Hidden("0")
-        if made is Date:
-            return Date(self.date(float(value)))
-        return made(int(value) if WHOLE.fullmatch(value) else digits_of(float(value)))
+        if shown is Date:
+            return Date(self.date_text_or_refuse(float(value)))
+        return shown(int(value) if WHOLE.fullmatch(value) else digits_text(float(value)))
 
-    def format(self):
+    def number_format_or_refuse(self):
         """How the cell's format shows numbers."""
-        number, formats = self.style_number(), self.book.formats or [general]
+        number, formats = self.style_number_or_refuse(), self.book.formats or [general_text]
         if number >= len(formats):
             raise self.fault(f"it has no format {text.quoted(self.style)}")
         return formats[number]
 
-    def style_number(self):
-        number = unsigned(self.style)
+    def style_number_or_refuse(self):
+        number = unsigned_number_or_none(self.style)
         if number is None:
             raise self.fault(f"it has no format {text.quoted(self.style)}")
         return number
 
-    def date(self, serial):
+    def date_text_or_refuse(self, serial):
         """The date, or of a number below 1 the time of day."""
         seconds = round(serial % 1 * 86_400)
         days = math.floor(serial) + seconds // 86_400
@@ -282,7 +282,7 @@ class Sheet(Texts):
             return
         width = max(len(cells) for _, cells in self.rows) if self.width is None else self.width
         self.width = width
-        (top, bottom), left = sorted((int(found[2]), int(found[4]))), min(number_of(found[1]), number_of(found[3]))
+        (top, bottom), left = sorted((int(found[2]), int(found[4]))), min(column_number(found[1]), column_number(found[3]))
         is_apart = bottom < self.rows.numbers[0] or top > self.rows.numbers[-1] or left > width
         if not is_apart and (found[1], found[2]) != (found[3], found[4]):
             raise self.fault(f"the cells {ref} are merged, but each row of a table has its own")
@@ -292,12 +292,12 @@ class Sheet(Texts):
 
     def open_cfRule(self, attributes):
         """A condition may give cells another format."""
-        if "dxfId" in attributes and (kind := self.book.conditional.get(unsigned(attributes["dxfId"]))):
+        if "dxfId" in attributes and (kind := self.book.conditional.get(unsigned_number_or_none(attributes["dxfId"]))):
             raise self.conditional_fault(f"with {kind}")
 
     def open_dataBar(self, attributes):
         """A bar or an icon may stand in place of a number."""
-        if truth_of(attributes, "showValue") == "FALSE":
+        if truth_word_or_none(attributes, "showValue") == "FALSE":
             raise self.conditional_fault("that hides numbers")
 
     open_iconSet = open_dataBar
@@ -307,7 +307,7 @@ class Sheet(Texts):
 
     width = None  # of the widest row, once it is needed
 
-    def whole(self, shared):
+    def rows_or_refuse(self, shared):
         """The rows that aren't empty, with their shared strings."""
         if not self.has_data:
             raise self.fault("it has no table of cells")
@@ -319,14 +319,14 @@ class Sheet(Texts):
                     words = shared.found.get(cell)
                     if words is None:
                         raise self.fault(f"it has no string '{cell}'")
-                    self.cells[at] = text_of(cell, words, cell in shared.styled)
-                    self.count_text(words)
+                    self.cells[at] = shared_text(cell, words, cell in shared.styled)
+                    self.count_text_or_refuse(words)
             if cells := trimmed(self.cells):
                 rows.add(self.row, cells)
         return rows
 
 
-def text_of(cell, words, is_marked):
+def shared_text(cell, words, is_marked):
     """The text of a cell with a shared string."""
     if isinstance(cell, StruckString):
         return Struck(words)
@@ -345,9 +345,9 @@ class FirstRow(Sheet):
         super().__init__(name, part, book, None)
         self.sought, self.needed = names, set()
 
-    def words(self):
+    def content_or_refuse(self):
         """The content of a cell, or a word in its place if it isn't needed."""
-        words = super().words()
+        words = super().content_or_refuse()
         return words if isinstance(words, int) or not words or words.strip().lower() in self.sought else "other"
 
     def close_row(self):
@@ -355,7 +355,7 @@ class FirstRow(Sheet):
         if self.rows:
             raise Enough
 
-    def parse_first_row(self):
+    def parse_first_row_if_readable(self):
         try:
             self.book.package.parse_part(self.part, self)
         except Enough:
@@ -363,8 +363,8 @@ class FirstRow(Sheet):
         except BadWorkbook:
             self.rows, self.needed = [], set()
 
-    def names(self, shared):
+    def sought_names(self, shared):
         try:
-            return {cell.strip().lower() for _, cells in self.whole(shared) for cell in cells} & set(self.sought)
+            return {cell.strip().lower() for _, cells in self.rows_or_refuse(shared) for cell in cells} & set(self.sought)
         except BadWorkbook:
             return set()

@@ -9,7 +9,7 @@ from fractions import Fraction
 from ..base import text
 from .cells import Changed, Currency, Date, Formatted, Percentage, Power, Price, Repeated, Rounded, Shortened, Struck, Worded
 from .limits import LONGEST_FORMAT, MOST_FORMATS, MOST_OF_FORMATS, MOST_OWN_FORMATS, broken, too_many
-from .part import ANY_OTHERS, BLANK, FONT, OF_FONTS, Part, strikes_out, unsigned
+from .part import ANY_OTHERS, BLANK, FONT, OF_FONTS, Part, strikes_out, unsigned_number_or_none
 
 # The numbers of Excel's own formats: of all digits, of dates and times, of percentages, of the currency of each system, and of some digits.
 GENERAL_FORMATS, GENERAL_CODES = (0, 49), ("general", "@")
@@ -47,13 +47,13 @@ SIGN_AFTER = re.compile(rf"[()]|^{OTHER}*-(?!{LETTER})|-{OTHER}*$")
 NO_DATE = re.compile(r'"[^"]*"|\\.|_.|\*.|\[(?!(?:h+|m+|s+)\])[^\]\[]*\]', re.IGNORECASE)
 
 
-def general(number):
+def general_text(number):
     """The text of a number that has no format, or that of texts."""
     words = str(number)
     return Shortened(words) if sum(map(str.isdigit, words)) > MOST_DIGITS else words
 
 
-def digits_of(number):
+def digits_text(number):
     """The text of a number that may not be whole. Excel shows 1e-05 as 0.00001, and so as no name."""
     words = f"{number + 0.0:.15g}"  # of -0.0, too, Excel shows 0
     return f"{decimal.Decimal(words):f}" if "e-" in words else words
@@ -228,7 +228,7 @@ def rounding(pieces):
 def shown_by(code):
     """How a format shows a number."""
     if code.strip().lower() in GENERAL_CODES:
-        return general
+        return general_text
     is_date = re.search("[dmyhs]", NO_DATE.sub("", code).split(";")[0], re.IGNORECASE)
     return Date if is_date else Percentage if is_percentage(code) else of_sections(code)
 
@@ -236,17 +236,17 @@ def shown_by(code):
 ROUNDING = [(numbers, of_sections(code)) for code, numbers in ROUNDING_FORMATS.items()]
 
 
-def number_in(attributes):
+def format_number_or_refuse(attributes):
     """The number of a format; 0 is that of General."""
     words = attributes.get("numFmtId", "0")
-    number = unsigned(words)
+    number = unsigned_number_or_none(words)
     if number is None:
         raise broken(f"a format has the number {text.quoted(words)}")
     return number
 
 
 class Styles(Part):
-    """For each format of cells how it shows a number: as a `Date`, a `Percentage`, `general`, or by its sections."""
+    """For each format of cells how it shows a number: as a `Date`, a `Percentage`, `general_text`, or by its sections."""
 
     ROOT = "styleSheet"
     PLACES = {
@@ -272,7 +272,7 @@ class Styles(Part):
     def __init__(self):
         super().__init__()
         self.codes = {}  # of the workbook's own formats, by their numbers
-        kinds = (GENERAL_FORMATS, general), (DATE_FORMATS, Date), (PERCENT_FORMATS, Percentage), (CURRENCY_FORMATS, Currency), *ROUNDING
+        kinds = (GENERAL_FORMATS, general_text), (DATE_FORMATS, Date), (PERCENT_FORMATS, Percentage), (CURRENCY_FORMATS, Currency), *ROUNDING
         self.shown = {number: shown for numbers, shown in kinds for number in numbers}
         self.formats, self.filled, self.own, self.characters = [], set(), 0, 0
         self.styled = set()  # the numbers of formats that show texts in another way
@@ -292,10 +292,10 @@ class Styles(Part):
             raise too_many(MOST_OF_FORMATS, "characters in its number formats")
         shown, is_plain = shown_by(code), shows_texts(code)
         if self.within[-2] == "dxf":
-            if shown is not general or not is_plain:
+            if shown is not general_text or not is_plain:
                 self.conditional[self.conditions - 1] = "a number format"
             return
-        number = number_in(attributes)
+        number = format_number_or_refuse(attributes)
         if self.codes.setdefault(number, code) != code:
             raise broken(f"two formats have the number {number}")
         self.shown[number] = shown
@@ -316,9 +316,9 @@ class Styles(Part):
         self.conditions += 1
 
     def open_xf(self, attributes):
-        if unsigned(attributes.get("fontId", "0")) in self.struck_fonts:
+        if unsigned_number_or_none(attributes.get("fontId", "0")) in self.struck_fonts:
             self.struck.add(len(self.formats))
-        self.formats.append(number_in(attributes))
+        self.formats.append(format_number_or_refuse(attributes))
         if len(self.formats) > MOST_FORMATS:
             raise too_many(MOST_FORMATS, "formats of cells")
 
@@ -327,10 +327,10 @@ class Styles(Part):
         if attributes.get("horizontal", "").strip(BLANK) == "fill":
             self.filled.add(len(self.formats) - 1)
 
-    def of_cells(self):
+    def cell_formats(self):
         made = [Struck if at in self.struck else self.shown.get(number, Formatted) for at, number in enumerate(self.formats)]
         return [Repeated if at in self.filled and shown not in (Date, Percentage) else shown for at, shown in enumerate(made)]
 
-    def of_texts(self):
+    def styled_formats(self):
         """The formats of cells that show texts in another way."""
         return {at for at, number in enumerate(self.formats) if number in self.styled} | self.filled
