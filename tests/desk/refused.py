@@ -1,7 +1,8 @@
 """Each call of a desk refused in turn: of its file, of its standard streams, and for memory.
 
 After each run, the file has to open as after a crash, also if another crash comes first: with every acknowledged record, and whole batches
-of the given ones. A failed write or sync is never retried."""
+of the given ones. A failed write or sync is never retried, but a sync that a signal interrupts: the kit's library makes that again. A read
+or a write that a signal interrupts has failed."""
 
 import errno
 import os
@@ -52,10 +53,15 @@ def is_fault_line(kind, error, stderr):
     return any(re.fullmatch(way.format(own) + "\n", stderr.decode()) for way in ways)
 
 
+def is_made_again(kind, error):
+    """Whether the kit's library makes the call again that failed so."""
+    return (kind, error) == (SYNC, errno.EINTR)
+
+
 def are_retried(events):
     """Whether a write or a sync of the file follows a failed one."""
     changes = [event for event in events if event.is_change]
-    failed = [at for at, event in enumerate(changes) if event.answer < 0 and event.answer != -errno.EINTR]
+    failed = [at for at, event in enumerate(changes) if event.answer < 0 and not is_made_again(event.kind, -event.answer)]
     return bool(failed) and failed[0] + 1 < len(changes)
 
 
@@ -113,8 +119,8 @@ class RunsWithRefusals(crashes.Crashes):
         self.runs += 1
 
     def is_fault(self, refusal, ran):
-        """Whether the run ended with the fault of the refused call, or as if there was none, if a signal interrupted the call."""
-        if refusal.error == errno.EINTR and ran.status == 0:
+        """Whether the run ended with the fault of the refused call, or as if there was none, if the call is made again."""
+        if is_made_again(refusal.kind, refusal.error):
             return self.is_whole(refusal, ran)
         is_line = is_fault_line(refusal.kind, refusal.error, ran.stderr) and is_length_named(ran)
         return ran.status == MACHINE and is_line and self.is_front(ran.stdout, True)

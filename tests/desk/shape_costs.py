@@ -44,13 +44,18 @@ def longer_journals_by_name():
     yield "24: all commands of a full journal", journal_text(full_journal())
 
 
+def run_for_count(program, words, data, refusal):
+    """How many calls a run makes, or bytes it holds, which must end with status 0."""
+    printed, count = program.run(words, data, refusal)
+    if printed.status:
+        raise ValueError(f"{words}: status {printed.status}, {printed.stderr[:80]!r}")
+    return count
+
+
 def run_for_cost(program, words, data, others):
     """What a run costs. It is made twice, and the second time with the other words: those of a file that is the same."""
     found, growths = run_for_counts(program, words, data, JOURNAL_SEED if JOURNAL in words else SEED)
-    printed, peak = program.run(others, data, RefusedCalls("peak"))
-    if printed.status:
-        raise ValueError(f"{words}: status {printed.status}, {printed.stderr[:80]!r}")
-    return Cost(found, peak, growths)
+    return Cost(found, run_for_count(program, others, data, RefusedCalls("peak")), growths)
 
 
 def run_for_costs_of_journal(program, desk, about, data):
@@ -65,7 +70,7 @@ def run_for_costs_of_journal(program, desk, about, data):
 def run_for_costs_of_longer(program, desk, about, data):
     """Yields what the file of a journal costs that is opened again."""
     file = desk.make_folder() / "day.desk"
-    program.run([file], data, DRAWN)
+    run_for_count(program, [file], data, DRAWN)
     yield f"again {about}", run_for_cost(program, [file], b"", [file])
 
 
@@ -75,7 +80,7 @@ def run_for_cost_of_rest(program, desk, data):
     first, rest = (b"".join(part) for part in (lines[: len(lines) // 2], lines[len(lines) // 2 :]))
     file, copy = (desk.make_folder() / "day.desk" for _ in range(2))
     for path in (file, copy):
-        program.run([path], first, DRAWN)
+        run_for_count(program, [path], first, DRAWN)
     return run_for_cost(program, [file], rest, [copy])
 
 
