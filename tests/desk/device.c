@@ -10,6 +10,9 @@
 
    DESK_SLOW is the number of microseconds that each sync takes longer.
 
+   DESK_OUTPUT is 'MAJOR MINOR NUMBER'. Standard output is said to be a file on a device whose two numbers are that much
+   greater than those of the file's device, and with a number that is that much greater than the file's.
+
    DESK_SERVE is 'IMAGES RESULTS': two files. For each image, its length and its bytes, the file of DESK_FILE gets these
    bytes, and a child of this process runs the program. RESULTS gets a head (struct result), the child's output, its
    errors, its events, and the bytes of the file afterwards. */
@@ -57,6 +60,11 @@ static const char *path, *name;
 static char target_of[FILES];
 static int events = -1;
 static useconds_t slow;
+static struct {
+    bool is_said;
+    unsigned major, minor;
+    unsigned long number;
+} output;
 static struct {
     char kind;
     unsigned long first, last, made;
@@ -181,7 +189,22 @@ int flock(int file, int how) {
     return (int)answer;
 }
 
+static bool is_output(int file, const char *given) {
+    return *given == '\0' ? file == 1 : strcmp(given, "/dev/stdout") == 0;
+}
+
+/* Says which file standard output is, from the facts of the desk's file. */
+static int said_of_output(int how, unsigned mask, struct statx *facts) {
+    long answer = syscall(SYS_statx, AT_FDCWD, path, how & ~AT_EMPTY_PATH, mask, facts);
+    facts->stx_dev_major += output.major;
+    facts->stx_dev_minor += output.minor;
+    facts->stx_ino += output.number;
+    return (int)answer;
+}
+
 int statx(int file, const char *restrict given, int how, unsigned mask, struct statx *restrict facts) {
+    if (output.is_said && is_output(file, given))
+        return said_of_output(how, mask, facts);
     enum target kind = *given == '\0' ? target(file) : target_of_path(given);
     if (kind == NONE || kind == STREAM)
         return (int)syscall(SYS_statx, file, given, how, mask, facts);
@@ -371,7 +394,7 @@ static void serve(const char *images, const char *results) {
 
 __attribute__((constructor)) static void begin(void) {
     const char *log = getenv("DESK_LOG"), *refuse = getenv("DESK_REFUSE"), *served = getenv("DESK_SERVE");
-    const char *longer = getenv("DESK_SLOW");
+    const char *longer = getenv("DESK_SLOW"), *said = getenv("DESK_OUTPUT");
     char images[4096], results[4096];
     path = getenv("DESK_FILE");
     if (path == NULL)
@@ -383,6 +406,8 @@ __attribute__((constructor)) static void begin(void) {
                &refused.most);
     if (longer != NULL)
         slow = (useconds_t)atol(longer);
+    if (said != NULL)
+        output.is_said = sscanf(said, "%u %u %lu", &output.major, &output.minor, &output.number) == 3;
     if (log != NULL) {
         int file = at(log, O_WRONLY | O_CREAT | O_APPEND);
         events = (int)syscall(SYS_fcntl, file, F_DUPFD_CLOEXEC, HIGH);

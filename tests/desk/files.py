@@ -32,6 +32,7 @@ LINES = 300_000  # of an input that comes in by as many reads
 LENGTHS = [round(1.5**power) for power in range(1, 29)]  # of lines, up to one that is too long
 PATHS = (1_001, 1_024, 2_500, 4_000)  # bytes of long paths
 MEMORY = 256 << 20  # bytes of addresses, for the longest inputs
+OTHER_FILES = [(0, 0, 1), (0, 0, 1 << 32), (0, 1, 0), (1, 0, 0)]  # how much greater their devices and numbers are than the desk's file's
 USAGE = b"command line\nUsage: dam-desk "
 HELP = b"""\
 Usage: dam-desk FILE < COMMANDS
@@ -101,6 +102,8 @@ def check_files(counts, desk, dam, whole):
     files.check_cut_lines()
     files.check_closed_pipe()
     files.check_own_output()
+    files.check_own_output_by_other_paths()
+    files.check_other_output()
     files.check_full_journals()
     files.check_half_a_line()
     files.check_long_batches()
@@ -297,14 +300,44 @@ class FileTests:
             self.counts.check(f"a closed stream {stream}: {marked}", marked in (b"", b"+" + DAY + b"+" + CLOSE))
 
     def check_own_output(self):
-        """A file that is the desk's own output, which would destroy it: of a day alone, of more than a megabyte, and a longest one."""
-        befores = [file_of_records(DAY), *(file_of_records(*journals.longest_records(count)) for count in (1_500, rules.MOST_RECORDS - 2))]
-        for mode, before in itertools.product(("ab", "r+b"), befores):
+        """A file that is the desk's own output, which would destroy it: of no bytes, of a day alone, of over a megabyte, and a longest."""
+        longest = (file_of_records(*journals.longest_records(count)) for count in (1_500, rules.MOST_RECORDS - 2))
+        for mode, before in itertools.product(("ab", "r+b"), [b"", file_of_records(DAY), *longest]):
             file = write_desk_file(self.desk.make_folder(), before)
-            with file.open(mode) as output:
-                ran = subprocess.run([*self.desk.words, str(file)], input=CLOSE, stdout=output, stderr=subprocess.PIPE)
-            got = Printed(ran.returncode, file.read_bytes(), ran.stderr)
+            got = self.run_with_output(file, file, mode)
             self.check_run(f"an output to the file itself, opened as {mode}, of {len(before):,} bytes", got, 1, before, OWN_OUTPUT)
+
+    def check_own_output_by_other_paths(self):
+        """The same if the path is another one of that file."""
+        for before in (b"", file_of_records(DAY)):
+            folder, linked = self.desk.make_folder(), self.desk.make_folder() / "linked"
+            file = write_desk_file(folder)
+            (folder / "symbolic").symlink_to(file.name)
+            (folder / "second").symlink_to("symbolic")
+            (folder / "hard").hardlink_to(file)
+            linked.symlink_to(folder)
+            names = [file.name, f"./{file.name}", "symbolic", "second", "hard"]
+            for path in [*names, linked / file.name, linked / "symbolic", "/dev/stdout", "/dev/fd/1", "/proc/self/fd/1"]:
+                file.write_bytes(before)
+                got = self.run_with_output(path, file, cwd=folder)
+                self.check_run(f"an output to the file at {path}, of {len(before)} bytes", got, 1, before, OWN_OUTPUT)
+
+    def check_other_output(self):
+        """An output to another file, which may differ from the desk's by its number alone or by its device alone."""
+        for more in ((0, 0, 0), *OTHER_FILES):
+            folder = self.desk.make_folder()
+            file = write_desk_file(folder, file_of_records(DAY))
+            said = self.desk.environment_for(file, DESK_OUTPUT=" ".join(map(str, more)))
+            got = self.run_with_output(file, folder / "answers", env=said)
+            right, entered = ((0, b"day,24\n1,done\n", b""), [CLOSE]) if any(more) else ((1, b"", OWN_OUTPUT), [])
+            self.check_run(f"an output to a file whose device and number are {more} greater", got, *right)
+            self.counts.check(f"the desk's file, {more} before that", file.read_bytes() == file_of_records(DAY, *entered))
+
+    def run_with_output(self, path, output, mode="ab", **how):
+        """Runs the desk with its output to a file; that file's bytes are what it printed."""
+        with output.open(mode) as stdout:
+            ran = subprocess.run([*self.desk.words, str(path)], input=CLOSE, stdout=stdout, stderr=subprocess.PIPE, timeout=SECONDS, **how)
+        return Printed(ran.returncode, output.read_bytes(), ran.stderr)
 
     def check_full_journals(self):
         """A journal at its limit takes a close, and then nothing."""
