@@ -343,8 +343,9 @@ class FileTests:
         """A journal at its limit takes a close, and then nothing."""
         rng = random.Random("full")
         most = rules.MOST_RECORDS - 2
-        for about, records in [("orders", kills.draw_load(rng, most)), ("closes", [DAY] + [CLOSE] * most),
-                               ("long names", journals.draw_long_names(rng, most)),
+        _, *commands = kills.draw_load(rng, most)
+        each_day = [(f"orders on {periods} periods", [b"day,%d,,,,,,,\n" % periods, *commands]) for periods in rules.DAYS]
+        for about, records in [*each_day, ("closes", [DAY] + [CLOSE] * most), ("long names", journals.draw_long_names(rng, most)),
                                ("wide orders", journals.longest_records(most))]:  # fmt: skip
             self.check_full_journal(about, journals.Journal([*records, CLOSE], self.dam))
 
