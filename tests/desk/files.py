@@ -4,6 +4,7 @@ import contextlib
 import itertools
 import os
 import random
+import re
 import resource
 import select
 import socket
@@ -16,6 +17,7 @@ import streams
 from device import DESK, EVERY, INPUT, OUTPUT, SECONDS, STREAM, SYNC, WRITE, RefusedFileCalls
 from images import HEAD, MOST, is_at_rest, parse_marked_lines
 from journals import CLOSE, rules
+from shared.preload import HostileProgram
 from shared.printed import Printed
 
 DAY = b"day,24,,,,,,,\n"
@@ -31,8 +33,12 @@ READS = 70_000  # more than 16 bits count
 LINES = 300_000  # of an input that comes in by as many reads
 LENGTHS = [round(1.5**power) for power in range(1, 29)]  # of lines, up to one that is too long
 PATHS = (1_001, 1_024, 2_500, 4_000)  # bytes of long paths
-MEMORY = 256 << 20  # bytes of addresses, for the longest inputs
+MEMORY = 32 << 20  # bytes of addresses, for the longest inputs
 OTHER_FILES = [(0, 0, 1), (0, 0, 1 << 32), (0, 1, 0), (1, 0, 0)]  # how much greater their devices and numbers are than the desk's file's
+FEW_FAULTS, MANY_FAULTS = 40_000, 90_000  # lines that have the same fault, of more than one batch
+# A line for each fault that a line has after its day.
+LINES_BY_FAULT = {"NotAscii,7": b"cancel,\xff,,,,,,,\n", "NotOneRecord": b"\r\n", "FieldCount": b"cancel,A\n",
+                  "BadField,3": b"cancel,A,a,,,,,,\n", "OtherDay": b"day,25,,,,,,,\n"}  # fmt: skip
 USAGE = b"command line\nUsage: dam-desk "
 HELP = b"""\
 Usage: dam-desk FILE < COMMANDS
@@ -110,6 +116,7 @@ def check_files(counts, desk, dam, whole):
     files.check_many_reads()
     files.check_many_lines()
     files.check_hostile_lines(whole)
+    files.check_memory_of_faults()
     print(f"files: {counts.passed + counts.failed - before} checks; {time.monotonic() - begun:.1f} s", flush=True)
 
 
@@ -444,6 +451,24 @@ class FileTests:
             is_right = (got.status, got.stdout, got.stderr) == (0, right, b"") and file.read_bytes() == file_of_records(DAY)
             about = f"{about}: status {got.status}, {got.stderr[:80]!r}, {got.stdout[:60]!r}, {time.monotonic() - begun:.1f} s"
             self.counts.check(about, is_right)
+
+    def check_memory_of_faults(self):
+        """Many lines with a fault take no more memory than few: the answer to a line is given back, whichever fault it says."""
+        program = HostileProgram(self.desk.words[0], self.desk.room)
+        full = file_of_records(DAY, *[CLOSE] * (rules.MOST_RECORDS - 1))
+        after_day = [(word, file_of_records(DAY), line) for word, line in LINES_BY_FAULT.items()]
+        for word, before, line in [("NotDay", b"", CLOSE), ("JournalFull", full, CLOSE), *after_day]:
+            few, many = (self.run_for_peak_of_fault(program, word, before, line * count) for count in (FEW_FAULTS, MANY_FAULTS))
+            about = f"{MANY_FAULTS:,} lines with the fault {word} hold {many:,} bytes, and {FEW_FAULTS:,} of them {few:,}"
+            self.counts.check(about, many <= few)
+
+    def run_for_peak_of_fault(self, program, word, before, text):
+        """The most bytes that a desk holds while it answers lines with this fault."""
+        printed, peak, _ = program.run_for_peak([write_desk_file(self.desk.make_folder(), before)], text)
+        answered = len(re.findall(rb"^fault,\d+,%b$" % word.encode(), printed.stdout, re.MULTILINE))
+        is_right = (printed.status, printed.stderr, answered) == (0, b"", text.count(b"\n"))
+        self.counts.check(f"{answered:,} lines are answered with the fault {word}: {printed!r:.300}", is_right)
+        return peak
 
 
 def write_desk_file(folder, bytes_=b"x"):
