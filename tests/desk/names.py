@@ -1,4 +1,5 @@
-"""Names of orders that collide in a book's map under the fixed seed, in a new file, in one that is opened again, and in a printed journal.
+"""Names of orders that collide in a book's map under the fixed seed, in a new file, in one that is opened again, and in a printed journal,
+on each length of a day.
 
 A desk draws a seed of its own, so they take no more instructions than others, which valgrind counts. If a desk gets no random bytes for its
 seed, it takes the fixed one, and then they do: so the names collide. The others take about as many as were counted before, and so does a
@@ -22,10 +23,10 @@ SOME = 1_000  # of the names, on other days
 FIXED = RefusedCalls("random", first=3, error=errno.ENOSYS)  # a file draws twice before
 
 
-def run_new_again_and_journal(program, desk, records, refusal):
+def run_new_again_and_journal(program, desk, records, refusal, periods=24):
     """Yields the instructions of a desk with a new file that takes the records, with that file again, and for the file's journal."""
     file = desk.make_folder() / "day.desk"
-    for words, data in [([file], journal_text(records)), ([file], b""), (["--journal", file], b"")]:
+    for words, data in [([file], journal_text(records, True, periods)), ([file], b""), (["--journal", file], b"")]:
         yield run_for_instructions(program, words, data, refusal)
 
 
@@ -48,11 +49,10 @@ def check_names(counts, desk, dam, whole):
         check_and_print_millions(counts, f"other names {about} take", taken, millions)
     some = submits_of(run_for_colliding_names(desk.room, SOME))
     for periods in set(rules.DAYS) - {24}:
-        words, data = [desk.make_folder() / "day.desk"], journal_text(some, True, periods)
-        taken = run_for_instructions(program, words, data, DRAWN)
-        about = f"{SOME:,} names that collide, on {periods} periods, take"
-        took = f"{about} {taken / usual[0]:.1f} times the instructions of {records.ORDERS:,} others"
-        counts.check(took, taken < usual[0])
+        each = run_new_again_and_journal(program, desk, some, DRAWN, periods)
+        for about, taken, by_others in zip(ABOUT, each, usual):
+            took = f"{SOME:,} names that collide {about}, on {periods} periods, take {taken / by_others:.1f} times the instructions of"
+            counts.check(f"{took} {records.ORDERS:,} others", taken < by_others)
     full = run_for_instructions(program, [desk.make_folder() / "day.desk"], journal_text(records.full_journal()), DRAWN)
     check_and_print_millions(counts, "a full journal takes", full, FULL)
     took = f"with the fixed seed, they take {fixed.result() / usual[0]:.1f} times those"
