@@ -23,8 +23,7 @@ import math
 import random
 import sys
 
-from make_family import BLOCKS, HOURS, MOST_HOURLY, DayMarket, DrawnBook, parse_number_or_exit
-from make_journal import CLOSE, PARTICIPANTS, Order
+from generating import BLOCKS, CLOSE, HOURS, MOST_HOURLY, PARTICIPANTS, DayMarket, DrawnBook, Order, parse_number_or_exit
 
 HOURLY, MOST_THIN = 3_800, 1_500  # the usual number of hourly orders, and the greatest of a thin market
 MOST_SPREAD, MOST_SEED = 10_000, 1_000_000

@@ -12,34 +12,17 @@ links     deep families of linked blocks
 groups    exclusive groups of blocks
 ties      blocks that don't change the welfare, so that all selections are equally good"""
 
-import math
 import random
 import sys
-from typing import NamedTuple
 
-from make_journal import CLOSE, PARTICIPANTS, Order, draw_side
+from generating import BLOCKS, CLOSE, HOURS, MOST_HOURLY, PARTICIPANTS, DayMarket, DrawnBook, Order, parse_number_or_exit
 
-HOURS = 24
-BLOCKS, MOST_HOURLY = 24, 4_000  # the limits of a book
 SEED = 20_251_001
 MOST_THIN = 200  # hourly orders of a thin market
 
 
-class DayMarket:
-    """The periods of a day, of which each hour has `parts`, and the generator of its orders."""
-
-    def __init__(self, parts, rng):
-        self.parts, self.rng = parts, rng
-        self.count = HOURS * parts  # of periods
-
-    def price_at(self, period):
-        """The price around which the hourly orders of a period lie, in cents per MWh."""
-        hour = 1 + (period - 1) // self.parts
-        return round(6_000 + 2_500 * math.sin((hour - 7) * math.pi / 12))
-
-    def periods_of(self, first, last):
-        """The periods of these hours, without the last one."""
-        return range(1 + self.parts * (first - 1), 1 + self.parts * (last - 1))
+class FamilyMarket(DayMarket):
+    """A day, and the generator of blocks over spans of its hours."""
 
     def draw_span(self, least, most):
         length = self.rng.randint(least, most)
@@ -55,9 +38,6 @@ class DayMarket:
             periods, size = self.draw_span(*hours), self.rng.randint(*sizes)
             price = round(self.mean_price(periods) + above())
             yield block_of_alpha(number, side(), price, dict.fromkeys(periods, size))
-
-    def draw_side(self):
-        return draw_side(self.rng)
 
 
 def block_of_alpha(number, side, price, volumes):
@@ -118,18 +98,6 @@ DRAWS = draw_market, draw_paradox, draw_spread, draw_nearties, draw_links, draw_
 FAMILIES = {draw.__name__.removeprefix("draw_"): draw for draw in DRAWS}
 
 
-class DrawnBook(NamedTuple):
-    """A book with the most blocks: its name, the script and the arguments that print it, and those that print it without blocks."""
-
-    name: str
-    kind: str
-    script: str
-    words: list[str]
-    words_without_blocks: list[str]
-    is_thin: bool
-    note: str = ""  # a fact about the book that explains a long search
-
-
 def book_of_family(family, hourly, parts):
     name = f"{family} {hourly:,}, {HOURS * parts} periods"
     words = ([family, str(hourly), str(blocks), str(parts)] for blocks in (BLOCKS, 0))
@@ -141,14 +109,6 @@ BOOKS = [book_of_family(family, hourly, parts) for family in FAMILIES for hourly
 THIN = [book_of_family(family, MOST_THIN, parts) for family in ("links", "groups") for parts in (1, 4)]
 
 
-def parse_number_or_exit(name, word, allowed, of=""):
-    """A number on the command line, one of the allowed ones."""
-    if not (word.isascii() and word.isdecimal()) or int(word) not in allowed:
-        program, of = sys.argv[0].rpartition("/")[2], of or f"a number from 0 to {allowed[-1]}"
-        sys.exit(f"{program}: {name} is '{word}' and should be {of}")
-    return int(word)
-
-
 def main():
     words = sys.argv[1:]
     if not 2 <= len(words) <= 4 or words[0] not in FAMILIES:
@@ -156,7 +116,7 @@ def main():
     family, orders = words[0], parse_number_or_exit("HOURLY", words[1], range(MOST_HOURLY + 1))
     count = parse_number_or_exit("BLOCKS", words[2], range(BLOCKS + 1)) if len(words) > 2 else BLOCKS
     parts = parse_number_or_exit("PARTS", words[3], (1, 4), "1 or 4") if len(words) > 3 else 1
-    day = DayMarket(parts, random.Random(f"{SEED} {family} {orders}"))
+    day = FamilyMarket(parts, random.Random(f"{SEED} {family} {orders}"))
     order = flat_hourly if family == "ties" else draw_hourly
     volume = max(orders * 275 // day.count // 20, 10)  # a tenth of that of one side of a period
     print(f"day,{day.count},,,,,,,")

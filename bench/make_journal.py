@@ -6,35 +6,13 @@ journal gets. Every run with the same arguments prints the same bytes."""
 
 import random
 import sys
-from dataclasses import dataclass
+
+from generating import CLOSE, PARTICIPANTS, Order, draw_side
 
 RECORDS, PERIODS = 10_000, 24
-PARTICIPANTS = ["ALPHA", "BRAVO", "CHARLIE", "DELTA", "ECHO", "FOXTROT", "GOLF", "HOTEL"]
-DAY, CLOSE = f"day,{PERIODS},,,,,,,", "close,,,,,,,,"
+DAY = f"day,{PERIODS},,,,,,,"
 # Of a hundred commands, how many submit a new order and how many cancel one; the book refuses the rest.
 SUBMITS, CANCELS = 62, 33
-
-
-@dataclass
-class Order:
-    """An order, with its volume in each period. As text it is the record of its submit."""
-
-    who: str
-    name: str
-    kind: str
-    side: str
-    price: int
-    volumes: dict[int, int]
-    parent: str = ""
-    group: str = ""
-
-    def __str__(self):
-        pairs = ";".join(f"{period}:{volume}" for period, volume in self.volumes.items())
-        return f"submit,{self.who},{self.name},{self.kind},{self.side},{self.price},{pairs},{self.parent},{self.group}"
-
-
-def draw_side(rng):
-    return rng.choice(["buy", "sell"])
 
 
 def draw_hour_order(who, name, rng):

@@ -1,0 +1,73 @@
+"""What the generators share: orders, the market of a day, the books that they print, and the numbers of a command line."""
+
+import math
+import sys
+from dataclasses import dataclass
+from typing import NamedTuple
+
+HOURS = 24
+BLOCKS, MOST_HOURLY = 24, 4_000  # the limits of a book
+PARTICIPANTS = ["ALPHA", "BRAVO", "CHARLIE", "DELTA", "ECHO", "FOXTROT", "GOLF", "HOTEL"]
+CLOSE = "close,,,,,,,,"
+
+
+@dataclass
+class Order:
+    """An order, with its volume in each period. As text it is the record of its submit."""
+
+    who: str
+    name: str
+    kind: str
+    side: str
+    price: int
+    volumes: dict[int, int]
+    parent: str = ""
+    group: str = ""
+
+    def __str__(self):
+        pairs = ";".join(f"{period}:{volume}" for period, volume in self.volumes.items())
+        return f"submit,{self.who},{self.name},{self.kind},{self.side},{self.price},{pairs},{self.parent},{self.group}"
+
+
+def draw_side(rng):
+    return rng.choice(["buy", "sell"])
+
+
+class DayMarket:
+    """The periods of a day, of which each hour has `parts`, and the generator of its orders."""
+
+    def __init__(self, parts, rng):
+        self.parts, self.rng = parts, rng
+        self.count = HOURS * parts  # of periods
+
+    def price_at(self, period):
+        """The price around which the hourly orders of a period lie, in cents per MWh."""
+        hour = 1 + (period - 1) // self.parts
+        return round(6_000 + 2_500 * math.sin((hour - 7) * math.pi / 12))
+
+    def periods_of(self, first, last):
+        """The periods of these hours, without the last one."""
+        return range(1 + self.parts * (first - 1), 1 + self.parts * (last - 1))
+
+    def draw_side(self):
+        return draw_side(self.rng)
+
+
+class DrawnBook(NamedTuple):
+    """A book with the most blocks: its name, the script and the arguments that print it, and those that print it without blocks."""
+
+    name: str
+    kind: str
+    script: str
+    words: list[str]
+    words_without_blocks: list[str]
+    is_thin: bool
+    note: str = ""  # a fact about the book that explains a long search
+
+
+def parse_number_or_exit(name, word, allowed, of=""):
+    """A number on the command line, one of the allowed ones."""
+    if not (word.isascii() and word.isdecimal()) or int(word) not in allowed:
+        program, of = sys.argv[0].rpartition("/")[2], of or f"a number from 0 to {allowed[-1]}"
+        sys.exit(f"{program}: {name} is '{word}' and should be {of}")
+    return int(word)
