@@ -43,6 +43,7 @@ KINDS = ORDERS // len(VARIED)  # of a journal
 KINDS_TIMES = 2  # a journal takes less than 2 times the instructions of another: if those of a kind collided, 3.5 times or more
 LONG = "PARTICIP"
 WORKERS = {"clear": {2: 23, 3: 25, 4: 92, 8: 100}, "day": {2: 100, 3: 92, 4: 25, 8: 23}}  # and the length of the day
+OTHER_DAYS = (23, 25, 92, 100)  # the lengths on which a replay and the calls of the gate are tried besides
 AGAIN = 2_990  # the orders that are cancelled, each with a submit after it, so that all fit a journal of 10,000 records
 SEARCH_TIMES = 1.5  # and as many for a search by relaxed welfares, most of whose time goes to finding places among many steps
 REFUSED = 500  # the commands that are refused, each after an accepted one
@@ -73,22 +74,32 @@ def check_names(runs):
         runs.check(f"{about}: names that collide take {drawn:.1f} times the instructions of others", drawn < TIMES)
         runs.check(f"{about}, quarter-hours: names that collide take {long:.1f} times the instructions of others", long < TIMES)
         runs.check(f"{about}: with the fixed seed, names that collide take only {fixed:.1f} times those of others", fixed > TIMES)
-    check_names_by_plans(runs)
+    check_names_on_other_days(runs)
     check_seed_bytes(runs)
     check_letters(runs)
 
 
-def check_names_by_plans(runs):
+def runs_on_other_days(runs):
+    """Each engine and each call of the gate: its name, its program, its words, and the further words and the length of each day."""
+    for word, days in WORKERS.items():
+        yield word, runs.program, [word], [(["--workers", str(workers)], periods) for workers, periods in days.items()]
+    refusals = HostileProgram(REFUSALS, runs.program.room)
+    for about, program, words in [("replay", runs.program, ["replay"]), *((call, refusals, words) for call, words in GATES.items())]:
+        yield about, program, words, [([], periods) for periods in OTHER_DAYS]
+
+
+def check_names_on_other_days(runs):
     """Names that collide, with several workers and on other days, compared with others on the longest day."""
-    others, colliding = ordinary_names()[:SOME], run_for_colliding_names(runs.program.room, SOME, LONG)
-    for word in ("clear", "day"):
-        asked = [([word], 100, others)]
-        asked += [([word, "--workers", str(workers)], periods, colliding) for workers, periods in WORKERS[word].items()]
-        texts = [(words, journal_text(submits_of(names, LONG), word != "day", periods)) for words, periods, names in asked]
-        usual, *found = runs.pool.map(lambda it: run_for_instructions(runs.program, *it, DRAWN), texts)
-        for (words, periods, _), count in zip(asked[1:], found):
-            about = f"{' '.join(words)}, {periods} periods: names that collide take {count / usual:.1f} times the instructions of others"
-            runs.check(about, count < TIMES * usual)
+    others = submits_of(ordinary_names()[:SOME], LONG)
+    colliding = submits_of(run_for_colliding_names(runs.program.room, SOME, LONG), LONG)
+    for name, program, words, days in runs_on_other_days(runs):
+        texts = [(words, journal_text(others, words not in OPEN, 100))]
+        texts += [(words + more, journal_text(colliding, words not in OPEN, periods)) for more, periods in days]
+        usual, *found = runs.pool.map(lambda it, program=program: run_for_instructions(program, *it, DRAWN), texts)
+        for (more, periods), count in zip(days, found):
+            about = f"{' '.join([name, *more])}, {periods} periods"
+            took = f"{about}: names that collide take {count / usual:.1f} times the instructions of others"
+            runs.check(took, count < TIMES * usual)
 
 
 def check_seed_bytes(runs):
