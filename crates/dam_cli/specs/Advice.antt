@@ -1,10 +1,11 @@
 -- The text that a person at a terminal reads about a fault of the input, and about words that name a file or ask for
 -- the version.
-use Rattle.std.specs.Prelude.{◌≡◌, ◌≢◌, ◌≤◌, ◌+◌, ◌%◌, ◌==◌, ◌||◌, ℕ, ℤ, pos, Bool, true, false, not, List, [], ◌∷◌, ◌++◌, length, take, codes, decimal}
-use Rattle.std.specs.Prelude.{Option, None, Some, option_map, if◌then◌else◌}
+use Rattle.std.specs.Prelude.{◌≡◌, ◌≢◌, ◌≤◌, ◌+◌, ◌-◌, ◌*◌, ◌%◌, ◌==◌, ◌&&◌, ◌||◌, ℕ, ℤ, pos, nat_le, Bool, true, false, not, List, [], ◌∷◌, ◌++◌}
+use Rattle.std.specs.Prelude.{length, take, drop, codes, decimal, Option, None, Some, option_map, unwrap_or, if◌then◌else◌}
 use Rattle.std.specs.Fmt.{signed_decimal}
 use Rattle.std.specs.List.{list_any}
 use Rattle.std.specs.Str.{bytes_eq}
+use Rattle.dam_book.specs.Book.{is_day}
 use Rattle.dam_book.specs.Limits.{lowest_price, highest_price, greatest_volume, longest_name, longest_participant, most_entries}
 use Rattle.dam_results.specs.Limits.{most_bytes}
 use Rattle.dam_results.specs.declared.journal_reading.JournalFault.{JournalFault}
@@ -26,6 +27,26 @@ BeginsWithField field text = take 8 text ≡ codes "field " ++ ((48 + field) ∷
 abbrev pub NamesItsField : JournalFault → List ℕ → Type 0
 NamesItsField (BadField at field) rule = (at ≡ 1 → field ≡ 2) → 1 ≤ field → field ≤ 9 → BeginsWithField field rule
 NamesItsField fault rule = Unit {0}
+
+-- whether the byte is a decimal digit
+abbrev pub is_digit : ℕ → Bool
+is_digit byte = nat_le 48 byte && nat_le byte 57
+
+-- the number, if there is one
+abbrev pub this_number : Option ℕ → List ℕ
+this_number None = []
+this_number (Some number) = number ∷ []
+
+-- the numbers in a text, in its order. If a number stands right before the text, the text's first digits continue it
+abbrev pub numbers_after : Option ℕ → List ℕ → List ℕ
+numbers_after number [] = this_number number
+numbers_after number (byte ∷ rest) =
+    if is_digit byte then numbers_after (Some (10 * unwrap_or number 0 + (byte - 48))) rest
+    else this_number number ++ numbers_after None rest
+
+-- after the name of its field, the text has the numbers of periods that a day may have, and no other number
+abbrev pub ShowsDays : List ℕ → Type 0
+ShowsDays text = (periods : ℕ) → list_any (λ number. periods == number) (numbers_after None (drop 8 text)) ≡ is_day periods
 
 -- the rule shows these two as the least and the greatest allowed number
 abbrev pub ShowsRange : ℤ → ℤ → Rule → Type 0
@@ -54,12 +75,13 @@ abbrev pub ShowsLimitsOfField : ℕ → Rule → Type 0
 ShowsLimitsOfField field rule = (field ≡ 2 → HasNumber longest_participant rule) × (field ≡ 3 → HasNumber longest_name rule)
     × (field ≡ 6 → ShowsRange lowest_price highest_price rule) × (field ≡ 7 → ShowsRange (pos 1) (pos greatest_volume) rule)
 
--- for a journal that is too long, the rule has the most bytes or commands; for a bad field of a command's record, it shows
--- the limits of the field
+-- for a journal that is too long, the rule has the most bytes or commands; for field 2 of the day, it has the numbers of
+-- periods; for a bad field of a command's record, it shows the limits of the field
 abbrev pub ShowsItsLimits : JournalFault → Rule → Type 0
 ShowsItsLimits TooLong rule = HasNumber most_bytes rule
 ShowsItsLimits TooManyRecords rule = HasNumber most_entries rule
-ShowsItsLimits (BadField at field) rule = at ≢ 1 → ShowsLimitsOfField field rule
+ShowsItsLimits (BadField at field) rule =
+    (at ≡ 1 → field ≡ 2 → ShowsDays (rule_text rule)) × (at ≢ 1 → ShowsLimitsOfField field rule)
 ShowsItsLimits fault rule = Unit {0}
 
 -- whether a word asks for the version

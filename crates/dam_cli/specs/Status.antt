@@ -1,5 +1,6 @@
 -- The status that the program ends with.
-use Rattle.std.specs.Prelude.{◌≡◌, ◌⊎◌, ℕ, true, false, Result, Ok, Err}
+use Rattle.std.specs.Prelude.{◌≡◌, ◌⊎◌, ℕ, true, false, List, Result, Ok, Err}
+use Rattle.dam_line.specs.Line.{IsLineFault}
 use Rattle.dam_line.specs.declared.line.LineFault.{LineFault}
 use Rattle.dam_line.specs.declared.line.LineFault.TheVariants.{Refused, Memory}
 use Rattle.dam_engines.specs.declared.fault.RunFault.{RunFault}
@@ -21,6 +22,8 @@ abbrev pub IsNoHelp : LineFault → Type 0
 IsNoHelp (Refused help text) = help ≡ false
 IsNoHelp Memory = Unit {0}
 
--- a status for words that ask for no job
-abbrev pub IsEndedStatus : ℕ → Type 0
-IsEndedStatus status = (status ≡ 0) ⊎ ((status ≡ 2) ⊎ (status ≡ 4))
+-- the status of words that ask for no job, or for which memory ran out
+pub record IsUnasked (words : List (List ℕ)) (status : ℕ) : Type 0 where
+  pub fault : LineFault
+  pub words_are : IsLineFault words fault
+  pub status_is : IsLineStatus fault status

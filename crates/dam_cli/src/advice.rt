@@ -7,7 +7,7 @@ ghost use Rattle.std.specs.String.{string_bytes};
 ghost use Rattle.dam_results.specs.declared.journal_reading.JournalFault.{JournalFault};
 ghost use Rattle.dam_engines.specs.Fault.{fault_status, input_status};
 ghost use Rattle.dam_book.specs.Limits.{lowest_price, highest_price, greatest_volume, most_entries};
-ghost use Rattle.dam_cli.specs.Advice.{BeginsWithField, HasNumber, NamesItsField, ShowsItsLimits, ShowsLimitsOfField, ShowsRange, rule_text};
+ghost use Rattle.dam_cli.specs.Advice.{BeginsWithField, HasNumber, NamesItsField, ShowsDays, ShowsItsLimits, ShowsLimitsOfField, ShowsRange, rule_text};
 ghost use Rattle.dam_cli.specs.Advice.{command_and_file, first_file, has_number, is_command, is_option, is_version_word};
 
 use dam_book::{GREATEST_VOLUME, HIGHEST_PRICE, LOWEST_PRICE};
@@ -103,7 +103,8 @@ fn rule_of_journal(fault: JournalFault) -> Option<Rule>
 
 /// The rule of a field of the first record.
 fn rule_of_day(field: usize) -> &'static str
-    ensures { field ≡ 2 → BeginsWithField 2 result.now }
+    ensures field { field ≡ 2 → BeginsWithField 2 result.now }
+    ensures days { field ≡ 2 → ShowsDays result.now }
 {
     match field {
         2 => "field 2 of the day is its number of periods: 23, 24, 25, 92, 96 or 100",

@@ -8,12 +8,13 @@ mod advice;
 mod progress;
 mod run;
 
-ghost use Rattle.std.specs.Prelude.{◌≡◌, map, IfErr, IfOk};
+ghost use Rattle.std.specs.Prelude.{◌≡◌, false, map, IfErr, IfOk};
 ghost use Rattle.std.specs.Process.{exit_status};
 ghost use Rattle.std.specs.String.{string_bytes};
 ghost use Rattle.dam_engines.specs.Fault.{fault_status};
 ghost use Rattle.dam_line.specs.Line.{AsksFor};
-ghost use Rattle.dam_cli.specs.Status.{IsEndedStatus, IsLineStatus, IsNoHelp, run_status};
+ghost use Rattle.dam_cli.specs.Run.{EndsAsAsked};
+ghost use Rattle.dam_cli.specs.Status.{IsLineStatus, IsNoHelp, IsUnasked, run_status};
 
 use advice::{asks_version, command_and_file, rule_of};
 use dam_book::Seed;
@@ -23,9 +24,10 @@ use progress::Progress;
 use run::run_job;
 use std::alloc::Global;
 use std::env;
-use std::io::{ErrorKind, IsTerminal, Write};
+use std::io::{ErrorKind, IsTerminal, Read, Write};
 use std::process::ExitCode;
 use std::sync::Wait;
+use std::thread::Threads;
 use std::time::Clock;
 
 /// The status of a command line that is refused.
@@ -36,24 +38,33 @@ fn main(rt: HostRuntime) -> ExitCode {
         Ok(words) => words,
         Err(fault) => return print_help_or_refusal(&rt, &fault, &[]),
     };
-    let job = match read_job_or_print(&rt, words.as_slice()) {
+    let (mut input, mut output) = (Source::new(rt.stdin()), Sink::new(rt.stdout()));
+    run_words(&rt, &rt, words.as_slice(), &mut input, &mut output)
+}
+
+/// Runs the job that the words ask for, under its plan, from the reader to the writer, and returns the exit status. If they ask for
+/// none, prints the help or the refusal, and neither device is called. The handle starts threads and reads the clock.
+fn run_words<H: Threads + Wait + Sync + Eprint + Clock, R: Read, W: Write>(
+    rt: &HostRuntime,
+    handle: &H,
+    words: &[String],
+    reader: &mut Source<R>,
+    writer: &mut Sink<W>,
+) -> ExitCode
+    requires reads { reader.old.failed ≡ false }
+    requires writes { writer.old.failed ≡ false }
+    ensures { EndsAsAsked (map string_bytes words.now) reader.old reader.new writer.old writer.new
+        (exit_status result) }
+{
+    let job = match read_job_or_print(rt, words) {
         Ok(job) => job,
         Err(status) => return status,
     };
-    print_terminal_hint(&rt);
-    let progress = Progress::new(&rt, rt.stderr().is_terminal());
-    let (mut input, mut output) = (Source::new(rt.stdin()), Sink::new(rt.stdout()));
-    let seed = Seed::drawn(&rt);
-    let done = run_job(
-        &rt,
-        rt.alloc(),
-        seed,
-        job,
-        &mut input,
-        &mut output,
-        &progress,
-    );
-    print_end(&rt, &progress, done)
+    print_terminal_hint(rt);
+    let progress = Progress::new(handle, rt.stderr().is_terminal());
+    let seed = Seed::drawn(rt);
+    let done = run_job(handle, rt.alloc(), seed, job, reader, writer, &progress);
+    print_end(rt, &progress, done)
 }
 
 /// The exit status of a run that ended so. Prints the fault's line or, at a terminal, how many commands were refused.
@@ -76,7 +87,7 @@ fn print_end<R: Wait + Eprint + Clock>(
 /// The job that the words ask for. If they ask for none, prints the help or the refusal; the error is then the exit status.
 fn read_job_or_print(rt: &HostRuntime, words: &[String]) -> Result<Job, ExitCode>
     ensures job { IfOk result (AsksFor (map string_bytes words.now)) }
-    ensures ended { IfErr result (λ status. IsEndedStatus (exit_status status)) }
+    ensures ended { IfErr result (λ status. IsUnasked (map string_bytes words.now) (exit_status status)) }
 {
     match read_job(rt.alloc(), words) {
         Ok(job) => Ok(job),
