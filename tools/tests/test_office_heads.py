@@ -108,6 +108,7 @@ class SignedHeads(Office):
                     self.assertEqual(await given.submit("GAS", 1, commands("cancel,GAS,A,,,,,,")), [1])  # which is entered
                 await self.until(lambda: given.is_healthy)
                 self.assertEqual(await given.submit("GAS", 2, commands("cancel,GAS,B,,,,,,")), [2])
+                await self.until(lambda: given.newest.written is given.newest.head)
                 with full:
                     await given.submit("GAS", 3, commands("cancel,GAS,C,,,,,,"))
                     await self.until(lambda: not given.is_healthy)
