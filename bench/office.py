@@ -27,7 +27,7 @@ WHOLE_DAY = 199  # and on the whole day
 class ServedPlain(ServedOffice):
     """The plain office, next to which a folder and tokens are made as for the office."""
 
-    is_ready = ServedOffice.listens
+    is_ready = ServedOffice.is_listening
 
     def start_process(self):
         words = [sys.executable, "-B", HERE / "plain" / "office.py", f"{self.room.name}/rows", str(self.port)]
