@@ -14,6 +14,7 @@ of a few milliseconds."""
 import make_blocks
 import make_family
 from clearing import MOST_OF_BEFORE, MOST_OF_DEEP, BooksTogether, parse_kinds_or_exit, write_book
+from figures import Figures
 from running import TWIN, prepare_enumeration
 
 DEFAULT = ["2", "3"]  # the default plan: workers, and how many of the first blocks are cut
@@ -21,20 +22,21 @@ MOST = {"before": MOST_OF_BEFORE, "the twin": 2, "enumeration": 0.1}  # times as
 MOST_TOGETHER = {"alone": 12, "before": 1}
 
 
-def measure_book(drawn):
+def measure_book(figures, drawn):
     book = write_book("blocks", drawn)
     twin = {"the twin": [TWIN, *DEFAULT]} if drawn in make_family.BOOKS else {}
     book.time_or_exit({**twin, "enumeration": prepare_enumeration(book.path)})
-    book.record_clear(MOST_OF_DEEP, MOST)
-    book.run_and_record_peers()
+    book.record_clear(figures, MOST_OF_DEEP, MOST)
+    book.run_and_record_peers(figures)
     return book
 
 
 def main():
+    figures = Figures("out/blocks.tsv")
     drawn = [*make_blocks.BOOKS, *make_family.BOOKS]
     kinds = parse_kinds_or_exit(drawn)
-    books = [measure_book(each) for each in drawn if each.kind in kinds]
-    BooksTogether("deep books", books).record_sums(MOST_OF_DEEP, MOST_TOGETHER)
+    books = [measure_book(figures, each) for each in drawn if each.kind in kinds]
+    BooksTogether("deep books", books).record_sums(figures, MOST_OF_DEEP, MOST_TOGETHER)
 
 
 if __name__ == "__main__":

@@ -10,7 +10,7 @@ program that takes longer than 1 s isn't run again."""
 import statistics
 import sys
 
-from figures import multiple_text, record_at_most, record_figure, record_ratio, seconds_text
+from figures import multiple_text, seconds_text
 from running import BEFORE, DAM, LIMIT, PEER_LIMIT, run_in_turns, run_to_file
 
 MOST_OF_DEEP = 0.15  # seconds
@@ -82,23 +82,23 @@ class TimedBook:
         """None if the program didn't end, or wasn't run."""
         return statistics.median(self.walls[name]) if self.walls.get(name) else None
 
-    def record_clear(self, most, others):
+    def record_clear(self, figures, most, others):
         """Prints the seconds of `dam clear`, which may be `most`, and how many times as long as other programs it takes; `others` has how
         many times that may be."""
         median, target = self.median_seconds("dam"), f"at most {seconds_text(most)}"
         if median is None:
-            record_figure(self.label, f"> {LIMIT:g} s", target, False)
+            figures.record(self.label, f"> {LIMIT:g} s", target, False)
             return
-        record_figure(self.label, seconds_text(median), target, median <= most)
+        figures.record(self.label, seconds_text(median), target, median <= most)
         for name, most_times in others.items():
             what = f"{self.label} compared with {OTHERS.get(name, name)}"
             if self.walls.get(name):
                 note = self.drawn.note if name == "enumeration" else ""
-                record_ratio(what, self.walls["dam"], self.walls[name], most_times, note=note)
+                figures.record_ratio(what, self.walls["dam"], self.walls[name], most_times, note=note)
             elif name in self.walls:
-                record_figure(what, "?", detail=f"it didn't end in {LIMIT:g} s")
+                figures.record(what, "?", detail=f"it didn't end in {LIMIT:g} s")
 
-    def run_and_record_peers(self):
+    def run_and_record_peers(self, figures):
         """Runs `dam clear` and its peers by turns, and prints how many times as long each takes. The details have the time that the blocks
         add to `dam clear`, which is nearer to that of a solver, since the rest reads and prints."""
         if not self.walls.get("dam"):
@@ -111,13 +111,13 @@ class TimedBook:
             found, why = answer_of_peer(runs[peer][0] if runs[peer] else None)
             if found is None:
                 is_slow = why.startswith("gave up") and PEER_LIMIT >= LEAST_OF_PEER * statistics.median(walls["dam"])
-                record_figure(what, "?", f"at least {multiple_text(LEAST_OF_PEER)}" if is_slow else "", is_slow or None, f"it {why}")
+                figures.record(what, "?", f"at least {multiple_text(LEAST_OF_PEER)}" if is_slow else "", is_slow or None, f"it {why}")
             elif found > welfare:
-                record_figure(what, "?", f"welfare {welfare}", False, f"it finds {found}")
+                figures.record(what, "?", f"welfare {welfare}", False, f"it finds {found}")
             else:
                 note = f"; it finds less welfare, {found} of {welfare}" if found < welfare else ""
                 lasted = [each.reported_seconds(peer) for each in runs[peer]]
-                record_ratio(what, lasted, walls["dam"], least=LEAST_OF_PEER, note=f"the blocks add {seconds_text(added)}{note}")
+                figures.record_ratio(what, lasted, walls["dam"], least=LEAST_OF_PEER, note=f"the blocks add {seconds_text(added)}{note}")
 
 
 class BooksTogether:
@@ -129,28 +129,29 @@ class BooksTogether:
     def seconds_of(self, books, name):
         return [LIMIT if book.median_seconds(name) is None else book.median_seconds(name) for book in books]
 
-    def record_sums(self, most, others):
+    def record_sums(self, figures, most, others):
         """Prints the sum of the seconds of `dam clear` and the slowest book, which may take `most`, and compares the sum with those of
         other programs; `others` has how many times as long it may be."""
         if not self.books:
             return
         lasted = self.seconds_of(self.books, "dam")
         slowest = max(range(len(lasted)), key=lasted.__getitem__)
-        record_figure(f"{self.name}: dam clear", seconds_text(sum(lasted)), detail=f"{len(lasted)} books")
-        record_at_most(f"{self.name}: dam clear, the slowest", lasted[slowest], most, detail=self.books[slowest].name)
+        figures.record(f"{self.name}: dam clear", seconds_text(sum(lasted)), detail=f"{len(lasted)} books")
+        figures.record_at_most(f"{self.name}: dam clear, the slowest", lasted[slowest], most, detail=self.books[slowest].name)
         for name, most_times in others.items():
             run_on = self.books_with(name)
             if run_on:
                 ours, theirs = (sum(self.seconds_of(run_on, each)) for each in ("dam", name))
                 late = sum(book.median_seconds(name) is None for book in run_on)
                 note = f"{late} of {len(run_on)} didn't end in {LIMIT:g} s" if late else ""
-                record_ratio(f"{self.name}: dam clear compared with {OTHERS.get(name, name)}", [ours], [theirs], most_times, note=note)
+                what = f"{self.name}: dam clear compared with {OTHERS.get(name, name)}"
+                figures.record_ratio(what, [ours], [theirs], most_times, note=note)
 
     def books_with(self, name):
         """The books on which a program was run."""
         return [book for book in self.books if name in book.walls]
 
-    def record_slower(self, one_in):
+    def record_slower(self, figures, one_in):
         """Prints how many books take longer than by the program before, of which there may be one in `one_in`."""
         books = self.books_with("before")
         pairs = zip(books, self.seconds_of(books, "dam"), self.seconds_of(books, "before"))
@@ -158,4 +159,4 @@ class BooksTogether:
         if books:
             most = len(books) // one_in
             what = f"{self.name}: books slower than by the program before"
-            record_figure(what, f"{len(slower)} of {len(books)}", f"at most {most}", len(slower) <= most, "; ".join(slower))
+            figures.record(what, f"{len(slower)} of {len(books)}", f"at most {most}", len(slower) <= most, "; ".join(slower))

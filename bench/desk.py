@@ -18,7 +18,7 @@ import time
 from concurrent.futures import ThreadPoolExecutor
 from pathlib import Path
 
-from figures import MIB, PER_SECOND, record_at_most, record_ratio, record_times
+from figures import MIB, PER_SECOND, Figures
 from running import DAM, DESK, call_in_turns, run_for_peak_memory, run_or_exit, run_to_file
 
 sys.path.insert(0, str(Path(__file__).resolve().parent.parent / "tests" / "desk"))
@@ -50,27 +50,28 @@ def run_with_replay(desk):
     return call_in_turns({"desk": desk, "replay": lambda _: run_or_exit([DAM, "replay"], JOURNAL)}, TURNS, seconds=30).values()
 
 
-def record_writing(folder):
+def record_writing(figures, folder):
     desk, replay = run_with_replay(lambda _: run_or_exit([DESK, empty_folder_for_desk(folder)], JOURNAL))
     if desk[0].text != replay[0].text:
         sys.exit("the desk and dam replay print different texts")
-    record_times("dam replay compared with a desk in memory, 10,000 records", replay, desk, least=0.5)
+    figures.record_times("dam replay compared with a desk in memory, 10,000 records", replay, desk, least=0.5)
 
 
-def record_opening(folder, medium):
+def record_opening(figures, folder, medium):
     file = empty_folder_for_desk(folder)
     run_or_exit([DESK, file], JOURNAL)
-    record_times(f"opening 10,000 records {medium} compared with dam replay", *run_with_replay(lambda _: run_or_exit([DESK, file])), 2)
+    runs = run_with_replay(lambda _: run_or_exit([DESK, file]))
+    figures.record_times(f"opening 10,000 records {medium} compared with dam replay", *runs, 2)
 
 
-def record_rates(folder):
+def record_rates(figures, folder):
     for size, least in TARGETS.items():
         batches = read_batches(size)
         count = sum(batch.count(b"\n") for batch in batches)
         programs = {"desk": lambda _: count / time_desk(folder, batches), "sqlite": lambda _: count / time_sqlite(folder, size)}
         rates = call_in_turns(programs, DISK_TURNS, seconds=60)
         what = f"records that a desk keeps compared with sqlite3, batches of {size:,}"
-        record_ratio(what, rates["desk"], rates["sqlite"], least=least, shown=PER_SECOND)
+        figures.record_ratio(what, rates["desk"], rates["sqlite"], least=least, shown=PER_SECOND)
 
 
 def time_desk(folder, batches):
@@ -121,25 +122,26 @@ def time_sqlite(folder, size):
         return time.perf_counter() - begun
 
 
-def record_memory(folder):
+def record_memory(figures, folder):
     run_to_file(BLOCKS, "./make_journal.py", "blocks")
     for about, journal in [("10,000 records", JOURNAL), ("10,000 blocks of 100 volumes", BLOCKS)]:
         replay = run_for_peak_memory([DAM, "replay"], journal)
         file = empty_folder_for_desk(folder)
         for what, given in [("a desk", journal), ("an opening", os.devnull)]:
-            more = run_for_peak_memory([DESK, file], given) - replay
-            record_at_most(f"memory of {what} above dam replay's, {about}", more, 10, shown=MIB, detail=f"dam replay has {MIB(replay)}")
+            more, detail = run_for_peak_memory([DESK, file], given) - replay, f"dam replay has {MIB(replay)}"
+            figures.record_at_most(f"memory of {what} above dam replay's, {about}", more, 10, shown=MIB, detail=detail)
 
 
 def main():
+    figures = Figures("out/desk.tsv")
     in_memory = MEMORY if os.path.isdir(MEMORY) else "out"
     with tempfile.TemporaryDirectory(dir=in_memory, prefix="desk-") as folder:
-        record_writing(folder)
-        record_opening(folder, "in memory")
-        record_memory(folder)
+        record_writing(figures, folder)
+        record_opening(figures, folder, "in memory")
+        record_memory(figures, folder)
     with tempfile.TemporaryDirectory(dir="out", prefix="desk-") as folder:
-        record_opening(folder, "on disk")
-        record_rates(folder)
+        record_opening(figures, folder, "on disk")
+        record_rates(figures, folder)
 
 
 if __name__ == "__main__":

@@ -10,7 +10,7 @@ import sys
 
 import make_blocks
 import make_family
-from figures import record_figure
+from figures import Figures
 from running import TWIN, run_or_exit, run_to_file
 
 BLOCKS = (8, 12, 16, 20, 24)
@@ -30,12 +30,12 @@ def run_twin_for_nodes(family, periods, blocks):
     return searched and int(searched.text.split()[-1])
 
 
-def record_nodes(family, periods, counts):
+def record_nodes(figures, family, periods, counts):
     """Prints the nodes of a family's books: those of the greatest, and in the details the others."""
     *smaller, most = ("?" if nodes is None else f"{nodes:,}" for nodes in counts)
     holds = counts[-1] is not None and counts[-1] <= MOST
     detail = "; ".join(f"{nodes} with {blocks}" for blocks, nodes in zip(BLOCKS, smaller))
-    record_figure(f"{family}, {periods} periods: nodes with {BLOCKS[-1]} blocks", most, f"at most {MOST:,}", holds, detail)
+    figures.record(f"{family}, {periods} periods: nodes with {BLOCKS[-1]} blocks", most, f"at most {MOST:,}", holds, detail)
 
 
 def write_picture(nodes):
@@ -64,11 +64,12 @@ def write_picture(nodes):
 
 
 def main():
+    figures = Figures("out/growth.tsv")
     nodes = {}
     for family in FAMILIES:
         for periods in PERIODS:
             nodes[family, periods] = [run_twin_for_nodes(family, periods, blocks) for blocks in BLOCKS]
-            record_nodes(family, periods, nodes[family, periods])
+            record_nodes(figures, family, periods, nodes[family, periods])
     write_picture(nodes)
 
 

@@ -6,7 +6,7 @@ The plain program looks at a version through a lock-free pointer, and copies its
 
 import statistics
 
-from figures import record_at_most, record_ratio, seconds_text
+from figures import Figures, seconds_text
 from running import MEASURES, run_in_turns, run_to_file
 
 PLAIN = "out/looks"
@@ -19,22 +19,23 @@ def time_measures_and_plain(words, repeats, book, most):
     return ([one.reported_seconds(words[0]) / repeats for one in runs[name]] for name in ("one", "other"))
 
 
-def record_looks():
+def record_looks(figures):
     for others in (0, 1, 3):
         found = time_measures_and_plain(["looks", str(others), str(LOOKS)], LOOKS, "out/hourly.csv", most=9)
-        record_ratio(f"a look compared with a plain one, while {others} threads call and look", *found, 3)
+        figures.record_ratio(f"a look compared with a plain one, while {others} threads call and look", *found, 3)
 
 
-def record_calls():
+def record_calls(figures):
     for orders in (100, 1_000, 4_000):
         book = run_to_file(f"out/hourly-{orders}.csv", "./make_family.py", "market", str(orders), "0")
         one, other = map(statistics.median, time_measures_and_plain(["calls", str(CALLS)], CALLS, book, most=5))
-        record_at_most(f"a call, {orders:,} orders held", one, 150e-6, detail=f"a plain one {seconds_text(other)}")
+        figures.record_at_most(f"a call, {orders:,} orders held", one, 150e-6, detail=f"a plain one {seconds_text(other)}")
 
 
 def main():
-    record_looks()
-    record_calls()
+    figures = Figures("out/looks.tsv")
+    record_looks(figures)
+    record_calls(figures)
 
 
 if __name__ == "__main__":

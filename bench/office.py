@@ -10,7 +10,7 @@ import subprocess
 import sys
 from pathlib import Path
 
-from figures import PER_SECOND, record_at_most, record_figure, record_ratio
+from figures import PER_SECOND, Figures
 from running import DAM, DESK, call_in_turns
 
 HERE = Path(__file__).resolve().parent
@@ -47,33 +47,34 @@ def serve_and_load(kind):
         return run_load(office, COMMANDS)
 
 
-def record_comparison():
+def record_comparison(figures):
     loads_by_name = {"ours": lambda _: serve_and_load(ServedOffice), "theirs": lambda _: serve_and_load(ServedPlain)}
     found = call_in_turns(loads_by_name, TURNS, math.inf)
     (our_rates, our_times), (their_rates, their_times) = (zip(*results) for results in found.values())
     what = f"an office compared with a plain one, {CONNECTIONS} connections"
-    record_ratio(f"{what}, commands a second", our_rates, their_rates, least=1, shown=PER_SECOND)
-    record_ratio(f"{what}, time of a command", our_times, their_times, most=1)
+    figures.record_ratio(f"{what}, commands a second", our_rates, their_rates, least=1, shown=PER_SECOND)
+    figures.record_ratio(f"{what}, time of a command", our_times, their_times, most=1)
 
 
-def record_whole_day():
+def record_whole_day(figures):
     commands = CONNECTIONS * WHOLE_DAY
     with office_for_test(DAM, DESK, count=CONNECTIONS) as office:
         office.start()
         rate, _ = run_load(office, WHOLE_DAY)
         what = f"commands that an office takes, {commands:,} of a day"
-        record_figure(what, PER_SECOND(rate), f"at least {PER_SECOND(1_000)}", rate >= 1_000)
+        figures.record(what, PER_SECOND(rate), f"at least {PER_SECOND(1_000)}", rate >= 1_000)
         office.kill("office", "desk")
-        record_at_most(f"a start of an office after a crash, {commands:,} entries", office.start(), 1.0)
-        record_at_most(f"from the close to the results, {commands:,} entries", office.close_day(), 2.0)
+        figures.record_at_most(f"a start of an office after a crash, {commands:,} entries", office.start(), 1.0)
+        figures.record_at_most(f"from the close to the results, {commands:,} entries", office.close_day(), 2.0)
 
 
 def main():
+    figures = Figures("out/office.tsv")
     if not all(map(modules.has_module, ("aiohttp", "cryptography", "jinja2"))):
-        record_figure("the office: python3-aiohttp, python3-cryptography or python3-jinja2 is missing", "")
+        figures.record("the office: python3-aiohttp, python3-cryptography or python3-jinja2 is missing", "")
         return
-    record_comparison()
-    record_whole_day()
+    record_comparison(figures)
+    record_whole_day(figures)
 
 
 if __name__ == "__main__":

@@ -7,7 +7,7 @@ win back. The size of a program's environment moves its stack, and with that the
 at another place."""
 
 import make_family
-from figures import record_ratio
+from figures import Figures
 from make_blocks import book_of_kind
 from running import LIMIT, MEASURES, run_in_turns, run_to_file
 
@@ -30,25 +30,27 @@ def run_searches(plans, book, most):
     return {plan: [each.reported_seconds("search") for each in found] or [LIMIT] for plan, found in runs.items()}
 
 
-def record_speed(name, book):
+def record_speed(figures, name, book):
     found = run_searches([(workers, CUT) for workers in ("1", *LEAST)], book, most=8)
     for workers, least in LEAST.items():
-        record_ratio(f"{name}, cut {CUT}: the rate of {workers} workers compared with 1", found["1", CUT], found[workers, CUT], least=least)
+        what = f"{name}, cut {CUT}: the rate of {workers} workers compared with 1"
+        figures.record_ratio(what, found["1", CUT], found[workers, CUT], least=least)
 
 
-def record_default(name, book):
+def record_default(figures, name, book):
     found = run_searches([DEFAULT, ONE], book, most=32)
-    record_ratio(f"{name}: the search by the default plan compared with 1 worker", found[DEFAULT], found[ONE], 1)
+    figures.record_ratio(f"{name}: the search by the default plan compared with 1 worker", found[DEFAULT], found[ONE], 1)
 
 
 def main():
+    figures = Figures("out/workers.tsv")
     for drawn in LONG:
         name, book = drawn.name, run_to_file(f"out/workers-{'-'.join(drawn.words)}.csv", drawn.script, *drawn.words)
-        record_speed(name, book)
-        record_default(name, book)
+        record_speed(figures, name, book)
+        record_default(figures, name, book)
     for family in make_family.FAMILIES:
         for orders in ORDERS:
-            record_default(f"{family} {orders}", run_to_file(f"out/{family}-{orders}.csv", "./make_family.py", family, orders))
+            record_default(figures, f"{family} {orders}", run_to_file(f"out/{family}-{orders}.csv", "./make_family.py", family, orders))
 
 
 if __name__ == "__main__":

@@ -9,14 +9,13 @@ import sys
 import tempfile
 import types
 import unittest
-import unittest.mock
 from pathlib import Path
 
 from support import TOP, worked
 
 sys.path.insert(0, str(TOP / "bench"))
 import clearing
-import figures
+from figures import Figures
 from lib.tool import modules
 
 PEER, THIN = TOP / "bench" / "peer.py", worked.read_named("thin")
@@ -35,19 +34,19 @@ class Together(unittest.TestCase):
         """The lines that are printed and kept, each as a list of its fields."""
         with tempfile.TemporaryDirectory() as folder, contextlib.redirect_stdout(io.StringIO()):
             kept = Path(folder, "kept.tsv")
-            with unittest.mock.patch.object(figures, "FIGURES", kept):
-                show()
+            show(Figures(kept))
             return [line.split("\t") for line in kept.read_text().splitlines()]
 
     def test_a_missed_multiple_has_no_equal_figure(self):
         """And one that holds has two digits."""
         for value, shown in ((0.1734, ["0.173 x", "at most 0.167 x", "MISSED"]), (0.1634, ["0.16 x", "at most 0.17 x", "holds"])):
-            ((_, *fields, _),) = self.printed(lambda value=value: figures.record_ratio("a sum", [value], [1], 1 / 6))
+            ((_, *fields, _),) = self.printed(lambda figures, value=value: figures.record_ratio("a sum", [value], [1], 1 / 6))
             self.assertEqual(fields, shown)
 
     def test_sums_and_the_slowest(self):
         books = [Timed("a", dam=[1.0, 3.0, 2.0], before=[8.0]), Timed("b", dam=[4.0], before=[4.0]), Timed("c", dam=[0.5])]
-        lines = self.printed(lambda: clearing.BooksTogether("three", books).record_sums(3.0, {"before": 0.6, "enumeration": 1}))
+        most = {"before": 0.6, "enumeration": 1}
+        lines = self.printed(lambda figures: clearing.BooksTogether("three", books).record_sums(figures, 3.0, most))
         self.assertEqual(
             lines,
             [
@@ -59,7 +58,7 @@ class Together(unittest.TestCase):
 
     def test_a_run_that_did_not_end_counts_as_the_limit(self):
         books = [Timed("a", dam=[1.0], before=[]), Timed("b", dam=[], before=[1.0])]
-        lines = self.printed(lambda: clearing.BooksTogether("two", books).record_sums(60, {"before": 2}))
+        lines = self.printed(lambda figures: clearing.BooksTogether("two", books).record_sums(figures, 60, {"before": 2}))
         slowest, compared = ["60 s", "at most 60 s", "holds"], ["1.00 x", "at most 2.00 x", "holds"]
         self.assertEqual([line[1:4] for line in lines], [["61 s", "", ""], slowest, compared])
         self.assertIn("1 of 2 didn't end in 60 s", lines[-1][4])
@@ -67,7 +66,7 @@ class Together(unittest.TestCase):
     def test_books_slower_than_before(self):
         books = [Timed(str(number), dam=[1.0], before=[2.0]) for number in range(39)] + [Timed("slow", dam=[3.0], before=[2.0])]
         for part, verdict in (20, "holds"), (41, "MISSED"):
-            (line,) = self.printed(lambda: clearing.BooksTogether("forty", books).record_slower(part))
+            (line,) = self.printed(lambda figures: clearing.BooksTogether("forty", books).record_slower(figures, part))
             self.assertEqual(line[1:], ["1 of 40", f"at most {40 // part}", verdict, "slow 1.50 x"])
 
 
