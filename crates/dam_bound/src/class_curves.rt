@@ -134,8 +134,8 @@ impl<A: Allocator, B: Allocator> ClassCurves<'_, A, B> {
         if total < least { None } else { Some(total) }
     }
 
-    /// Whether an accepted block, together with the accepted blocks that descend from it, loses at these prices of the
-    /// selection, which `clear_selection` wrote. Takes no memory.
+    /// Whether an accepted block, together with the accepted blocks that descend from it and may rescue it, loses at
+    /// these prices of the selection, which `clear_selection` wrote. Takes no memory.
     pub fn has_loss(&self, selection: Selection, prices: &ClassPrices) -> bool
         requires { AreClassPrices self.now selection prices.now.prices }
         ensures { (day : List ℤ)
@@ -151,7 +151,8 @@ impl<A: Allocator, B: Allocator> ClassCurves<'_, A, B> {
         false
     }
 
-    /// The gain of the block at the place at these prices, with the accepted blocks that descend from it.
+    /// The gain of the block at the place at these prices, with the accepted blocks that descend from it: if it is below
+    /// 0, they don't rescue the block.
     fn family_gain(&self, selection: Selection, place: usize, prices: &ClassPrices) -> i64
         requires place { place < length self.now.blocks }
         requires prices { AreClassPrices self.now selection prices.now.prices }

@@ -16,7 +16,7 @@ use Rattle.dam_book.specs.declared.command.Command.{Command}
 use Rattle.dam_book.specs.declared.command.Command.TheVariants.{Submit, Amend, Cancel, Close}
 use Rattle.dam_book.specs.declared.command.Entry.{Entry}
 use Rattle.dam_book.specs.Book.{BookState, empty_book, book_after, commands_of, IsLegalFrom, IsLegalHistory}
-use Rattle.dam_gate.specs.Pass.{AccountState, Knowledge, knowing_nothing, IsAccount, AreInOrder, holders, new_pass, is_from, is_close}
+use Rattle.dam_gate.specs.Pass.{AccountState, Knowledge, knowing_nothing, IsAccount, AreInOrder, holders, new_account, is_from, is_close}
 use Rattle.dam_gate.specs.Settled.{numbered, receipts_of}
 use Rattle.dam_book.specs.Command.{giver}
 use Rattle.dam_gate.specs.Day.{commands_by, is_one_of, AreTaken, IsDayFault, givers_from, givers_of, with_any, with_giver, IsDayRun}
@@ -535,7 +535,7 @@ all-entered cs places p has as_long =
 abbrev pub IsServed : List Command → List ℕ → AccountState → Type 0
 IsServed given who p = (commands_of p.receipts ≡ commands_by who given) × IsAccount p
 
-served : (given : List Command) (who : List ℕ) (places : List ℕ) (before p : AccountState) → before ≡ new_pass (Some who)
+served : (given : List Command) (who : List ℕ) (places : List ℕ) (before p : AccountState) → before ≡ new_account (Some who)
     → commands_at given places ≡ commands_by who given → Enters (commands_at given places) before p → HasAll places p → IsServed given who p
 served given who places before p new mine enters all =
     let entered : HasEntered [] (commands_at given places) p =
@@ -562,23 +562,23 @@ served-from given [] (p ∷ ps) same are = absurd (omega (arith, same))
 served-from given (who ∷ participants) [] same are = absurd (omega (arith, same))
 
 new_at : (participants : List (List ℕ)) (i : ℕ) (d : AccountState) (w : List ℕ) → i < length participants
-    → get_or (map (λ (who : List ℕ). new_pass (Some who)) participants) i d ≡ new_pass (Some (get_or participants i w))
+    → get_or (map (λ (who : List ℕ). new_account (Some who)) participants) i d ≡ new_account (Some (get_or participants i w))
 new_at [] i d w within = absurd (omega (arith, within))
 new_at (who ∷ participants) zero d w within = refl
 new_at (who ∷ participants) (suc i) d w within = new_at participants i d w (omega (arith, within))
 
 pub served-all : (given : List Command) (participants : List (List ℕ)) (all_places : List (List ℕ)) (olds news : List AccountState)
     → AreAllPlaces given given participants all_places
-    → olds ≡ map (λ (who : List ℕ). new_pass (Some who)) participants → length news ≡ length olds
+    → olds ≡ map (λ (who : List ℕ). new_account (Some who)) participants → length news ≡ length olds
     → ((i : ℕ) (d : AccountState) → i < length olds → Enters (commands_at given (places_of all_places i)) (get_or olds i d) (get_or news i d))
     → ((i : ℕ) (d : AccountState) → i < length news → HasAll (places_of all_places i) (get_or news i d))
     → AreServed given participants news
 served-all given participants all_places olds news are new_ones as_long enters all =
     let many : length olds ≡ length participants = ap (λ (ps : List AccountState). length ps) new_ones
-    ∙ length-map participants (λ (who : List ℕ). new_pass (Some who)) in
+    ∙ length-map participants (λ (who : List ℕ). new_account (Some who)) in
     served-from given participants news (as_long ∙ many)
     (λ i d w within.
-    let at : get_or olds i d ≡ new_pass (Some (get_or participants i w)) =
+    let at : get_or olds i d ≡ new_account (Some (get_or participants i w)) =
     ap (λ (ps : List AccountState). get_or ps i d) new_ones ∙ new_at participants i d w (omega (arith, within, as_long, many)) in
     let mine = places-of-one given given participants all_places i w are (omega (arith, within, as_long, many)) in
     served given (get_or participants i w) (places_of all_places i) (get_or olds i d) (get_or news i d) at mine
@@ -596,15 +596,15 @@ held-from (who ∷ participants) [] same are = absurd (omega (arith, same))
 
 -- the passes stay in the order in which they were made
 pub held-all : (own : ℕ → List Command) (participants : List (List ℕ)) (olds news : List AccountState)
-    → olds ≡ map (λ (who : List ℕ). new_pass (Some who)) participants → length news ≡ length olds
+    → olds ≡ map (λ (who : List ℕ). new_account (Some who)) participants → length news ≡ length olds
     → ((i : ℕ) (d : AccountState) → i < length olds → Enters (own i) (get_or olds i d) (get_or news i d))
     → holders news ≡ map (λ (who : List ℕ). Some who) participants
 held-all own participants olds news new_ones as_long enters =
     let many : length olds ≡ length participants = ap (λ (ps : List AccountState). length ps) new_ones
-    ∙ length-map participants (λ (who : List ℕ). new_pass (Some who)) in
+    ∙ length-map participants (λ (who : List ℕ). new_account (Some who)) in
     held-from participants news (as_long ∙ many)
     (λ i d w within.
-    let at : get_or olds i d ≡ new_pass (Some (get_or participants i w)) =
+    let at : get_or olds i d ≡ new_account (Some (get_or participants i w)) =
     ap (λ (ps : List AccountState). get_or ps i d) new_ones ∙ new_at participants i d w (omega (arith, within, as_long, many)) in
     (enters i d (omega (arith, within, as_long))).holder ∙ ap (λ (p : AccountState). p.holder) at)
 
@@ -614,9 +614,9 @@ abbrev pub accounts : List Knowledge → List AccountState
 accounts ks = map (λ (k : Knowledge). k.account) ks
 
 pub new-accounts : (participants : List (List ℕ)) → accounts (map (λ (who : List ℕ). knowing_nothing (Some who)) participants) ≡ map
-    (λ (who : List ℕ). new_pass (Some who)) participants
+    (λ (who : List ℕ). new_account (Some who)) participants
 new-accounts [] = refl
-new-accounts (who ∷ participants) = ap (λ (ps : List AccountState). new_pass (Some who) ∷ ps) (new-accounts participants)
+new-accounts (who ∷ participants) = ap (λ (ps : List AccountState). new_account (Some who) ∷ ps) (new-accounts participants)
 
 pub accounts-enter : (own : ℕ → List Command) (olds news : List Knowledge) → length news ≡ length olds
     → ((i : ℕ) (d : Knowledge) → i < length olds → Enters (own i) (get_or olds i d).account (get_or news i d).account)

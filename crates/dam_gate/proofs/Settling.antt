@@ -13,7 +13,7 @@ use Rattle.dam_book.specs.Book.{BookState, book_after, empty_book, commands_of}
 use Rattle.dam_gate.specs.Journal.{JournalState, IsJournal, journal_after, next_entry}
 use Rattle.dam_gate.specs.Day.{day_holders, givers_of}
 use Rattle.dam_gate.specs.Pass.{Knowledge, AccountState, AreInOrder, AreOwn, IsKnowledge, StandIn, after_learning, holders, is_own, is_from}
-use Rattle.dam_gate.specs.Pass.{is_close, knowing_nothing, new_pass, with_receipt}
+use Rattle.dam_gate.specs.Pass.{is_close, knowing_nothing, new_account, with_receipt}
 use Rattle.dam_gate.specs.Settled.{numbered, receipts_of, IsSettled}
 use Rattle.dam_gate.specs.inside.Tally.{AreReceipts}
 use Rattle.dam_gate.specs.inside.Entering.{AreApart, AreServed, IsClosedByOperator}
@@ -211,7 +211,7 @@ counted given participants ks before op j passes parts most amount closed is jou
     let b = empty_book j.book.periods in
     let legal = journal.history.legal in
     let last : es ≡ earlier.entries ++ e ∷ [] = ap (λ (x : JournalState). x.entries) closed.closed in
-    let new : op ≡ with_receipt (new_pass None) e =
+    let new : op ≡ with_receipt (new_account None) e =
     closed.receipt ∙ ap (λ (k : Knowledge). with_receipt k.account e) is in
     let receipts : op.receipts ≡ e ∷ [] = ap (λ (p : AccountState). p.receipts) new in
     let nobody : op.holder ≡ None = ap (λ (p : AccountState). p.holder) new in

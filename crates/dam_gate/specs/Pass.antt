@@ -42,25 +42,25 @@ AreOwn holder [] = Unit {0}
 AreOwn holder (e ∷ es) =
     (is_own holder e.command ≡ true) × (is_journal_full (e.number - 1) e.command ≡ false) × AreOwn holder es
 
--- the invariant of a pass: the numbers of its receipts increase, and are at most the number that it has seen; each is
+-- the invariant of an account: the numbers of its receipts increase, and are at most the number that it has seen; each is
 -- for a command that its holder may give and that found room
 pub record IsAccount (p : AccountState) : Type 0 where
   pub in_order : AreInOrder 0 p.seen p.receipts
   pub own : AreOwn p.holder p.receipts
 
--- who holds each of these passes
+-- who holds each of these accounts
 abbrev pub holders : List AccountState → List (Option (List ℕ))
-holders passes = map (λ (p : AccountState). p.holder) passes
+holders accounts = map (λ (p : AccountState). p.holder) accounts
 
--- the pass of a holder who has seen nothing and has no receipt
-abbrev pub new_pass : Option (List ℕ) → AccountState
-new_pass holder = record { holder = holder; seen = 0; receipts = [] }
+-- the account of a holder who has seen nothing and has no receipt
+abbrev pub new_account : Option (List ℕ) → AccountState
+new_account holder = record { holder = holder; seen = 0; receipts = [] }
 
--- the pass after a call that was answered with the entry
+-- the account after a call that was answered with the entry
 abbrev pub with_receipt : AccountState → Entry → AccountState
 with_receipt p e = record { holder = p.holder; seen = e.number; receipts = p.receipts ++ e ∷ [] }
 
--- the pass after a look at `seen` entries
+-- the account after a look at `seen` entries
 abbrev pub having_seen : AccountState → ℕ → AccountState
 having_seen p seen = record { holder = p.holder; seen = seen; receipts = p.receipts }
 
@@ -74,7 +74,7 @@ pub record Knowledge : Type 0 where
 
 -- the knowledge of a new pass
 abbrev pub knowing_nothing : Option (List ℕ) → Knowledge
-knowing_nothing holder = record { account = new_pass holder; history = []; learnt = []; note = None }
+knowing_nothing holder = record { account = new_account holder; history = []; learnt = []; note = None }
 
 -- after a call that was answered with the entry, which ended this history
 abbrev pub after_call : Knowledge → List Entry → Entry → Knowledge
