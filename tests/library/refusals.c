@@ -1,7 +1,7 @@
-/* refusals replay|clear FILE: calls the library with memory that is counted. First with each request for memory refused in turn: the
- * status is 4, the answer is the line that says that memory ran out, and every block is given back. Then 10,000 times, and no block is
- * left. The blocks of a small day, such as examples/first-day.csv, never have more than MOST_HELD bytes at once: the program holds 15 KB.
- * The last line is 'N passed, M failed'. */
+/* refusals CALL NODES MOST FILE..: calls the library with the text of each file and with memory that is counted. CALL is replay, clear, or
+ * one of these with `_seeded`, and NODES the limit of a search. First with each request for memory refused in turn: the status is 4, the
+ * answer is the line that says that memory ran out, and every block is given back. Then 10,000 times, with the texts in turn: each has the
+ * status that it had first, and no block is left. No more than MOST bytes are held at once. The last line is 'N passed, M failed'. */
 #include "dam.h"
 
 #include <malloc.h>
@@ -10,7 +10,7 @@
 #include <stdlib.h>
 #include <string.h>
 
-enum { MOST_TEXT = 1 << 20, ROOM = 1 << 20, CALLS = 10000, MOST_HELD = 1 << 17 };
+enum { MOST_TEXT = 1 << 11, MOST_TEXTS = 256, ROOM = 1 << 20, CALLS = 10000 };
 
 static long left = -1; /* requests until one is refused; none if it is negative */
 static long asked, live;
@@ -65,53 +65,91 @@ void rattle_dealloc(void *at) {
     free(at);
 }
 
-static uint8_t text[MOST_TEXT], buffer[ROOM];
-static size_t length;
-static bool replays;
+struct text {
+    uint8_t bytes[MOST_TEXT];
+    size_t length;
+    uint8_t status; /* of the first call */
+};
 
-static struct dam_answer call(void) {
-    return replays ? dam_replay(text, length, buffer, sizeof buffer) : dam_clear(text, length, DAM_MOST_NODES, buffer, sizeof buffer);
+static struct text texts[MOST_TEXTS];
+static uint8_t secret[16] = {1}, buffer[ROOM];
+static uint32_t nodes;
+static const char *name; /* of the call */
+static long passed, failed;
+
+static struct dam_answer call(const struct text *text) {
+    const uint8_t *bytes = text->bytes;
+    size_t length = text->length;
+    if (strcmp(name, "replay") == 0) {
+        return dam_replay(bytes, length, buffer, sizeof buffer);
+    }
+    if (strcmp(name, "replay_seeded") == 0) {
+        return dam_replay_seeded(secret, sizeof secret, bytes, length, buffer, sizeof buffer);
+    }
+    if (strcmp(name, "clear") == 0) {
+        return dam_clear(bytes, length, nodes, buffer, sizeof buffer);
+    }
+    return dam_clear_seeded(secret, sizeof secret, bytes, length, nodes, buffer, sizeof buffer);
 }
 
 static bool is_out_of_memory(struct dam_answer answer) {
     return answer.status == 4 && answer.length == 7 && memcmp(buffer, "memory\n", 7) == 0;
 }
 
-int main(int count, char **words) {
-    FILE *file = count == 3 ? fopen(words[2], "rb") : NULL;
-    if (file == NULL) {
-        return 2;
-    }
-    length = fread(text, 1, sizeof text, file);
-    fclose(file);
-    replays = strcmp(words[1], "replay") == 0;
-    long passed = 0, failed = 0;
-    bool is_right = call().status == 0 && live == 0;
-    passed += is_right;
-    failed += !is_right;
-    long requests = asked;
-    for (long number = 0; number < requests; number++) {
-        left = number;
-        is_right = is_out_of_memory(call()) && live == 0;
-        passed += is_right;
-        failed += !is_right;
-        if (!is_right) {
-            printf("request %ld refused: wrong\n", number);
-        }
-    }
-    left = -1;
-    is_right = true;
-    for (int number = 0; number < CALLS; number++) {
-        is_right &= call().status == 0 && live == 0;
-    }
-    passed += is_right;
-    failed += !is_right;
-    is_right = most_held != 0 && most_held <= MOST_HELD;
+/* Counts a check, and prints a failed one: what it is about, and the number of the text, the call or the bytes. */
+static void check(bool is_right, const char *about, size_t number) {
     passed += is_right;
     failed += !is_right;
     if (!is_right) {
-        printf("%zu bytes were held at once, at most %d expected\n", most_held, MOST_HELD);
+        printf("%s %zu: wrong\n", about, number);
     }
+}
+
+/* Whether the file's text was read whole. */
+static bool is_read(struct text *text, const char *path) {
+    FILE *file = fopen(path, "rb");
+    if (file == NULL) {
+        return false;
+    }
+    text->length = fread(text->bytes, 1, sizeof text->bytes, file);
+    return fclose(file) == 0 && text->length < sizeof text->bytes;
+}
+
+/* Calls with the text of this number: first with memory, and then with each request for it refused. */
+static void check_refusals(size_t number) {
+    struct text *text = &texts[number];
+    asked = live = 0;
+    text->status = call(text).status;
+    check(text->status != 4 && live == 0, "text", number);
+    for (long requests = asked, refused = 0; refused < requests; refused++) {
+        left = refused;
+        live = 0;
+        check(is_out_of_memory(call(text)) && live == 0, "a request refused for text", number);
+    }
+    left = -1;
+}
+
+int main(int count, char **words) {
+    size_t given = count > 4 ? (size_t)count - 4 : 0;
+    if (given == 0 || given > MOST_TEXTS) {
+        return 2;
+    }
+    name = words[1];
+    nodes = (uint32_t)strtoul(words[2], NULL, 10);
+    for (size_t number = 0; number < given; number++) {
+        if (!is_read(&texts[number], words[4 + number])) {
+            return 2;
+        }
+        check_refusals(number);
+    }
+    live = 0;
+    bool is_right = true;
+    for (size_t number = 0; number < CALLS; number++) {
+        const struct text *text = &texts[number % given];
+        is_right &= call(text).status == text->status && live == 0;
+    }
+    check(is_right, "calls", CALLS);
+    check(most_held != 0 && most_held <= strtoul(words[3], NULL, 10), "the bytes that were held at once", most_held);
     printf("%ld passed, %ld failed\n", passed, failed);
     return failed != 0;
 }
