@@ -108,9 +108,10 @@ class Requests(unittest.TestCase):
 
     def test_tables(self):
         table = b"participant,order,kind,side,price_eur_mwh,periods,volume_mw\nGAS,A,hour,buy,12.50,8,30\n"
-        self.assertEqual(requests.parse_table_records(table, "GAS", 24), (["submit,GAS,A,hour,buy,1250,8:300,,"], []))
+        self.assertEqual(requests.parse_table_records_and_notes(table, "GAS", 24), (["submit,GAS,A,hour,buy,1250,8:300,,"], []))
         changes = b"what,participant,order,price_eur_mwh,periods,volume_mw\namend,GAS,A,12.50,8-9,30\ncancel,GAS,B,,,\n"
-        self.assertEqual(requests.parse_table_records(changes, "GAS", 24)[0], ["amend,GAS,A,,,1250,8:300;9:300,,", "cancel,GAS,B,,,,,,"])
+        records, _ = requests.parse_table_records_and_notes(changes, "GAS", 24)
+        self.assertEqual(records, ["amend,GAS,A,,,1250,8:300;9:300,,", "cancel,GAS,B,,,,,,"])
         for data, words in (
             (table.replace(b"GAS", b"OIL"), "1 command of other participants than GAS: the first one is for A of OIL$"),
             (table[: table.index(b"GAS")], "^the table has no order below its first line$"),
@@ -121,7 +122,7 @@ class Requests(unittest.TestCase):
             (b"\xd0\xcf\x11\xe0\xa1\xb1\x1a\xe1" + "EncryptedPackage".encode("utf-16-le"), "password: save it without the password$"),
         ):
             with self.assertRaisesRegex(requests.BadRequest, words):
-                requests.parse_table_records(data, "GAS", 24)
+                requests.parse_table_records_and_notes(data, "GAS", 24)
 
     def test_only_the_first_faults_of_a_table_are_told(self):
         """However many it has, the answer is short."""
@@ -133,13 +134,13 @@ class Requests(unittest.TestCase):
             (heads.replace(",group", f"{',' * 4_001}group") + "\n" + ",".join(["x"] * 4_010), 4_000),
         ):
             with self.subTest(data=data[:80], count=count), self.assertRaises(requests.BadRequest) as caught:
-                requests.parse_table_records(data.encode(), "GAS", 24)
+                requests.parse_table_records_and_notes(data.encode(), "GAS", 24)
             lines = str(caught.exception).split("\n")
             self.assertEqual((len(lines), lines[-1]), (21, f"and {count - 20} more"))
 
     def test_a_table_links_to_orders_in_the_book(self):
         row = "participant,order,kind,side,price_eur_mwh,periods,volume_mw,parent\nGAS,KID%d,block,sell,50,15-16,5,BASE\n"
-        read = lambda *orders: requests.parse_table_records((row % 2).encode(), "GAS", 24, orders)[0]
+        read = lambda *orders: requests.parse_table_records_and_notes((row % 2).encode(), "GAS", 24, orders)[0]
         self.assertEqual(read(("BASE", "block")), ["submit,GAS,KID2,block,sell,5000,15:50;16:50,BASE,"])
         for orders, words in (
             ([], "line 2, column parent: you have no order BASE, neither in the book nor in a line above"),
@@ -152,13 +153,13 @@ class Requests(unittest.TestCase):
 
     def test_a_table_is_read_in_a_process_of_its_own(self):
         table = b"participant,order,kind,side,price_eur_mwh,periods,volume_mw\nGAS,A,block,buy,12.50,%d,30\n"
-        read = lambda data, periods=24: asyncio.run(reader.run_for_table_records(data, "GAS", periods))
+        read = lambda data, periods=24: asyncio.run(reader.run_for_table_records_and_notes(data, "GAS", periods))
         self.assertEqual(read(table % 8), (["submit,GAS,A,block,buy,1250,8:300,,"], []))
         self.assertEqual(read(table % 100, 100)[0], ["submit,GAS,A,block,buy,1250,100:300,,"])
         with self.assertRaisesRegex(requests.BadRequest, "there is no period 100$"):
             read(table % 100, 96)
         child = (table % 8).replace(b"mw\n", b"mw,parent\n").replace(b",30\n", b",30,BASE\n")
-        linked = asyncio.run(reader.run_for_table_records(child, "GAS", 24, [("BASE", "block")]))
+        linked = asyncio.run(reader.run_for_table_records_and_notes(child, "GAS", 24, [("BASE", "block")]))
         self.assertEqual(linked, (["submit,GAS,A,block,buy,1250,8:300,BASE,"], []))
         with self.assertRaisesRegex(requests.BadRequest, "you have no order BASE, neither in the book nor in a line above$"):
             read(child)

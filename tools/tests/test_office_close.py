@@ -245,7 +245,7 @@ class Closing(Office):
             self.assertEqual(touch_and_read_states(), ("closed", "closed"))
             given.files.path_of(folder.RESULTS).write_bytes(b"")
             self.assertEqual(touch_and_read_states(), ("results", "results"))
-            self.assertIn("published", operate.write_publish_request(None, DAY, given.files))
+            operate.write_publish_request(DAY, given.files)
             self.assertEqual(touch_and_read_states(), ("published", "published"))
             task.cancel()
             await asyncio.gather(task, return_exceptions=True)
@@ -270,10 +270,10 @@ class Closing(Office):
             ):
                 if served:
                     with self.assertRaises(command.Stop) as caught:
-                        operate.close_and_wait(self.office, DAY, files)
+                        operate.close_and_wait_for_results(self.office, DAY, files)
                     self.assertEqual(caught.exception.status, command.UNDECIDED)
                 else:
-                    self.assertIn("once the office is served", operate.close_and_wait(self.office, DAY, files))
+                    self.assertFalse(operate.close_and_wait_for_results(self.office, DAY, files))
             self.assertEqual(len(said), len(words))
             for line, part in zip(said, words):
                 self.assertIn(part, line)

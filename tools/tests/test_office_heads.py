@@ -129,7 +129,7 @@ class SignedHeads(Office):
                 self.assertEqual(found["days"][0]["state"], "stopped")
                 self.assertRegex(list(operate.status_lines(found))[2], "^  stopped: LostEntries: the desk's journal has 2 entries")
                 with self.assertRaisesRegex(command.Stop, f"^{DAY} is stopped, and wasn't closed: LostEntries"):
-                    operate.close_and_wait(self.office, DAY, given.files)
+                    operate.close_and_wait_for_results(self.office, DAY, given.files)
             self.assertFalse(given.files.has(folder.CLOSE_NOW))
             self.assertEqual(operate.read_status(self.office, "dam-desk")["days"][0]["state"], "open")
         disk.records.append(self.RECORDS[-1])

@@ -341,6 +341,17 @@ class Setup(Office):
         self.assertEqual(run_tool("office", "close", self.office.path, "--"), (command.DONE, said, ""))
         self.assertTrue(day.has(folder.CLOSE_NOW))
 
+    def test_the_words_on_a_day_with_results(self):
+        self.write_and_read_participants("participant\nGAS\n")
+        run_tool("office", "init", self.office.path, "--day", "2099-11-29", "--close", "12:00", "--participants", self.table)
+        (day,) = self.office.list_days().values()
+        day.path_of(folder.RESULTS).touch()
+        for name, said in (
+            ("close", b"2099-11-29 is closed, and has its results\n"),
+            ("publish", b"the journal, the results and the replies of 2099-11-29 are published\n"),
+        ):
+            self.assertEqual(run_tool("office", name, self.office.path), (command.DONE, said, ""))
+
     def test_the_members_of_each_record_are_described(self):
         (self.office.path.parent / "p.csv").write_text("participant\nGAS\n")
         words = ["--day", "2099-11-28", "--close", "12:00", "--participants", self.office.path.parent / "p.csv"]

@@ -134,7 +134,7 @@ class Tokens(Office):
         content = argparse.Namespace(is_eof=lambda: True)
         asked = argparse.Namespace(headers=headers, match_info={"who": "GAS", "day": DAY}, content=content)
         asked.transport, asked.read = content, mock.AsyncMock(return_value=b"x")
-        with mock.patch.object(reader, "run_for_table_records", read):
+        with mock.patch.object(reader, "run_for_table_records_and_notes", read):
             answer = await made.answer_table(asked)
         self.assertEqual(json.loads(answer.text)["notes"], [])
         self.assertLess(made.budgets.reads.tokens_left("GAS"), budgets.MOST_READS - budgets.READS_OF_TABLE - 150)

@@ -921,7 +921,7 @@ class Long(unittest.TestCase):
             return changes.book_with_commands(held, changes.parse_changes(data, 96)[0]).rows["GAS", "B"].volumes[::95]
 
         def entered():
-            return [line.rpartition(":")[2] for line in requests.parse_table_records(data, "GAS", 96)[0]][::2_999]
+            return [line.rpartition(":")[2] for line in requests.parse_table_records_and_notes(data, "GAS", 96)[0]][::2_999]
 
         for call, wanted in ((amended, ((1, 3_000), (96, 3_000))), (entered, ["1,,", "3000,,"])):
             tracemalloc.start()

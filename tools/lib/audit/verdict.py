@@ -73,13 +73,14 @@ class Audit:
             self.is_signed, self.wrong, self.last = False, [Fault(str(fault), "head")], f"{WRONG}: {fault}"
             return
         if options.sent is not None:
-            self.compare_sent_commands(read, reasons, closed, signed.proof_words if options.receipts is not None else sent.no_proof_words)
+            proof_words = sent.no_proof_words if options.receipts is None else signed.proof_words
+            self.compare_sent_commands_and_note(read, reasons, closed, proof_words)
         if signed is not None:
-            self.compare_with_signed(signed)
+            self.compare_with_signed_and_note(signed)
         if options.replies:
-            self.compare_replies(read.periods, reasons, published)
+            self.check_replies_and_note(read.periods, reasons, published)
         elif published is not None:
-            self.judge_results(closed, reasons, published)
+            self.check_results_and_note(closed, reasons, published)
 
     @property
     def status(self):
@@ -135,7 +136,7 @@ class Audit:
             self.odd.append(Fault("the journal of the day isn't in its written form, but has the same commands", "encoding"))
         return read
 
-    def compare_replies(self, periods, reasons, published):
+    def check_replies_and_note(self, periods, reasons, published):
         self.checked.append("replies")
         data, odd = encodings.plain_text_and_faults(published)
         self.odd += odd
@@ -145,7 +146,7 @@ class Audit:
             return
         self.right.append(f"as the rules say: {text.counted(len(reasons), 'reply', 'replies')}{sent.refused_words(reasons)}")
 
-    def judge_results(self, closed, reasons, published):
+    def check_results_and_note(self, closed, reasons, published):
         self.checked.append("results")
         data, odd = encodings.plain_text_and_faults(published)
         self.odd += odd
@@ -160,7 +161,7 @@ class Audit:
         if wrong:
             self.last = unmade_checks_line(said is not None, self.options.best)
             return
-        how = self.look_for_better(problem, said) if self.options.best else None
+        how = self.look_for_better_and_note(problem, said) if self.options.best else None
         if self.search is None or self.search["better"] is None:
             others = f"; no selection is better: {how}" if how else NOT_CHECKED if problem.blocks else ""
             self.right.append(right_line(problem, said, reasons) + others)
@@ -168,7 +169,7 @@ class Audit:
             if self.options.sent is not None:
                 self.right += lines_of_participant(data, self.options.participant)
 
-    def look_for_better(self, problem, said):
+    def look_for_better_and_note(self, problem, said):
         """Looks for a better selection than the one of right results, and says how."""
         options = self.options
         by, whole = options.by or better.ENUMERATION, 2 ** len(problem.blocks)
@@ -188,7 +189,7 @@ class Audit:
             self.search["better"] = [str(problem.blocks[place]) for place in sorted(found.accepted)]
         return how
 
-    def compare_sent_commands(self, read, reasons, closed, proof_words):
+    def compare_sent_commands_and_note(self, read, reasons, closed, proof_words):
         """Compares a participant's sent commands with the journal. If the journal lacks a command, `proof_words` says what receipts
         show."""
         options = self.options
@@ -232,7 +233,7 @@ class Audit:
         signed.odd += odd
         return signed
 
-    def compare_with_signed(self, signed):
+    def compare_with_signed_and_note(self, signed):
         """Compares the journal and its replies with the head that the operator signed, with earlier heads, and with receipts."""
         options = self.options
         self.checked += ["head", "receipts"] if options.receipts is not None else ["head"]

@@ -88,14 +88,15 @@ def write_request(files, name):
         folder.give_to_owner_of(files.path_of(name), files.path)
 
 
-def close_and_wait(office, day, files):
-    """Closes a day now. If the office runs, waits for the results. A stopped day isn't closed: its journal may lack entries."""
+def close_and_wait_for_results(office, day, files):
+    """Closes a day now. If the office runs, waits for the results. Returns whether there are results. A stopped day isn't closed: its
+    journal may lack entries."""
     is_served = office.is_served()
     if is_served and files.has(folder.STOPPED_DAY):
         raise command.Stop(f"{day} is stopped, and wasn't closed: {read_stop_reason(files)}")
     write_request(files, folder.CLOSE_NOW)
     if not is_served and not files.has(folder.RESULTS):
-        return f"{day} will be closed once the office is served"
+        return False
     began, told, tell_at = time.monotonic(), None, TELL_SECONDS
     while not files.has(folder.RESULTS):
         waited = time.monotonic() - began
@@ -108,7 +109,7 @@ def close_and_wait(office, day, files):
                 command.print_note("office", words)
             told = words
         time.sleep(STEP)
-    return f"{day} is closed, and has its results"
+    return True
 
 
 def find_why_waiting(day, files):
@@ -121,12 +122,11 @@ def find_why_waiting(day, files):
     return f"{day} has no {missing} yet: the office's log says why"
 
 
-def write_publish_request(office, day, files):
-    """Publishes the results of all orders, the journal and the replies of a day that has results."""
+def write_publish_request(day, files):
+    """Leaves the request to publish the results of all orders, the journal and the replies of a day, which should have results."""
     if not files.has(folder.RESULTS):
         raise command.Stop(f"{day} has no results yet, and is published after them")
     write_request(files, folder.OPEN_JOURNAL)
-    return f"the journal, the results and the replies of {day} are published"
 
 
 def require_and_change_token(office, who, call):

@@ -29,7 +29,7 @@ class BadRequest(Exception):
 def parse_commands(body, kind, who, first=1):
     """The commands of a body, of which the first one has this number."""
     if kind == JSON:
-        body = parse_json_records(body, who, first)
+        body = "".join(f"{record}\n" for record in parse_json_records(body, who, first)).encode()
     elif kind != RECORDS:
         raise BadRequest(f"the type of the content should be {RECORDS} or {JSON}")
     try:
@@ -79,7 +79,7 @@ def parse_json_records(body, who, first):
     commands = value if isinstance(value, list) else [value]
     if len(commands) > MOST_COMMANDS:
         raise BadRequest(f"there are more than {MOST_COMMANDS:,} commands")
-    return "".join(f"{parse_json_record(found, who, place_words(place, first))}\n" for place, found in enumerate(commands, 1)).encode()
+    return [parse_json_record(command, who, place_words(place, first)) for place, command in enumerate(commands, 1)]
 
 
 def parse_json_record(value, who, command):
@@ -119,7 +119,7 @@ def require_volumes(value, command):
     return ";".join(":".join(require_number(part, command, "a volume") for part in pair) for pair in value)
 
 
-def parse_table_records(data, who, periods, orders=()):
+def parse_table_records_and_notes(data, who, periods, orders=()):
     """The records of a table of orders or of commands of this participant, whose orders in the book are pairs of a name and a kind; and
     notes on how it was read. Nothing is entered."""
     kind = kinds.kind_of(data)

@@ -19,7 +19,7 @@ MOST_MEMORY = 1 << 29  # bytes of addresses; a workbook of 1 MiB takes a tenth
 NICENESS = 10
 
 
-async def run_for_table_records(data, who, periods, orders=()):
+async def run_for_table_records_and_notes(data, who, periods, orders=()):
     """The records that a table makes of a participant whose orders in the book are pairs of a name and a kind; and notes on how it was
     read."""
     given = json.dumps(list(orders)).encode() + b"\n" + data
@@ -39,7 +39,7 @@ def limit_and_print_records(who, periods):
     resource.setrlimit(resource.RLIMIT_CPU, (MOST_SECONDS, MOST_SECONDS))
     orders = json.loads(sys.stdin.buffer.readline())
     try:
-        records, notes = requests.parse_table_records(sys.stdin.buffer.read(), who, int(periods), orders)
+        records, notes = requests.parse_table_records_and_notes(sys.stdin.buffer.read(), who, int(periods), orders)
         made = {"records": records, "notes": notes}
     except requests.BadRequest as fault:
         made = {"wrong": str(fault)}

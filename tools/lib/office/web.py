@@ -223,7 +223,7 @@ class Web:
                 if request.transport is None:  # the client is gone
                     raise ConnectionResetError
                 orders = [(name, order.kind) for name, order in writer.ledger.orders(who)]
-                records, notes = await tables.run_for_table_records(body, who, writer.terms.periods, orders)
+                records, notes = await tables.run_for_table_records_and_notes(body, who, writer.terms.periods, orders)
         finally:
             self.reading.discard(who)
         return self.charge_and_answer(who, json.dumps({"records": records, "notes": notes}))
