@@ -25,7 +25,7 @@ IN_PYTHON = """
 import dam_tools, json, sys
 text = open(sys.argv[1]).read()
 day = dam_tools.clear(text)
-print(json.dumps([*dam_tools.where(), day.said.welfare, day.wrong]))
+print(json.dumps([*dam_tools.where(), day.published.welfare, day.wrong]))
 """
 SECONDS = 1_800
 ENTRIES = 94  # the orders of the demo, GAS's own one and the close

@@ -151,7 +151,7 @@ def printed(read: Journal, words: list[Any], timeout: float | None) -> bytes:
 class LateDay(Day):
     """A day of `clear_many`, whose results are read, and checked against the journal, when anything but its `text` is first asked for."""
 
-    PARTS = frozenset(["journal", "book", "reasons", "problem", "said", "odd", "wrong", "outcome"])
+    PARTS = frozenset(["journal", "book", "reasons", "problem", "published", "odd", "wrong", "outcome"])
 
     def __init__(self, source: JournalSource, text: bytes) -> None:
         self.source, self.text = source, text

@@ -145,13 +145,13 @@ class Audited(verdict.Audit):
         self.inputs.append({"role": role})
         return self.sources[role]
 
-    def look_for_better_and_note(self, problem: selection.Problem, said: object) -> object:
+    def look_for_better_and_note(self, problem: selection.Problem, published: object) -> object:
         """As the tool does it, but a missing package is a fault: a program isn't started again with another Python."""
         by_highs = self.options.by == better.HIGHS
         module = "scipy" if by_highs else "numpy"
         if (by_highs or len(problem.blocks) > best_of.ENUMERABLE) and not modules.has_module(module):
             raise command.Stop(modules.missing_message(module), command.FAILED)
-        return super().look_for_better_and_note(problem, said)
+        return super().look_for_better_and_note(problem, published)
 
 
 def audit(

@@ -20,7 +20,7 @@ PERIODS = [line for number in (1, 2, 3) for line in (
 def told(data, accepted):
     """The kind and the words of each block."""
     day = day_of(data, results_of(data, frozenset(accepted)))
-    found = decisions.decisions(day.problem, day.said.accepted, day.outcome)
+    found = decisions.decisions(day.problem, day.published.accepted, day.outcome)
     return [(decision.kind, decision.why) for decision in found]
 
 
@@ -89,7 +89,7 @@ class Hand(unittest.TestCase):
         )
         self.assertEqual(best_of(data), frozenset())
         day = day_of(data, results_of(data, frozenset()))
-        found = decisions.decisions(day.problem, day.said.accepted, day.outcome)
+        found = decisions.decisions(day.problem, day.published.accepted, day.outcome)
         self.assertEqual([(one.kind, one.family.members) for one in found], [(decisions.PARADOX, frozenset(range(3)))] * 3)
 
     def test_a_rival_whose_exchange_orphans_a_child(self):
@@ -226,7 +226,7 @@ class Hand(unittest.TestCase):
 
     def test_the_auction_day(self):
         day = day_of(AUCTION.read_bytes(), read_results(AUCTION))
-        found = decisions.decisions(day.problem, day.said.accepted, day.outcome)
+        found = decisions.decisions(day.problem, day.published.accepted, day.outcome)
         kinds = [decision.kind for decision in found]
         self.assertEqual(kinds[:5], [decisions.ACCEPTED] * 5)
         self.assertEqual(kinds[5:], [decisions.REJECTED, decisions.ACCEPTED, decisions.REJECTED, decisions.PARADOX])

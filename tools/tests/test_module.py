@@ -34,7 +34,7 @@ class Module(unittest.TestCase):
 
     def test_a_run_of_the_program(self):
         day = dam_tools.clear(dam_tools.read_journal(AUCTION), program=self.program, workers=2)
-        self.assertEqual((day.wrong, day.said.welfare), ([], 3021520000))
+        self.assertEqual((day.wrong, day.published.welfare), ([], 3021520000))
         rows = dam_tools.records(day)
         self.assertEqual((len(rows), rows[18]["price_eur_mwh"], rows[18]["traded"]), (24, 165.0, True))
         again = dam_tools.read_results(AUCTION, AUCTION_RESULTS)
@@ -100,7 +100,7 @@ class Module(unittest.TestCase):
         day = dam_tools.read_results(AUCTION.read_bytes(), read_results(AUCTION))
         text = sheets.table_text(tables.orders(day)).encode()
         made = dam_tools.journal_of_orders(text)
-        self.assertEqual(dam_tools.clear(made, program=self.program).said.welfare, day.said.welfare)
+        self.assertEqual(dam_tools.clear(made, program=self.program).published.welfare, day.published.welfare)
 
     def test_faults(self):
         with self.assertRaises(dam_tools.Fault) as fault:

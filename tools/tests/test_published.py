@@ -119,7 +119,7 @@ class Figures(unittest.TestCase):
                 self.assertEqual(Fraction(found["energy"]), total(participants, "bought_mwh"))
                 self.assertEqual(Fraction(found["paid"]), total(participants, "paid_eur"))
                 self.assertEqual(Fraction(found["welfare"]), Fraction(found["hourly_surplus"]) + Fraction(found["block_surplus"]))
-                self.assertEqual(Fraction(found["welfare"]), day.said.welfare * day.problem.hours / 1_000)
+                self.assertEqual(Fraction(found["welfare"]), day.published.welfare * day.problem.hours / 1_000)
         self.assertEqual(lengths, {1, Fraction(1, 4)})
 
     def test_rounding(self):
@@ -224,7 +224,7 @@ class Json(unittest.TestCase):
     def test_values_are_those_of_the_cells(self):
         day = day_of(AUCTION.read_bytes(), read_results(AUCTION))
         rows = json.loads(shapes.as_json("periods", tables.periods(day), {}))["rows"]
-        self.assertEqual([row["price_eur_mwh"] for row in rows], [cents / 100 for cents in day.said.prices])
+        self.assertEqual([row["price_eur_mwh"] for row in rows], [cents / 100 for cents in day.published.prices])
         rows = json.loads(shapes.as_json("blocks", tables.TABLES["blocks"](day), {}))["rows"]
         self.assertEqual(rows[2]["periods"], [7, 8, 9, 10])
         self.assertEqual((rows[2]["volume_mw"], rows[2]["parent"], rows[3]["parent"]), ([80.0] * 4, None, "START"))

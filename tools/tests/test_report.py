@@ -60,7 +60,7 @@ class Trades(unittest.TestCase):
             with self.subTest(name):
                 day = day_of(data, text)
                 totals = trades.totals(day).values()
-                self.assertEqual(sum(total.bought for total in totals), sum(day.said.volumes))
+                self.assertEqual(sum(total.bought for total in totals), sum(day.published.volumes))
                 self.assertEqual(sum(total.bought for total in totals), sum(total.sold for total in totals))
                 self.assertEqual(sum(total.paid for total in totals), sum(total.received for total in totals))
 
@@ -72,7 +72,7 @@ class Trades(unittest.TestCase):
                 for row, made in trades.row_trades(day):
                     sign = 1 if row.order.side == "buy" else -1
                     value += sum(sign * row.order.price * trade.volume for trade in made)
-                self.assertEqual(value, day.said.welfare)
+                self.assertEqual(value, day.published.welfare)
 
 
 @functools.lru_cache(maxsize=None)
@@ -248,7 +248,7 @@ class Page(unittest.TestCase):
             demand, supply = curves.steps(day.problem.orders[number], "buy", 0), curves.steps(day.problem.orders[number], "sell", 0)
             bottom, top = curves.price_range(day, number, (demand, supply))
             self.assertLess(top - bottom, 700)
-            self.assertTrue(bottom < day.said.prices[number - 1] / 100 < top)
+            self.assertTrue(bottom < day.published.prices[number - 1] / 100 < top)
 
     def test_wrong_results_are_said_to_be_wrong(self):
         wrong = read_results(AUCTION).replace(b"period,1,9200", b"period,1,9300")

@@ -56,7 +56,7 @@ class Results(unittest.TestCase):
         """Their amounts add up to nothing, and their surpluses to the welfare; so do those of the hourly orders and of the accepted blocks."""
         for day in self.days():
             participants, orders = read(tables.participants(day)), read(tables.orders(day))
-            welfare = Fraction(text.eur(day.said.welfare, day.problem.hours, ""))
+            welfare = Fraction(text.eur(day.published.welfare, day.problem.hours, ""))
             self.assertEqual([total(participants, "net_eur"), total(participants, "gain_eur")], [0, welfare])
             self.assertEqual([row for row in participants if Fraction(row["gain_eur"]) < 0], [])
             figures = {row["figure"]: Fraction(row["value"] or 0) for row in read(tables.TABLES["figures"](day))}

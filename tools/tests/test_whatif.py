@@ -235,7 +235,7 @@ class Day(unittest.TestCase):
             heads, *rows = tables.participants(day)
             for cells in (dict(zip(heads, row)) for row in rows):
                 self.assertEqual(write.eur(both[1].net(cells["participant"])), cells["net_eur"])
-            self.assertEqual(sum(both[1].gain(who) for who in {who for who, _ in day.book.rows}), day.said.welfare)
+            self.assertEqual(sum(both[1].gain(who) for who in {who for who, _ in day.book.rows}), day.published.welfare)
 
 
 class Entered(unittest.TestCase):

@@ -11,17 +11,17 @@ ENUMERATION, HIGHS = METHODS = ["enumeration", "highs"]
 FEW_BLOCKS = 10
 
 
-def find_better(problem, said, method, progress, jobs):
+def find_better(problem, published, method, progress, jobs):
     """A selection that ranks above the one of right results, or None; and how it was looked for. Ends the tool if the time is over, or
     if the search fails."""
     try:
-        return {ENUMERATION: search_all, HIGHS: ask_highs}[method](problem, said, progress, jobs)
+        return {ENUMERATION: search_all, HIGHS: ask_highs}[method](problem, published, progress, jobs)
     except (TimeoutError, aside.Died) as fault:
         status = command.UNDECIDED if isinstance(fault, TimeoutError) else command.FAILED
         raise command.Stop(f"the results obey the other rules, but {fault}", status) from None
 
 
-def search_all(problem, said, progress, jobs, few=FEW_BLOCKS):
+def search_all(problem, published, progress, jobs, few=FEW_BLOCKS):
     """With numpy; without it if the blocks are few, or if it is missing and they aren't too many."""
     count = len(problem.blocks)
     if count <= few or count <= best.ENUMERABLE and not modules.has_module("numpy"):
@@ -29,24 +29,24 @@ def search_all(problem, said, progress, jobs, few=FEW_BLOCKS):
             found, how = best.enumerate_all(problem, progress)
         finally:
             progress.end()
-        return (None if found.accepted == said.accepted else found), how
+        return (None if found.accepted == published.accepted else found), how
     modules.exec_or_require_modules("numpy")
     from . import enumeration
 
-    return enumeration.find_better(problem, frozenset(said.accepted), said.welfare, progress, jobs)
+    return enumeration.find_better(problem, frozenset(published.accepted), published.welfare, progress, jobs)
 
 
-def ask_highs(problem, said, progress, jobs):
+def ask_highs(problem, published, progress, jobs):
     """By HiGHS, which takes no program of a day without blocks."""
     if not problem.blocks:
-        return search_all(problem, said, progress, jobs)
+        return search_all(problem, published, progress, jobs)
     modules.exec_or_require_modules("scipy")
 
     def ask(tell):
         from . import solver
 
         try:
-            return solver.find_better(problem, frozenset(said.accepted), said.welfare, progress, tell)
+            return solver.find_better(problem, frozenset(published.accepted), published.welfare, progress, tell)
         except solver.GaveUp as fault:
             raise TimeoutError(f"HiGHS gave up (its status is {fault}): without --by highs every selection is tried") from None
 
@@ -57,18 +57,18 @@ def block_names(problem, places):
     return " ".join(str(problem.blocks[place]) for place in sorted(places)) or "no block"
 
 
-def better_lines(problem, said, found):
+def better_lines(problem, published, found):
     """The lines about a better selection: its blocks and welfare, its prices, and how it differs from the published one."""
-    more = found.welfare - said.welfare
+    more = found.welfare - published.welfare
     if more:
         kind = f"it has a greater welfare, {problem.euros(found.welfare)} EUR, which is {problem.euros(more)} EUR more"
         yield f"a better selection accepts {block_names(problem, found.accepted)}: {kind}"
     else:
-        first = problem.blocks[min(found.accepted ^ said.accepted)]
+        first = problem.blocks[min(found.accepted ^ published.accepted)]
         yield f"an equally good selection takes precedence: it accepts {first}, which is earlier in the book"
-    turned = [("accepts", found.accepted - said.accepted), ("rejects", said.accepted - found.accepted)]
+    turned = [("accepts", found.accepted - published.accepted), ("rejects", published.accepted - found.accepted)]
     yield "unlike the results it " + " and ".join(f"{does} {block_names(problem, places)}" for does, places in turned if places)
     prices = [cleared.price for cleared in selection.outcome(problem, found.accepted).cleared.values()]
-    changed = [(number, *pair) for number, pair in enumerate(zip(prices, said.prices), 1) if pair[0] != pair[1]]
-    for number, price, published in changed:
-        yield f"its price in period {number} is {text.eur_per_mwh(price)} EUR/MWh, and the results have {text.eur_per_mwh(published)}"
+    changed = [(number, *pair) for number, pair in enumerate(zip(prices, published.prices), 1) if pair[0] != pair[1]]
+    for number, price, published_price in changed:
+        yield f"its price in period {number} is {text.eur_per_mwh(price)} EUR/MWh, and the results have {text.eur_per_mwh(published_price)}"

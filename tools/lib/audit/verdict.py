@@ -61,8 +61,8 @@ class Audit:
     def make_checks(self):
         """Makes the checks that the options ask for. Ends with `command.Stop` if that can't be done."""
         options = self.options
-        written, published = self.read_texts()
-        read = self.parse_journal(written)
+        journal_data, published_data = self.read_texts()
+        read = self.parse_journal(journal_data)
         closed, reasons = book.run_commands(read)
         self.day = {"periods": read.periods, "commands": len(reasons), "refused": sum(reason is not None for reason in reasons)}
         try:
@@ -78,9 +78,9 @@ class Audit:
         if signed is not None:
             self.compare_with_signed_and_note(signed)
         if options.replies:
-            self.check_replies_and_note(read.periods, reasons, published)
-        elif published is not None:
-            self.check_results_and_note(closed, reasons, published)
+            self.check_replies_and_note(read.periods, reasons, published_data)
+        elif published_data is not None:
+            self.check_results_and_note(closed, reasons, published_data)
 
     @property
     def status(self):
@@ -136,9 +136,9 @@ class Audit:
             self.odd.append(Fault("the journal of the day isn't in its written form, but has the same commands", "encoding"))
         return read
 
-    def check_replies_and_note(self, periods, reasons, published):
+    def check_replies_and_note(self, periods, reasons, published_data):
         self.checked.append("replies")
-        data, odd = encodings.plain_text_and_faults(published)
+        data, odd = encodings.plain_text_and_faults(published_data)
         self.odd += odd
         wrong = reply_faults(periods, reasons, data)
         self.wrong += wrong
@@ -146,37 +146,37 @@ class Audit:
             return
         self.right.append(f"as the rules say: {text.counted(len(reasons), 'reply', 'replies')}{sent.refused_words(reasons)}")
 
-    def check_results_and_note(self, closed, reasons, published):
+    def check_results_and_note(self, closed, reasons, published_data):
         self.checked.append("results")
-        data, odd = encodings.plain_text_and_faults(published)
+        data, odd = encodings.plain_text_and_faults(published_data)
         self.odd += odd
         if not closed.closed:
             self.wrong.append(Fault("no command closes the book, so it has no results", "journal"))
             return
         problem = selection.Problem(closed)
-        said, wrong = check.results_and_faults(problem, data)
+        published, wrong = check.results_and_faults(problem, data)
         self.wrong += wrong
-        self.checked += ["sums"] if said is not None else []
-        self.day.update(day_figures(problem, said))
+        self.checked += ["sums"] if published is not None else []
+        self.day.update(day_figures(problem, published))
         if wrong:
-            self.last = unmade_checks_line(said is not None, self.options.best)
+            self.last = unmade_checks_line(published is not None, self.options.best)
             return
-        how = self.look_for_better_and_note(problem, said) if self.options.best else None
+        how = self.look_for_better_and_note(problem, published) if self.options.best else None
         if self.search is None or self.search["better"] is None:
             others = f"; no selection is better: {how}" if how else NOT_CHECKED if problem.blocks else ""
-            self.right.append(right_line(problem, said, reasons) + others)
-            self.right.append(sums.payments_line(problem, sums.sums(problem, said)))
+            self.right.append(right_line(problem, published, reasons) + others)
+            self.right.append(sums.payments_line(problem, sums.sums(problem, published)))
             if self.options.sent is not None:
                 self.right += lines_of_participant(data, self.options.participant)
 
-    def look_for_better_and_note(self, problem, said):
+    def look_for_better_and_note(self, problem, published):
         """Looks for a better selection than the one of right results, and says how."""
         options = self.options
         by, whole = options.by or better.ENUMERATION, 2 ** len(problem.blocks)
         self.progress = Progress("audit", self.seconds, options.quiet, whole)
         self.search = {"by": by, "selections": whole, "tried": 0, "better": None, "how": None}
         try:
-            found, how = better.find_better(problem, said, by, self.progress, options.jobs or 1)
+            found, how = better.find_better(problem, published, by, self.progress, options.jobs or 1)
         finally:
             self.search["tried"] = None if by == better.HIGHS else self.progress.tried_count()
         self.checked.append("best selection")
@@ -184,7 +184,7 @@ class Audit:
         if by == better.ENUMERATION:
             self.search["tried"] = whole
         if found is not None:
-            words = list(better.better_lines(problem, said, found))
+            words = list(better.better_lines(problem, published, found))
             self.wrong.append(Fault("\n".join(words), "better"))
             self.search["better"] = [str(problem.blocks[place]) for place in sorted(found.accepted)]
         return how
@@ -302,12 +302,12 @@ def reply_faults(periods, reasons, data):
     return wrong
 
 
-def day_figures(problem, said):
+def day_figures(problem, published):
     """The figures of a day, for a record; as the rules have it if the results can't be read."""
     made = {"hourly_orders": len(problem.rows) - len(problem.blocks), "blocks": len(problem.blocks)}
-    if said is not None:
-        amounts = {"welfare": said.welfare, **sums.sums(problem, said)._asdict()}
-        made["accepted"] = len(said.accepted)
+    if published is not None:
+        amounts = {"welfare": published.welfare, **sums.sums(problem, published)._asdict()}
+        made["accepted"] = len(published.accepted)
         made.update((f"{name}_eur", text.eur(amount, problem.hours, "")) for name, amount in amounts.items())
     return made
 
@@ -327,9 +327,10 @@ def unmade_checks_line(is_compared, is_best):
     return NOT_LOOKED if is_best else None
 
 
-def right_line(problem, said, reasons):
+def right_line(problem, published, reasons):
     hourly = text.counted(len(problem.rows) - len(problem.blocks), "hourly order")
+    welfare = f"welfare {problem.euros(published.welfare)} EUR"
     return (
-        f"as the rules say: {problem.periods} periods, {hourly}, {len(said.accepted)} of"
-        f" {text.counted(len(problem.blocks), 'block')} accepted, welfare {problem.euros(said.welfare)} EUR{sent.refused_words(reasons)}"
+        f"as the rules say: {problem.periods} periods, {hourly}, {len(published.accepted)} of"
+        f" {text.counted(len(problem.blocks), 'block')} accepted, {welfare}{sent.refused_words(reasons)}"
     )

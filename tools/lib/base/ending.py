@@ -74,24 +74,24 @@ def status_and_message_of_interrupt(fault):
 
 def exit_by_failure(tool, fault):
     """Ends the process at once."""
-    status, said = of_failures[0], None
+    status, message = of_failures[0], None
     try:
         if isinstance(fault, KeyboardInterrupt):
-            status, said = status_and_message_of_interrupt(fault)
+            status, message = status_and_message_of_interrupt(fault)
         else:
-            said = failure_words(fault)
+            message = failure_words(fault)
             if os.environ.get("DAM_DEBUG") == "1":
                 sys.__excepthook__(type(fault), fault, fault.__traceback__)
-        os.write(2, f"{place.command_name(tool)}: {said}\n".encode(errors="backslashreplace"))
+        os.write(2, f"{place.command_name(tool)}: {message}\n".encode(errors="backslashreplace"))
     finally:
-        exit_now(status, said)
+        exit_now(status, message)
 
 
-def exit_now(status, said):
+def exit_now(status, message):
     """Ends the process at once, after its last duties."""
     try:
         for duty in last_duties:
-            duty(status, said)
+            duty(status, message)
     finally:
         os._exit(status)
 

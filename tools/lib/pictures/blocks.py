@@ -20,12 +20,12 @@ def draw_blocks(axes, day):
     """A row for each block, with an area over its periods: the height is the volume, compared with the greatest. Arrows lead from
     parents to their children, and brackets join the blocks of a group."""
     blocks, right = day.problem.blocks, day.problem.periods + 0.5
-    found = decisions.decisions(day.problem, day.said.accepted, day.outcome)
+    found = decisions.decisions(day.problem, day.published.accepted, day.outcome)
     for row, (block, decision) in enumerate(zip(blocks, found)):
         draw_block(axes, row, block, LOOKS[decision.kind])
         if row:
             axes.axhline(row - 0.5, color=COLOURS["grid"], linewidth=0.6)
-        label_block(axes, row, block, text.amount(day.said.surpluses[row], day.problem.hours))
+        label_block(axes, row, block, text.amount(day.published.surpluses[row], day.problem.hours))
     draw_links(axes, day)
     draw_groups(axes, day)
     words = [decision_line(day, row, decision) for row, decision in enumerate(found)]

@@ -57,7 +57,7 @@ def steps(orders, side, begin):
 def net_volume(day, number):
     """The sold volume of the accepted blocks in a period, and their bought volume."""
     sold = bought = 0
-    for place in day.said.accepted:
+    for place in day.published.accepted:
         for at, volume in selection.net_volumes(day.problem.blocks[place].order):
             if at == number:
                 sold, bought = sold + max(volume, 0), bought + max(-volume, 0)
@@ -67,11 +67,11 @@ def net_volume(day, number):
 def price_range(day, number, curves):
     """The shown part of the price axis for a period's curves: the limits about the crossing, or all if they aren't far off."""
     limits = [limit for _, limit, _ in day.problem.orders[number]]
-    price, traded = day.said.prices[number - 1], trades.is_traded(day, number)
+    price, traded = day.published.prices[number - 1], trades.is_traded(day, number)
     limits += [price] * (traded or not limits)
     least, most = min(limits), max(limits)
     if traded:
-        at = day.said.volumes[number - 1]
+        at = day.published.volumes[number - 1]
         near = sorted(abs(limit - eur(price)) for xs, ys, _ in curves for limit in limits_near(xs, ys, mw(at)))
         far = NEAR_PRICES
         for distance in near:
@@ -160,7 +160,7 @@ def draw_without_orders(axes):
 
 def draw_clearing(axes, day, number, net):
     """The price, and the point on the curves at which the hourly buys end that are executed."""
-    price, buys = day.said.prices[number - 1], executed_buys(day, number)
+    price, buys = day.published.prices[number - 1], executed_buys(day, number)
     axes.axhline(eur(price), color=COLOURS["soft"], linewidth=1, linestyle=":")
     axes.text(1.006, eur(price), f"{text.shown_price(price)}\nEUR/MWh", transform=axes.get_yaxis_transform(), va="center")
     words = f"{text.shown_volume(buys)} MW of hourly buys are executed"
@@ -190,6 +190,6 @@ def executed_buys(day, number):
     rows = [row for row in day.problem.rows if row.order.kind == "hour"]
     return sum(
         executed
-        for row, executed in zip(rows, day.said.executed)
+        for row, executed in zip(rows, day.published.executed)
         if row.order.side == "buy" and row.order.volumes[0][0] == number
     )

@@ -32,7 +32,7 @@ def edges(values):
 def draw_prices(axes, day):
     """The price of each period in which something is traded, and the prices that support it; others are left out."""
     traded = trades.traded_periods(day)
-    prices = {number: eur(day.said.prices[number - 1]) for number in traded}
+    prices = {number: eur(day.published.prices[number - 1]) for number in traded}
     cleared = {number: day.outcome.cleared[number] for number in traded}
     ends = {number: (eur(found.low), eur(found.high)) if found else [prices[number]] * 2 for number, found in cleared.items()}
     levels = [prices.get(number, math.nan) for number in day.problem.orders]
@@ -58,7 +58,7 @@ def period_words(day, number):
     words = f"period {number}, {clock.time_span(day.problem.periods, number)}"
     if not trades.is_traded(day, number):
         return f"{words}: no trade"
-    price, volume = day.said.prices[number - 1], day.said.volumes[number - 1]
+    price, volume = day.published.prices[number - 1], day.published.volumes[number - 1]
     return f"{words}: {text.shown_price(price)} EUR/MWh, {text.shown_volume(volume)} MW"
 
 

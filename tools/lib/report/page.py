@@ -24,8 +24,8 @@ class Section(NamedTuple):
 def figures(day, found):
     """The figures of a day, in a few numbers: their names, values and units."""
     kinds = [decision.kind for decision in found]
-    yield "welfare", euros(day, day.said.welfare), "EUR"
-    yield "energy traded", energy(day, sum(day.said.volumes)), "MWh"
+    yield "welfare", euros(day, day.published.welfare), "EUR"
+    yield "energy traded", energy(day, sum(day.published.volumes)), "MWh"
     every = len(trades.traded_periods(day)) == day.problem.periods
     names = {
         "base": "mean price of the periods" if every else "mean price of the traded periods",
@@ -88,7 +88,7 @@ def own_figures(day, who):
 def make_day_page(day, title, curves, date=None, who=None, with_limits=True):
     """The page of a day, or of a participant's part of it, with the curves of some periods, and the date of delivery if it is known; with
     the limits that rejected blocks needed, or without them."""
-    found = decisions.decisions(day.problem, day.said.accepted, day.outcome)
+    found = decisions.decisions(day.problem, day.published.accepted, day.outcome)
     needed = limits.run_for_rejected(day, who, with_limits)  # before the curves, whose processes are copies of this one
     with drawing_curves(day, curves) as drawn_curves:
         parts = list(own_sections(day, who, needed, drawn_curves) if who else sections(day, found, needed, drawn_curves))
@@ -112,5 +112,5 @@ def notable_periods(day):
     traded = trades.traded_periods(day)
     if not traded:
         return []
-    ends = [of(traded, key=lambda number: day.said.prices[number - 1]) for of in (min, max)]
+    ends = [of(traded, key=lambda number: day.published.prices[number - 1]) for of in (min, max)]
     return sorted(set(ends))

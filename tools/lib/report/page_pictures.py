@@ -65,11 +65,11 @@ def prices_words(day):
     traded = trades.traded_periods(day)
     if not traded:
         return "Price and volume of each period: nothing is traded."
-    prices = {day.said.prices[number - 1] for number in traded}
+    prices = {day.published.prices[number - 1] for number in traded}
     if len(prices) == 1:
         return f"Price and volume of each period. The price of all that are traded is {text.shown_price(*prices)} EUR/MWh."
-    least, most = (of(traded, key=lambda number: day.said.prices[number - 1]) for of in (min, max))
-    ends = [f"{text.shown_price(day.said.prices[number - 1])} EUR/MWh in period {number}" for number in (least, most)]
+    least, most = (of(traded, key=lambda number: day.published.prices[number - 1]) for of in (min, max))
+    ends = [f"{price_words(day, number)} in period {number}" for number in (least, most)]
     return f"Price and volume of each period. The price goes from {ends[0]} to {ends[1]}."
 
 
@@ -77,8 +77,15 @@ def curve_words(day, number):
     words = f"Supply and demand in period {number}"
     if not trades.is_traded(day, number):
         return f"{words}: nothing is traded."
-    said = day.said
-    return f"{words}: {text.shown_volume(said.volumes[number - 1])} MW are traded at {text.shown_price(said.prices[number - 1])} EUR/MWh."
+    return f"{words}: {volume_words(day, number)} are traded at {price_words(day, number)}."
+
+
+def volume_words(day, number):
+    return f"{text.shown_volume(day.published.volumes[number - 1])} MW"
+
+
+def price_words(day, number):
+    return f"{text.shown_price(day.published.prices[number - 1])} EUR/MWh"
 
 
 def block_words(found):
@@ -97,9 +104,9 @@ def draw_curves(day, number, folded):
     picture = draw_picture(lambda width: curve_sheet(width).draw(day, number), f"period{number}", curve_words(day, number))
     if not folded:
         return picture
-    said, words = day.said, "no trade"
+    words = "no trade"
     if trades.is_traded(day, number):
-        words = f"{text.shown_price(said.prices[number - 1])} EUR/MWh, {text.shown_volume(said.volumes[number - 1])} MW"
+        words = f"{price_words(day, number)}, {volume_words(day, number)}"
     summary = Markup('<b>Period {}</b> {}: <span class="soft">{}</span>')
     return picture._replace(summary=summary.format(number, clock.time_span(day.problem.periods, number), words))
 

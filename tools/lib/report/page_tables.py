@@ -60,8 +60,8 @@ def period_table(day):
     for number, found in day.outcome.cleared.items():
         parts = map(text.shown_volume, shares[number].values())
         begins = clock.begin_time(day.problem.periods, number)
-        cents = text.shown_price(day.said.prices[number - 1]) if trades.is_traded(day, number) else "no trade"
-        rows.append([number, begins, cents, supporting_words(found), text.shown_volume(day.said.volumes[number - 1]), *parts])
+        cents = text.shown_price(day.published.prices[number - 1]) if trades.is_traded(day, number) else "no trade"
+        rows.append([number, begins, cents, supporting_words(found), text.shown_volume(day.published.volumes[number - 1]), *parts])
     words = ["hourly buys, MW", "block buys, MW", "hourly sells, MW", "block sells, MW"]
     columns = heads("#period", "#begins", "price, EUR/MWh", "#supporting prices", "volume, MW", *words)
     return Table("The price of each period, the prices that support it, and the bought and sold volumes", columns, rows)
@@ -73,7 +73,7 @@ def periods_of(order):
 
 def block_table(day, found, needed):
     rows = []
-    for place, (block, surplus, decision) in enumerate(zip(day.problem.blocks, day.said.surpluses, found)):
+    for place, (block, surplus, decision) in enumerate(zip(day.problem.blocks, day.published.surpluses, found)):
         order = block.order
         why = f"{decision.why}. {needed[place]}" if place in needed else decision.why
         mark = Markup('<span class="mark {}"></span>{}').format(MARKS[decision.kind], decision.kind)
@@ -161,7 +161,7 @@ def own_period_table(day, who):
     rows = []
     for owner, number, *sums in list(published.long_participants(day))[1:]:
         if owner == who:
-            price, begins = text.shown_price(day.said.prices[number - 1]), clock.begin_time(day.problem.periods, number)
+            price, begins = text.shown_price(day.published.prices[number - 1]), clock.begin_time(day.problem.periods, number)
             rows.append([number, begins, price, *(text.shown(Fraction(value), digits) for value, digits in zip(sums, (1, 1, 2, 2)))])
     columns = heads("#period", "#begins", "price, EUR/MWh", "bought, MW", "sold, MW", "pays, EUR", "is paid, EUR")
     return Table(f"What {who} trades in each period", columns, rows)

@@ -246,9 +246,9 @@ def listed(words):
 def hourly_code_and_words(day, row, executed):
     """The code and the words for the reason that decided an hourly order."""
     number = row.order.volumes[0][0]
-    if not day.said.volumes[number - 1]:
+    if not day.published.volumes[number - 1]:
         return NO_TRADE, f"nothing is traded in period {number}"
-    price, limit = day.said.prices[number - 1], row.order.price
+    price, limit = day.published.prices[number - 1], row.order.price
     gain = limit - price if row.order.side == "buy" else price - limit
     shown = f"the price, {text.eur_per_mwh(price)} EUR/MWh"
     if gain > 0:

@@ -49,9 +49,9 @@ def line_fault(kind, line, about, words):
     return Fault(f"results line {line}: {words}", kind, line, about)
 
 
-def subject_fault(said, kind, about, words):
+def subject_fault(published, kind, about, words):
     """The fault of the line about something, of results that were read."""
-    return line_fault(kind, said.lines[about], about, words)
+    return line_fault(kind, published.lines[about], about, words)
 
 
 def moved_pairs(wanted, found, pairs):

@@ -25,7 +25,7 @@ def steps(day, number, side):
 
 
 def accepted_volumes(day, side):
-    for place in day.said.accepted:
+    for place in day.published.accepted:
         order = day.problem.blocks[place].order
         if order.side == side:
             yield from order.volumes
@@ -41,8 +41,8 @@ def curves(day):
                 yield [number, curve, part, text.eur_per_mwh(limit), text.mw(end), text.mw(end + volume)]
                 end += volume
         if trades.is_traded(day, number):
-            volume = text.mw(day.said.volumes[number - 1])
-            yield [number, "clearing", "", text.eur_per_mwh(day.said.prices[number - 1]), volume, volume]
+            volume = text.mw(day.published.volumes[number - 1])
+            yield [number, "clearing", "", text.eur_per_mwh(day.published.prices[number - 1]), volume, volume]
 
 
 def is_peak(periods, number):
@@ -61,8 +61,8 @@ def round_half_up(value):
 
 def mean_prices(day):
     """The mean prices of a day by their names, in cents, over the periods in which something is traded."""
-    prices = {number: day.said.prices[number - 1] for number in trades.traded_periods(day)}
-    volumes = {number: day.said.volumes[number - 1] for number in prices}
+    prices = {number: day.published.prices[number - 1] for number in trades.traded_periods(day)}
+    volumes = {number: day.published.volumes[number - 1] for number in prices}
     periods = day.problem.periods
     weighted = sum(price * volumes[number] for number, price in prices.items())
     return {
@@ -78,12 +78,12 @@ def mean_prices(day):
 def figures(day):
     """The figures of a day, in a few numbers."""
     yield ["figure", "unit", "value"]
-    yield ["welfare", "EUR", text.eur(day.said.welfare, day.problem.hours, "")]
-    yield ["energy", "MWh", text.energy(sum(day.said.volumes), day.problem.hours, "")]
+    yield ["welfare", "EUR", text.eur(day.published.welfare, day.problem.hours, "")]
+    yield ["energy", "MWh", text.energy(sum(day.published.volumes), day.problem.hours, "")]
     yield ["traded_periods", "", len(trades.traded_periods(day))]
     for name, price in mean_prices(day).items():
         yield [f"{name}_price", "EUR/MWh", "" if price is None else text.eur_per_mwh(price)]
-    for name, amount in sums.sums(day.problem, day.said)._asdict().items():
+    for name, amount in sums.sums(day.problem, day.published)._asdict().items():
         yield [name, "EUR", text.eur(amount, day.problem.hours, "")]
 
 
@@ -110,7 +110,7 @@ def long_orders(day, kind=None):
                 amount = 0 if trade is None else trade.amount() * (1 if trade.side == "sell" else -1)
                 order = [row.who, row.name, row.order.kind, row.order.side, text.eur_per_mwh(row.order.price), number]
                 volumes = [text.mw(offered), text.mw(trade.volume if trade else 0)]
-                price = text.eur_per_mwh(day.said.prices[number - 1]) if trades.is_traded(day, number) else ""
+                price = text.eur_per_mwh(day.published.prices[number - 1]) if trades.is_traded(day, number) else ""
                 yield [*order, *volumes, price, text.eur(amount, day.problem.hours, "")]
 
 

@@ -9,16 +9,16 @@ from . import trades
 from .faults import subject_fault
 
 
-class Published(NamedTuple):
+class PublishedDay(NamedTuple):
     """Results as `trades` takes them."""
 
     problem: object
-    said: object
+    published: object
 
 
-def sum_faults(problem, said):
+def sum_faults(problem, published):
     """A fault for each sum that isn't as the laws say."""
-    day = Published(problem, said)
+    day = PublishedDay(problem, published)
     gains = list(trades.surpluses_of_rows(day))
     yield from volume_faults(day)
     yield from hourly_loss_faults(day, gains)
@@ -30,17 +30,17 @@ def volume_faults(day):
     """In each period, the bought volume is the sold one, and the period's volume; so at its one price payments are receipts."""
     for number, parts in trades.volume_shares(day).items():
         bought, sold = (sum(parts[kind, side] for kind in ("hour", "block")) for side in ("buy", "sell"))
-        volume = day.said.volumes[number - 1]
+        volume = day.published.volumes[number - 1]
         if not bought == sold == volume:
             words = f"period {number}: the orders buy {bought} and sell {sold}, and the volume is {volume}"
-            yield subject_fault(day.said, "money", f"period {number}", words)
+            yield subject_fault(day.published, "money", f"period {number}", words)
 
 
 def hourly_loss_faults(day, gains):
     for row, gain in gains:
         if row.order.kind == "hour" and gain < 0:
             about = f"hour {row}"
-            yield subject_fault(day.said, "loss", about, f"{about}: at the price it loses {-gain} with its executed volume")
+            yield subject_fault(day.published, "loss", about, f"{about}: at the price it loses {-gain} with its executed volume")
 
 
 def participant_loss_faults(day, gains):
@@ -53,13 +53,14 @@ def participant_loss_faults(day, gains):
         if total < 0:
             _, row = min(pairs, key=lambda pair: pair[0])
             about = f"{row.order.kind} {row}"
-            yield subject_fault(day.said, "loss", about, f"{about}: {who} loses {-total} with all its orders, and most with this one")
+            yield subject_fault(day.published, "loss", about, f"{about}: {who} loses {-total} with all its orders, and most with this one")
 
 
 def welfare_sum_faults(day, gains):
     total = sum(gain for _, gain in gains)
-    if day.said.welfare != total:
-        yield subject_fault(day.said, "sum", "the welfare", f"the welfare is {day.said.welfare}, and the surpluses add up to {total}")
+    if day.published.welfare != total:
+        words = f"the welfare is {day.published.welfare}, and the surpluses add up to {total}"
+        yield subject_fault(day.published, "sum", "the welfare", words)
 
 
 class Sums(NamedTuple):
@@ -71,8 +72,8 @@ class Sums(NamedTuple):
     block_surplus: int  # of the accepted blocks
 
 
-def sums(problem, said):
-    day = Published(problem, said)
+def sums(problem, published):
+    day = PublishedDay(problem, published)
     totals = trades.totals(day).values()
     surpluses = {"hour": 0, "block": 0}
     for row, gain in trades.surpluses_of_rows(day):

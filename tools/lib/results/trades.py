@@ -37,7 +37,7 @@ class Total(NamedTuple):
 
 def is_traded(day, number):
     """Whether anything is traded in a period. If not, its price says little: without any order it is the middle of the range."""
-    return day.said.volumes[number - 1] > 0
+    return day.published.volumes[number - 1] > 0
 
 
 def traded_periods(day):
@@ -47,14 +47,14 @@ def traded_periods(day):
 
 def row_trades(day):
     """Each row of the book with its trades."""
-    executed, place = iter(day.said.executed), 0
+    executed, place = iter(day.published.executed), 0
     for row in day.problem.rows:
         if row.order.kind == "hour":
             volumes = [(row.order.volumes[0][0], next(executed))]
         else:
-            volumes = row.order.volumes if place in day.said.accepted else ()
+            volumes = row.order.volumes if place in day.published.accepted else ()
             place += 1
-        prices = day.said.prices
+        prices = day.published.prices
         yield row, [
             Trade(row.who, row.name, row.order.side, number, volume, prices[number - 1])
             for number, volume in volumes
@@ -65,13 +65,13 @@ def row_trades(day):
 def surpluses_of_rows(day):
     """Each row of the book with its surplus as far as it is executed: an hourly order's by its executed volume, and the published one of an
     accepted block; the surplus of a rejected block is 0."""
-    blocks = iter(enumerate(day.said.surpluses))
+    blocks = iter(enumerate(day.published.surpluses))
     for row, made in row_trades(day):
         if row.order.kind == "hour":
             yield row, sum(trade.gain(row.order.price) for trade in made)
         else:
             place, surplus = next(blocks)
-            yield row, surplus if place in day.said.accepted else 0
+            yield row, surplus if place in day.published.accepted else 0
 
 
 def execution_words(order, executed):

@@ -54,7 +54,7 @@ def run_program(words, text, timeout=None, running=None):
             raise Unstarted(f"{words[0]} can't be run: {fault.strerror}") from None
         ends.enter_context(process)
         try:
-            out, said = exchange_pipes(process, text, timeout, words[0])
+            out, error_output = exchange_pipes(process, text, timeout, words[0])
         except subprocess.TimeoutExpired:
             process.kill()
             raise TimedOut(f"{words[0]} took longer than {timeout:g} seconds") from None
@@ -62,8 +62,8 @@ def run_program(words, text, timeout=None, running=None):
             process.kill()
             raise
     if not process.returncode:
-        relay_lines_once(said)
-    return process.returncode, out, said
+        relay_lines_once(error_output)
+    return process.returncode, out, error_output
 
 
 def exchange_pipes(process, text, timeout, name):
@@ -136,9 +136,9 @@ class LastOutput:
         return begin + self.kept
 
 
-def relay_lines_once(said):
+def relay_lines_once(error_output):
     """Passes on the lines of a run that succeeded, such as that it isn't proved; each once, and not too many."""
-    for line in said.decode(errors="replace").splitlines():
+    for line in error_output.decode(errors="replace").splitlines():
         if line not in RELAYED and len(RELAYED) <= MOST_RELAYED and sys.stderr:
             RELAYED.add(line)
             shown = line if len(RELAYED) <= MOST_RELAYED else "further lines of the program aren't shown"
@@ -148,15 +148,15 @@ def relay_lines_once(said):
 
 def run_for_output(words, text, timeout=None):
     """The output of a run of a program."""
-    status, out, said = run_program(words, text, timeout)
+    status, out, error_output = run_program(words, text, timeout)
     if status:
-        raise Fault(fault_words(status, said), status)
+        raise Fault(fault_words(status, error_output), status)
     return out
 
 
-def fault_words(status, said):
+def fault_words(status, error_output):
     """The words of a run that failed; one that said nothing was ended by the system, or isn't the program."""
-    return said.decode(errors="replace").strip() or f"the program ended with status {status}"
+    return error_output.decode(errors="replace").strip() or f"the program ended with status {status}"
 
 
 def has_results(out):

@@ -42,14 +42,14 @@ class Cleared:
     @classmethod
     def of_day(cls, day):
         """The same of results that were read."""
-        executed, orders, place = iter(day.said.executed), {}, 0
+        executed, orders, place = iter(day.published.executed), {}, 0
         for row in day.problem.rows:
             if row.order.kind == "hour":
                 orders[row.who, row.name] = next(executed)
             else:
-                orders[row.who, row.name] = place in day.said.accepted
+                orders[row.who, row.name] = place in day.published.accepted
                 place += 1
-        return cls(day.book.rows, day.problem.periods, day.said.welfare, day.said.prices, day.said.volumes, orders)
+        return cls(day.book.rows, day.problem.periods, day.published.welfare, day.published.prices, day.published.volumes, orders)
 
     def executed_volumes(self, key):
         """The executed volumes of an order, as pairs of a period and tenths of a MW; none of an order that isn't in the book."""
@@ -115,8 +115,8 @@ def refuse_wrong_results(held, orders, printed, name):
     accepted = {place for place, block in enumerate(problem.blocks) if orders[block.who, block.name]}
     if printed == results_of_selection(problem, accepted):  # the usual case, and far quicker to see
         return
-    said, wrong = check.results_and_faults(problem, printed)
-    if said is None:
+    published, wrong = check.results_and_faults(problem, printed)
+    if published is None:
         raise Fault(f"{NO_RESULTS}: {wrong[0]}")
     raise Wrong(f"the program's results of {name} break the rules ({wrong[0]})")
 

@@ -93,10 +93,10 @@ def run_clear(text, program=None, running=None, nodes=MOST_NODES, timeout=None):
         path = None if program is not None or timeout is not None else which.find_library()
         if path:
             status, out = by_library.call_library(path, text, nodes)
-            said = out
+            error_output = out
         else:
             words = [by_program.require_program(program), *by_program.ONE_WORKER, f"--nodes={nodes}"]
-            status, out, said = by_program.run_program(words, text, by_program.RUN_SECONDS if timeout is None else timeout, running)
+            status, out, error_output = by_program.run_program(words, text, by_program.RUN_SECONDS if timeout is None else timeout, running)
             if not status and not by_program.has_results(out):
                 return 0, f"{words[0]} printed no results of this journal"
     except TimedOut as fault:
@@ -107,7 +107,7 @@ def run_clear(text, program=None, running=None, nodes=MOST_NODES, timeout=None):
         return 0, str(fault)
     if not status:
         return None, out
-    return status, by_program.fault_words(status, said)
+    return status, by_program.fault_words(status, error_output)
 
 
 def result_or_fault(answered):

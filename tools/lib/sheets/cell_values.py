@@ -36,7 +36,7 @@ def refuse_unlike(cell, is_name, unit=None):
         raise BadOrders(cell.fault())
     if isinstance(cell, (Price, Power)) and cell.unit != unit:
         column = f"the column is in {unit}" if unit else "the column has no unit"
-        words = f"{text.quoted(cell)} is a number whose format says {cell.said}, but {column}"
+        words = f"{text.quoted(cell)} is a number whose format says {cell.shown_unit}, but {column}"
         raise BadOrders(f"{words}: check it, and give its cell the format General")
 
 

@@ -32,7 +32,7 @@ def periods(day):
     for number, parts in trades.volume_shares(day).items():
         found = day.outcome.cleared[number]
         ends = ["", ""] if found is None else [text.eur_per_mwh(found.low), text.eur_per_mwh(found.high)]
-        price_and_volume = [text.eur_per_mwh(day.said.prices[number - 1]), text.mw(day.said.volumes[number - 1])]
+        price_and_volume = [text.eur_per_mwh(day.published.prices[number - 1]), text.mw(day.published.volumes[number - 1])]
         traded = "yes" if trades.is_traded(day, number) else "no"
         yield [number, float(day.problem.hours), *price_and_volume, traded, *ends, *map(text.mw, parts.values())]
 
@@ -48,8 +48,8 @@ def order_cells(row):
 
 def outcomes(day):
     """The outcome of each row of the book, and the surplus of a block."""
-    found = iter(zip(decisions.decisions(day.problem, day.said.accepted, day.outcome), day.said.surpluses))
-    executed = iter(day.said.executed)
+    found = iter(zip(decisions.decisions(day.problem, day.published.accepted, day.outcome), day.published.surpluses))
+    executed = iter(day.published.executed)
     for row in day.problem.rows:
         if row.order.kind == "hour":
             yield trades.execution_words(row.order, next(executed)), ""
@@ -72,8 +72,8 @@ def blocks(day):
     """A row for each block: its order, its outcome and why, and, if it is rejected, the worth of its best family."""
     family_heads = ["family", "family_gain_eur", "family_welfare_eur"]
     yield [*ORDER, "offered_mwh", "executed_mwh", "outcome", "surplus_eur", *family_heads, "why", "code"]
-    found = decisions.decisions(day.problem, day.said.accepted, day.outcome)
-    for block, surplus, decision in zip(day.problem.blocks, day.said.surpluses, found):
+    found = decisions.decisions(day.problem, day.published.accepted, day.outcome)
+    for block, surplus, decision in zip(day.problem.blocks, day.published.surpluses, found):
         offered = sum(tenths for _, tenths in block.order.volumes)
         executed = offered if decision.kind == decisions.ACCEPTED else 0
         family = ["", "", ""]
@@ -127,8 +127,8 @@ class Result(NamedTuple):
 
 def results_by_row(day):
     """The outcome of each order of the book, by participant and name. `write` writes the amounts of the reasons."""
-    found = iter(zip(decisions.decisions(day.problem, day.said.accepted, day.outcome), day.said.surpluses))
-    executed = iter(day.said.executed)
+    found = iter(zip(decisions.decisions(day.problem, day.published.accepted, day.outcome), day.published.surpluses))
+    executed = iter(day.published.executed)
     made = {}
     for row, trades_made in trades.row_trades(day):
         amount = sum(trade.amount() if trade.side == "sell" else -trade.amount() for trade in trades_made)

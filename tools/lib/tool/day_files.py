@@ -59,7 +59,7 @@ class Day:
         blocks = len(self.problem.blocks)
         hourly = text.counted(len(self.problem.rows) - blocks, "hourly order")
         wrong = f", {text.counted(len(self.wrong), 'fault')}" if self.wrong else ""
-        welfare = f"welfare {self.problem.euros(self.said.welfare)} EUR"
+        welfare = f"welfare {self.problem.euros(self.published.welfare)} EUR"
         return f"<Day: {self.problem.periods} periods, {hourly}, {text.counted(blocks, 'block')}, {welfare}{wrong}>"
 
     @classmethod
@@ -79,10 +79,10 @@ class Day:
             raise command.Stop(f"no command of {command.shown(path)} closes the book, so it has no results")
         self.problem = selection.Problem(self.book)
         data, self.odd = encodings.plain_text_and_faults(results_data)
-        self.said, self.wrong = check.results_and_faults(self.problem, data)
-        if self.said is None:
+        self.published, self.wrong = check.results_and_faults(self.problem, data)
+        if self.published is None:
             raise command.Stop(f"{command.shown(results_path)} has no results of this journal: {self.wrong[0]}")
-        self.outcome = selection.outcome(self.problem, self.said.accepted)
+        self.outcome = selection.outcome(self.problem, self.published.accepted)
 
     def note_faults_and_return_status(self, tool, quiet=False):
         """Returns the status of a tool that has shown the results. If they break the rules, or else if their encoding differs, it says so on

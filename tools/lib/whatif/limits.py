@@ -117,7 +117,7 @@ def why_never(search, found):
     read = journal.parse_journal(search.text(found.past_limit))
     day = day_files.Day.of_text(read, search.printed[found.past_limit])
     place = day.problem.place(*search.key)
-    why = decisions.decisions(day.problem, day.said.accepted, day.outcome)[place].why
+    why = decisions.decisions(day.problem, day.published.accepted, day.outcome)[place].why
     return why if why.startswith("with ") else f"it {why}"  # 'with' its family, 'it' would gain
 
 
@@ -208,7 +208,7 @@ def run_for_short_sentence(search):
 def run_for_rejected(day, who=None, is_asked=True):
     """The same for each rejected block of a day, or of a participant, by place. If a limit isn't computed, the sentence says so, and why:
     never because of the time that it would take."""
-    places = [place for place, block in enumerate(day.problem.blocks) if place not in day.said.accepted and who in (None, block.who)]
+    places = [place for place, block in enumerate(day.problem.blocks) if place not in day.published.accepted and who in (None, block.who)]
     if not places or day.wrong or not is_asked:
         return dict.fromkeys(places, not_computed_words("the results break the rules" if day.wrong else "the page was made without limits"))
     own = engine.result_or_fault(engine.run_clear(book_text(day.book.rows, day.problem.periods)))

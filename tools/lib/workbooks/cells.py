@@ -36,14 +36,14 @@ class Price(Formatted):
     """A number of which a format says that it is in EUR, or EUR/MWh."""
 
     __slots__ = ()
-    said, unit = "EUR", "EUR/MWh"  # what the format says at least, and the unit of a column of such numbers
+    shown_unit, unit = "EUR", "EUR/MWh"  # what the format says at least, and the unit of a column of such numbers
 
 
 class Power(Formatted):
     """A number of which a format says that it is in MW."""
 
     __slots__ = ()
-    said = unit = "MW"
+    shown_unit = unit = "MW"
 
 
 class Percentage(Unlike):
