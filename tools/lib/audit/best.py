@@ -15,7 +15,7 @@ ENUMERABLE = 18
 STEP = 256  # selections from one look at the time to the next
 
 
-class Found(NamedTuple):
+class Selection(NamedTuple):
     accepted: frozenset
     welfare: int
 
@@ -113,7 +113,7 @@ class Search:
         prices = {number: rules.price_between(*curve.supporting_prices(net[number]))[0] for number, curve in self.curves.items()}
         surpluses = [selection.surplus(block.order, prices) for block in self.problem.blocks]
         if not selection.losses_of(self.problem, accepted, surpluses):
-            self.best = Found(accepted, welfare)
+            self.best = Selection(accepted, welfare)
 
 
 def enumerate_all(problem, progress=None):

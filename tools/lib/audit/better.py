@@ -57,18 +57,18 @@ def block_names(problem, places):
     return " ".join(str(problem.blocks[place]) for place in sorted(places)) or "no block"
 
 
-def better_lines(problem, published, found):
+def better_lines(problem, published, better_selection):
     """The lines about a better selection: its blocks and welfare, its prices, and how it differs from the published one."""
-    more = found.welfare - published.welfare
+    more = better_selection.welfare - published.welfare
     if more:
-        kind = f"it has a greater welfare, {problem.euros(found.welfare)} EUR, which is {problem.euros(more)} EUR more"
-        yield f"a better selection accepts {block_names(problem, found.accepted)}: {kind}"
+        kind = f"it has a greater welfare, {problem.euros(better_selection.welfare)} EUR, which is {problem.euros(more)} EUR more"
+        yield f"a better selection accepts {block_names(problem, better_selection.accepted)}: {kind}"
     else:
-        first = problem.blocks[min(found.accepted ^ published.accepted)]
+        first = problem.blocks[min(better_selection.accepted ^ published.accepted)]
         yield f"an equally good selection takes precedence: it accepts {first}, which is earlier in the book"
-    turned = [("accepts", found.accepted - published.accepted), ("rejects", published.accepted - found.accepted)]
+    turned = [("accepts", better_selection.accepted - published.accepted), ("rejects", published.accepted - better_selection.accepted)]
     yield "unlike the results it " + " and ".join(f"{does} {block_names(problem, places)}" for does, places in turned if places)
-    prices = [cleared.price for cleared in selection.outcome(problem, found.accepted).cleared.values()]
+    prices = [cleared.price for cleared in selection.outcome(problem, better_selection.accepted).cleared.values()]
     changed = [(number, *pair) for number, pair in enumerate(zip(prices, published.prices), 1) if pair[0] != pair[1]]
     for number, price, published_price in changed:
         yield f"its price in period {number} is {text.eur_per_mwh(price)} EUR/MWh, and the results have {text.eur_per_mwh(published_price)}"

@@ -60,15 +60,15 @@ def run_audit_of_day(pair, options, running, seconds=MORE_SECONDS, is_json=False
     return kept_part(made, is_json)
 
 
-def kept_part(made, is_json, out=b""):
+def kept_part(day_record, is_json, out=b""):
     """A day's record with the first fault alone, and the number of all; with --json also packed, as it is printed. `out` is the text of a
     process with the same record, if it has faults."""
-    short = {**made, "faults": made["faults"][:1], "count": len(made["faults"])}
+    short = {**day_record, "faults": day_record["faults"][:1], "count": len(day_record["faults"])}
     if not is_json:
         return short
-    if not made["faults"]:
-        out = json.dumps({key: text.for_json(value) for key, value in made.items() if key != "name"}, indent=1).encode()
-    return {**short, "printed": compressed(made["name"], out.strip())}
+    if not day_record["faults"]:
+        out = json.dumps({key: text.for_json(value) for key, value in day_record.items() if key != "name"}, indent=1).encode()
+    return {**short, "printed": compressed(day_record["name"], out.strip())}
 
 
 def compressed(name, out):
@@ -158,10 +158,10 @@ class Audits:
             finally:
                 self.done.release()
 
-    def keep_record(self, at, made):
+    def keep_record(self, at, day_record):
         with self.lock:
-            self.records[at] = made
-            self.wrong += made["status"] == command.DIFFERS
+            self.records[at] = day_record
+            self.wrong += day_record["status"] == command.DIFFERS
 
     def start_threads(self, jobs):
         """Starts threads, or fewer if memory is short, and does the work itself if there is none."""
@@ -196,16 +196,16 @@ def run_audits(pairs, options, jobs, bar, seconds=MORE_SECONDS, is_json=False):
     return [made or kept_part(record_without_verdict(pair, command.FAILED, without), is_json) for pair, made in zip(pairs, audits.records)]
 
 
-def row_of_day(made):
+def row_of_day(day_record):
     """The row of a day."""
-    day, faults = made["day"] or {}, made["faults"]
-    words = faults[0]["words"].split("\n")[:1] if faults else (made["message"] or "").split("\n")
+    day, faults = day_record["day"] or {}, day_record["faults"]
+    words = faults[0]["words"].split("\n")[:1] if faults else (day_record["message"] or "").split("\n")
     first = "; ".join(map(str.strip, words))
     welfare = day.get("welfare_eur")
     numbers = [day.get(name, "") for name in ("periods", "hourly_orders", "blocks", "accepted")]
     shown = text.grouped(welfare) if welfare is not None else ""
-    ends = [day.get("refused", ""), made["count"], f"{made['seconds']:.1f}", text.safe(first, MOST_SHOWN)]
-    return [text.safe(made["name"]), made["verdict"], *numbers, shown, *ends]
+    ends = [day.get("refused", ""), day_record["count"], f"{day_record['seconds']:.1f}", text.safe(first, MOST_SHOWN)]
+    return [text.safe(day_record["name"]), day_record["verdict"], *numbers, shown, *ends]
 
 
 def total_row(records):

@@ -21,7 +21,7 @@ import numpy
 
 from ..base import rules
 from ..results import selection
-from .best import Curve, Found, tried_words
+from .best import Curve, Selection, tried_words
 
 LOW_BITS = 14
 # The welfare of a period that doesn't balance. It is so low that a sum with it is under every welfare, and 100 of it are a number.
@@ -328,7 +328,7 @@ def find_better(problem, accepted, welfare, progress, jobs=1, low_bits=LOW_BITS)
     how = tried_words(len(problem.blocks), sum(share.admitted for share in shares), sum(share.looked for share in shares))
     if best.number == published.number:
         return None, how
-    found = Found(every.accepted(best.number), best.welfare)
+    found = Selection(every.accepted(best.number), best.welfare)
     if selection.eligible_welfare(problem, found.accepted) != found.welfare:
         raise AssertionError(f"the selection {sorted(found.accepted)} is not eligible with the welfare that the tables gave it")
     return found, how

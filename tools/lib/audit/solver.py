@@ -242,7 +242,7 @@ def find_better(problem, accepted, welfare, progress, tell=lambda words: None):
             tell(progress_words(looked))
             value = selection.eligible_welfare(problem, other)
             if value is not None and selection.ranks_above(len(problem.blocks), value, other, welfare, accepted):
-                return best.Found(other, value), "found by HiGHS"
+                return best.Selection(other, value), "found by HiGHS"
             model.forbid(other)
     kind = "which breaks a rule or ranks below" if looked == 1 else "which break a rule or rank below"
     return None, f"HiGHS offers {looked} other{'s' * (looked > 1)}, {kind}" if looked else "HiGHS found none better"

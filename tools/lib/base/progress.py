@@ -32,7 +32,7 @@ class Progress(Line):
     def __init__(self, tool, seconds, quiet=False, whole=0):
         """`whole` is how many selections there are."""
         self.tool, self.seconds, self.whole = tool, seconds, whole
-        self.told = not quiet and sys.stderr.isatty()
+        self.is_shown = not quiet and sys.stderr.isatty()
         self.begun = time.monotonic()
         self.stopped = False
         self.done = self.steps = 0
@@ -57,7 +57,7 @@ class Progress(Line):
         took = time.monotonic() - self.begun
         if took >= self.seconds:
             raise TimeoutError(self.timeout_message(words))
-        if self.told:
+        if self.is_shown:
             self.show(f"{self.tool}: {words}, {took:.0f} s")
 
     def seconds_left(self):
@@ -76,7 +76,7 @@ class Progress(Line):
             raise TimeoutError(self.timeout_message(self.tried_words()))
         with self.lock:
             self.done += done
-            if self.told:
+            if self.is_shown:
                 self.show(f"{self.tool}: {100 * self.done // max(self.steps, 1)} % of all selections, {took:.0f} s")
 
     def end(self):
@@ -94,7 +94,7 @@ class StepBar(Line):
 
     def __init__(self, tool, whole, unit, quiet=False):
         self.tool, self.whole, self.unit = tool, whole, unit
-        self.told = not quiet and sys.stderr.isatty()
+        self.is_shown = not quiet and sys.stderr.isatty()
         self.begun = self.last = time.monotonic()
         self.done = 0
 
@@ -102,7 +102,7 @@ class StepBar(Line):
         """This number of further steps is done."""
         self.done += steps
         now = time.monotonic()
-        if self.told and now - self.begun >= self.MOMENT and now - self.last >= self.PAUSE:
+        if self.is_shown and now - self.begun >= self.MOMENT and now - self.last >= self.PAUSE:
             self.last = now
             full = self.WIDTH * self.done // max(self.whole, 1)
             bar = "#" * full + "." * (self.WIDTH - full)

@@ -23,29 +23,29 @@ DECIMAL = re.compile(r"([+-]?)([0-9]{1,9})(?:[.,]([0-9]{1,6}))?")
 def word_parser(words):
     allowed = f"{', '.join(words[:-1])} or {words[-1]}"
 
-    def parse(found):
-        if found in words:
-            return found, None
-        if found.lower() in words:
-            return found.lower(), f"it should be {allowed}: write {found.lower()}"
+    def parse(field):
+        if field in words:
+            return field, None
+        if field.lower() in words:
+            return field.lower(), f"it should be {allowed}: write {field.lower()}"
         return None, f"it should be {allowed}"
 
     return parse
 
 
-def parse_day(found):
+def parse_day(field):
     days = [str(periods) for periods in rules.DAYS]
-    if found in days:
-        return int(found), None
+    if field in days:
+        return int(field), None
     allowed = f"the number of periods should be {', '.join(days[:3])} (hours), {', '.join(days[3:-1])} or {days[-1]} (quarter-hours)"
     return None, allowed
 
 
 def name_parser(allowed, parser):
-    def parse(found):
-        if found.isascii() and parser(found.encode()) is not None:
-            return found, None
-        better = found.upper().replace("_", "-").replace(" ", "-")
+    def parse(field):
+        if field.isascii() and parser(field.encode()) is not None:
+            return field, None
+        better = field.upper().replace("_", "-").replace(" ", "-")
         if better.isascii() and parser(better.encode()) is not None:
             return better, f"it should be {allowed}: write {better}"
         return None, f"it should be {allowed}"
@@ -57,16 +57,16 @@ parse_participant = name_parser(f"1 to {rules.LONGEST_PARTICIPANT} capitals A to
 parse_order_name = name_parser(text.A_NAME, text.parse_name)
 
 
-def parse_price(found):
-    if found.isascii() and text.parse_price(found.encode()) is not None:
-        return int(found), None
+def parse_price(field):
+    if field.isascii() and text.parse_price(field.encode()) is not None:
+        return int(field), None
     allowed = f"it should be whole cents per MWh from {rules.LOWEST_PRICE} to {rules.HIGHEST_PRICE}"
-    return number_and_advice(found, allowed, 100, "EUR/MWh", rules.LOWEST_PRICE, rules.HIGHEST_PRICE)
+    return number_and_advice(field, allowed, 100, "EUR/MWh", rules.LOWEST_PRICE, rules.HIGHEST_PRICE)
 
 
-def number_and_advice(found, allowed, factor, unit, least, greatest):
+def number_and_advice(field, allowed, factor, unit, least, greatest):
     """The number that is meant by one that breaks its rule, if that is plain."""
-    digits = DECIMAL.fullmatch(found.strip())
+    digits = DECIMAL.fullmatch(field.strip())
     if not digits:
         return None, allowed
     sign, whole, rest = digits.groups()
@@ -75,7 +75,7 @@ def number_and_advice(found, allowed, factor, unit, least, greatest):
         value *= factor
     if value.denominator != 1 or not least <= value <= greatest:
         return None, allowed
-    shown = f" for {found.strip().replace(',', '.')} {unit}" if rest else ""
+    shown = f" for {field.strip().replace(',', '.')} {unit}" if rest else ""
     return int(value), f"{allowed}: write {int(value)}{shown}"
 
 
@@ -96,16 +96,16 @@ def parse_pair(pair):
     return (None if value is None else (int(number), value)), wrong
 
 
-def parse_volumes(found):
+def parse_volumes(field):
     """Pairs by increasing period: all that is wrong with them."""
-    if found.isascii() and text.parse_volumes(found.encode()) is not None:
-        return text.parse_volumes(found.encode()), None
-    if not found:
+    if field.isascii() and text.parse_volumes(field.encode()) is not None:
+        return text.parse_volumes(field.encode()), None
+    if not field:
         return None, "it should be period:volume, such as 8:450, or several, such as 8:450;9:450"
-    if (count := found.count(";") + 1) > rules.GREATEST_PERIOD:
+    if (count := field.count(";") + 1) > rules.GREATEST_PERIOD:
         return None, f"it has {count:,} pairs, and a day has at most {rules.GREATEST_PERIOD} periods"
     pairs, wrong = [], []
-    for part in found.split(";"):
+    for part in field.split(";"):
         pair, fault = parse_pair(part) if part.strip() else (None, "a pair between `;` is missing, or there is one `;` too many")
         pairs.append(pair)
         wrong += [fault] if fault else []
@@ -131,11 +131,11 @@ PARSERS = {
 }
 
 
-def parse_field(name, found):
+def parse_field(name, field):
     """A field without the spaces around it: its value, and its fault."""
-    bare = found.strip(" \t\u00a0")
+    bare = field.strip(" \t\u00a0")
     value, wrong = PARSERS[name](bare)
-    if bare != found:
+    if bare != field:
         spaces = f"there is a space around it: write {text.safe(bare)}"
         wrong = f"{spaces}; {wrong}" if wrong else spaces
     return value, wrong

@@ -39,7 +39,7 @@ def is_journal(data):
     return True
 
 
-class Found(NamedTuple):
+class Finding(NamedTuple):
     line: int
     field: str  # its name, or nothing if the whole record or text is meant
     words: str
@@ -55,7 +55,7 @@ class Lint:
 
     def __init__(self, data, command, periods=None, bar=None):
         self.command, self.periods, self.bar = command, periods, bar
-        self.found, self.held = [], None
+        self.findings, self.held = [], None
         self.lines = {}  # of each order of the book that was submitted, by participant and name
         self.unclear = set()  # participants and names of submits that couldn't be read
         self.others = set()  # participants
@@ -65,18 +65,18 @@ class Lint:
         self.has_semicolons = False  # between the fields of all lines
 
     def add_finding(self, line, words, field="", refusal=""):
-        self.found.append(Found(line, field, words, refusal))
+        self.findings.append(Finding(line, field, words, refusal))
 
     def collect_findings(self):
         """The findings on the text, by line, and after them the commands that the book would refuse."""
         other = OTHERS.get(kinds.kind_of(self.data))
         if other:
             self.add_finding(1, other)
-            return self.found
+            return self.findings
         if len(self.data) > rules.MOST_BYTES:
             remedy = f"remove empty lines; the day and {rules.MOST_RECORDS - 1} commands take less"
             self.add_finding(1, f"the text has {len(self.data):,} bytes, but a journal has at most {rules.MOST_BYTES:,}: {remedy}")
-            return self.found
+            return self.findings
         data, comma = self.mend_text(self.data)
         self.has_semicolons = comma == b";"
         if self.periods and first_word(data, comma) != "day":
@@ -97,7 +97,7 @@ class Lint:
                 break
             self.lint_record(line, [field.decode(errors="replace") for field in record])
         self.lint_close(line, number)
-        return sorted(self.found, key=lambda found: (bool(found.refusal), found.line))
+        return sorted(self.findings, key=lambda finding: (bool(finding.refusal), finding.line))
 
     def mend_text(self, data):
         """Reports the faults that concern all of a text. Returns the text without them, and the separator of its fields."""
@@ -352,10 +352,10 @@ def find_faults(data, command="clear", bar=None):
     return Lint(data, command, bar=bar).collect_findings()
 
 
-def summary_line(found):
+def summary_line(findings):
     """How many faults there are, and how many commands the book would refuse."""
-    refused = sum(1 for one in found if one.refusal)
-    counts = [(len(found) - refused, "fault"), (refused, "refused command")]
+    refused = sum(1 for one in findings if one.refusal)
+    counts = [(len(findings) - refused, "fault"), (refused, "refused command")]
     return ", ".join(f"{count} {name}{'s' * (count > 1)}" for count, name in counts if count) or "nothing is wrong"
 
 

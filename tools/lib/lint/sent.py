@@ -215,10 +215,10 @@ def more_fault(other, times):
     return Fault(words, "repeated", other.line, subject_of(other))
 
 
-def record_before(one, found):
-    """The record of the journal that a missing command should come after; `found` pairs the records that are sent with these."""
-    before = bisect_left(found, (one.record,))
-    return found[before - 1][1] if before else 0
+def record_before(one, record_pairs):
+    """The record of the journal that a missing command should come after. Each pair is of a sent record and one of the journal."""
+    before = bisect_left(record_pairs, (one.record,))
+    return record_pairs[before - 1][1] if before else 0
 
 
 def reply_lines(sent, published):

@@ -153,12 +153,12 @@ def holding_folder(path):
         os.close(number)
 
 
-def give_to_owner_of(made, path):
+def give_to_owner_of(file, path):
     """Gives a file that was made, by its path or its number, the owner of the office's folder: root may run a command on the office of a
     user, which has to read it."""
     if os.geteuid() == 0:
         owner = os.stat(path)
-        os.chown(made, owner.st_uid, owner.st_gid)
+        os.chown(file, owner.st_uid, owner.st_gid)
 
 
 @contextlib.contextmanager

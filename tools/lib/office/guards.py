@@ -169,8 +169,8 @@ class Handler(web_protocol.RequestHandler):
 class Server(web.Server):
     """Counts the connections, and ends those that take too long."""
 
-    def __init__(self, made, counts):
-        super().__init__(made.request_handler, request_factory=made.request_factory, loop=made._loop, **made._kwargs)
+    def __init__(self, server, counts):
+        super().__init__(server.request_handler, request_factory=server.request_factory, loop=server._loop, **server._kwargs)
         self.counts, self.since = counts, {}  # by connection: since when it is so, and whether a request is being answered
         self.watcher = self._loop.create_task(self.abort_late_connections())
 

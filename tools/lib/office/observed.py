@@ -33,13 +33,13 @@ class Defects(logging.Handler):
 
     def __init__(self, log, now=time.monotonic):
         super().__init__(logging.ERROR)
-        self.log, self.now, self.told = log, now, {}  # when each kind was logged last
+        self.log, self.now, self.last_times = log, now, {}  # when each kind was logged last
 
     def emit(self, record):
         found, now = record.exc_info[0] if record.exc_info else None, self.now()
         kind = found.__name__ if found else "unknown"
-        if now - self.told.get(kind, -DEFECT_SECONDS) >= DEFECT_SECONDS:
-            self.told[kind] = now
+        if now - self.last_times.get(kind, -DEFECT_SECONDS) >= DEFECT_SECONDS:
+            self.last_times[kind] = now
             self.log.write_event("defect", library=record.name, kind=kind)
 
 

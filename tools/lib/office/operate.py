@@ -67,11 +67,11 @@ def read_status(office, desk):
     return {"served": is_served, "participants": len(register.read_names()), "revoked": register.read_revoked(), "days": days}
 
 
-def status_lines(found):
-    yield f"{'served' if found['served'] else 'not served'}, {text.counted(found['participants'], 'participant')}"
-    if found["revoked"]:
-        yield f"revoked: {', '.join(found['revoked'])}"
-    for day in found["days"]:
+def status_lines(office_status):
+    yield f"{'served' if office_status['served'] else 'not served'}, {text.counted(office_status['participants'], 'participant')}"
+    if office_status["revoked"]:
+        yield f"revoked: {', '.join(office_status['revoked'])}"
+    for day in office_status["days"]:
         if "fault" in day:
             yield f"{day['day']}: can't be read"
             continue

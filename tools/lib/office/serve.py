@@ -36,8 +36,8 @@ def noting_unreadable(name, missed):
 class Office:
     """The days of an office that are served."""
 
-    def __init__(self, files, found, log=None):
-        self.files, self.programs = files, found
+    def __init__(self, files, programs, log=None):
+        self.files, self.programs = files, programs
         self.log, self.counts, self.clock = log or observed.Log(), observed.Counts(), Clock()
         self.key = files.read_key()
         self.public_key = files.require_public_text(self.key)

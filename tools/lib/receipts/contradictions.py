@@ -36,7 +36,7 @@ class Signed:
         self.entries = {}  # of each day, key and number, the first receipt and its place
         self.leaves = set()  # each day, key and number with a leaf
         self.subtrees = {}  # of each day and key, of each range of entries, the hashes
-        self.told = set()  # each day and key of which two trees or two entries are told
+        self.reported_scopes = set()  # each day and key of which two trees or two entries are told
         self.findings = []  # the contradictions
 
     def add_head(self, head, place, key):
@@ -52,7 +52,7 @@ class Signed:
             self.add_finding(place, f"{periods_differ(head, first)}, in {where}")
         same, where = self.of_size.setdefault((head.day, key, head.size), (head, place))
         if same.root != head.root:
-            self.told.add((head.day, key))
+            self.reported_scopes.add((head.day, key))
             self.add_finding(place, f"{roots_differ(head)}; the other one is in {where}")
         if head.size:
             self.add_hashes(head.day, {(0, head.size): head.root}, place, key)
@@ -76,7 +76,7 @@ class Signed:
         self.leaves.add((entry, leaf))
         first, where = self.entries.setdefault(entry, (receipt, place))
         if first is not receipt:
-            self.told.add((day, key))
+            self.reported_scopes.add((day, key))
             self.add_finding(place, f"{entries_differ(receipt, first)}, in {where}: {TWICE}")
 
     def add_extension(self, extension, place, key):
@@ -97,7 +97,7 @@ class Signed:
 
     def contradictions(self):
         """The findings. Of each day and key without two trees or two entries, two hashes of the fewest entries are one too."""
-        hashes = [(*scope, two_hashes(subtrees)) for scope, subtrees in self.subtrees.items() if scope not in self.told]
+        hashes = [(*scope, two_hashes(subtrees)) for scope, subtrees in self.subtrees.items() if scope not in self.reported_scopes]
         told = [Finding(*place, WRONG, words, about=CONTRADICTION) for place, words in (hashes_differ(day, *two) for day, _, two in hashes if two)]
         return [*self.findings, *told]
 

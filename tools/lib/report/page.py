@@ -21,9 +21,9 @@ class Section(NamedTuple):
     parts: list
 
 
-def figures(day, found):
+def figures(day, block_decisions):
     """The figures of a day, in a few numbers: their names, values and units."""
-    kinds = [decision.kind for decision in found]
+    kinds = [decision.kind for decision in block_decisions]
     yield "welfare", euros(day, day.published.welfare), "EUR"
     yield "energy traded", energy(day, sum(day.published.volumes)), "MWh"
     every = len(trades.traded_periods(day)) == day.problem.periods
@@ -42,17 +42,17 @@ def figures(day, found):
         yield f"blocks {kind}", kinds.count(kind), f"of {len(kinds)}"
 
 
-def sections(day, found, needed, curves):
+def sections(day, block_decisions, needed, curves):
     """The sections of a day's page: prices, blocks, periods, curves, participants and refused commands."""
     parts = [draw_picture(lambda width: pictures.prices_picture(day, width), "prices", prices_words(day))]
     yield Section("prices", "Prices and volumes", parts)
-    if found:
-        picture = draw_picture(lambda width: pictures.blocks_picture(day, width), "blocks", block_words(found))
-        yield Section("blocks", "Blocks", [picture, block_table(day, found, needed)])
+    if block_decisions:
+        picture = draw_picture(lambda width: pictures.blocks_picture(day, width), "blocks", block_words(block_decisions))
+        yield Section("blocks", "Blocks", [picture, block_table(day, block_decisions, needed)])
     yield Section("periods", "Periods", [period_table(day)])
     if made := list(curves):
         yield Section("curves", "Supply and demand", made)
-    yield Section("participants", "Participants", list(participant_tables(day, found)))
+    yield Section("participants", "Participants", list(participant_tables(day, block_decisions)))
     refused = refusal_tables(day)
     if refused:
         yield Section("refused", "Refused commands", refused)

@@ -88,8 +88,8 @@ def price_words(day, number):
     return f"{text.shown_price(day.published.prices[number - 1])} EUR/MWh"
 
 
-def block_words(found):
-    counts = [f"{sum(decision.kind == kind for decision in found)} {kind}" for kind in MARKS]
+def block_words(block_decisions):
+    counts = [f"{sum(decision.kind == kind for decision in block_decisions)} {kind}" for kind in MARKS]
     words = f"Blocks over their periods: {', '.join(counts)}."
     return f"{words} An arrow leads from a parent to its child, and a bracket joins the blocks of an exclusive group."
 
@@ -134,8 +134,8 @@ def drawing_curves(day, numbers):
             bar.end()
 
 
-def stepping(made, bar):
+def stepping(pictures_of_curves, bar):
     """Yields each that is made, and takes a step of the bar after it."""
-    for one in made:
+    for one in pictures_of_curves:
         yield one
         bar.step()

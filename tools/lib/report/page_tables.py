@@ -47,11 +47,11 @@ def euros(day, amount):
     return text.amount(amount, day.problem.hours)
 
 
-def supporting_words(found):
+def supporting_words(cleared):
     """The supporting prices of a period in words."""
-    if found is None:
+    if cleared is None:
         return "none"
-    low, high = text.shown_price(found.low), text.shown_price(found.high)
+    low, high = text.shown_price(cleared.low), text.shown_price(cleared.high)
     return low if low == high else f"{low} to {high}"
 
 
@@ -71,9 +71,9 @@ def periods_of(order):
     return spans.spans_words(number for number, _ in order.volumes)
 
 
-def block_table(day, found, needed):
+def block_table(day, block_decisions, needed):
     rows = []
-    for place, (block, surplus, decision) in enumerate(zip(day.problem.blocks, day.published.surpluses, found)):
+    for place, (block, surplus, decision) in enumerate(zip(day.problem.blocks, day.published.surpluses, block_decisions)):
         order = block.order
         why = f"{decision.why}. {needed[place]}" if place in needed else decision.why
         mark = Markup('<span class="mark {}"></span>{}').format(MARKS[decision.kind], decision.kind)
@@ -86,13 +86,13 @@ def block_table(day, found, needed):
     return Table(caption, [Heading("block"), Heading("decision", "decision"), Heading("reason", "why"), *columns], rows)
 
 
-def order_row(day, row, made, found):
+def order_row(day, row, own_trades, decisions_by_name):
     """A row of a participant's orders."""
     order = row.order
-    done = sum(trade.volume for trade in made)
+    done = sum(trade.volume for trade in own_trades)
     offered = sum(tenths for _, tenths in order.volumes)
-    outcome = trades.execution_words(order, done) if order.kind == "hour" else found[row.who, row.name].kind
-    amount = euros(day, sum(trade.amount() for trade in made))
+    outcome = trades.execution_words(order, done) if order.kind == "hour" else decisions_by_name[row.who, row.name].kind
+    amount = euros(day, sum(trade.amount() for trade in own_trades))
     energies = energy(day, offered), energy(day, done)
     return [name_cell(row.name), order.kind, order.side, text.shown_price(order.price), periods_of(order), *energies, outcome, amount]
 
@@ -102,9 +102,9 @@ def total_row(day, who, count, total):
     return [who, count, energy(day, total.bought), energy(day, total.sold), *amounts]
 
 
-def participant_tables(day, found):
+def participant_tables(day, block_decisions):
     """A table of the participants with their sum, and under it the orders of each."""
-    by_name = {(block.who, block.name): decision for block, decision in zip(day.problem.blocks, found)}
+    by_name = {(block.who, block.name): decision for block, decision in zip(day.problem.blocks, block_decisions)}
     rows = {}
     for row, made in trades.row_trades(day):
         rows.setdefault(row.who, []).append(order_row(day, row, made, by_name))

@@ -62,11 +62,11 @@ def welfare_faults(problem, published, follows):
         yield subject_fault(published, "welfare", "the welfare", words)
 
 
-def right_price_words(found):
+def right_price_words(cleared):
     """Which price a period has, and why."""
-    if found.low == found.high:
-        return f"the only supporting price is {found.price} (cents)"
-    return f"the supporting prices go from {found.low} to {found.high} (cents), and the rule takes {found.price}, {found.case}"
+    if cleared.low == cleared.high:
+        return f"the only supporting price is {cleared.price} (cents)"
+    return f"the supporting prices go from {cleared.low} to {cleared.high} (cents), and the rule takes {cleared.price}, {cleared.case}"
 
 
 def period_faults(problem, published, follows):

@@ -54,25 +54,26 @@ def subject_fault(published, kind, about, words):
     return line_fault(kind, published.lines[about], about, words)
 
 
-def moved_pairs(wanted, found, pairs):
-    """The lines of `matched_places` that stand in the place of none and are missing in another: from the place found to the one wanted."""
-    apart = [(at, place) for at, place in pairs if at is None or place is None or wanted[at] != found[place]]
-    missing = {wanted[at]: at for at, _ in apart if at is not None}
-    strays = {found[place]: place for _, place in reversed(apart) if place is not None}
+def moved_pairs(expected_lines, text_lines, pairs):
+    """The lines of `matched_places` that stand in the place of none and are missing in another: from the place in the text to the
+    expected one."""
+    apart = [(at, place) for at, place in pairs if at is None or place is None or expected_lines[at] != text_lines[place]]
+    missing = {expected_lines[at]: at for at, _ in apart if at is not None}
+    strays = {text_lines[place]: place for _, place in reversed(apart) if place is not None}
     return {place: missing[line] for line, place in strays.items() if line in missing}
 
 
-def matched_places(wanted, found):
-    """The places of the lines that are wanted and of those found, in their order, as pairs; None stands for the other place of a
-    line that is missing, or that is found and not wanted. Lines are given by what they are about, so that a stray line is one pair."""
-    if wanted == found:  # the usual case, and far quicker to see
-        return [(at, at) for at in range(len(wanted))]
-    near = found[: 2 * len(wanted)]
+def matched_places(expected_lines, text_lines):
+    """The places of the expected lines and of those of a text, in their order, as pairs; None stands for the other place of a line that
+    is missing, or that isn't expected. Lines are given by their subjects, so that a stray line is one pair."""
+    if expected_lines == text_lines:  # the usual case, and far quicker to see
+        return [(at, at) for at in range(len(expected_lines))]
+    near = text_lines[: 2 * len(expected_lines)]
     pairs, first, begin = [], 0, 0
-    for last, end in [*subsequence.longest_pairs(wanted, near), (len(wanted), len(near))]:
+    for last, end in [*subsequence.longest_pairs(expected_lines, near), (len(expected_lines), len(near))]:
         both = min(last - first, end - begin)
         pairs += [(first + step, begin + step) for step in range(both)]
         pairs += [(at, None) for at in range(first + both, last)] + [(None, at) for at in range(begin + both, end)]
-        pairs += [(last, end)] if last < len(wanted) else []
+        pairs += [(last, end)] if last < len(expected_lines) else []
         first, begin = last + 1, end + 1
-    return pairs + [(None, at) for at in range(len(near), len(found))]
+    return pairs + [(None, at) for at in range(len(near), len(text_lines))]

@@ -81,7 +81,7 @@ def sums(problem, published):
     return Sums(sum(total.paid for total in totals), sum(total.received for total in totals), surpluses["hour"], surpluses["block"])
 
 
-def payments_line(problem, found):
+def payments_line(problem, totals):
     """The payments of buyers and to sellers, in words, of right results."""
-    paid, received = problem.euros(found.paid), problem.euros(found.received)
+    paid, received = problem.euros(totals.paid), problem.euros(totals.received)
     return f"by adding: buyers pay {paid} EUR, sellers receive {received} EUR; the surpluses add up to the welfare, and nobody loses"

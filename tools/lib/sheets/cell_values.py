@@ -107,10 +107,10 @@ def parse_kept_periods(cell, periods):
     return tuple(parse_periods(cell, periods))
 
 
-def refuse_many(found, cell):
+def refuse_many(parts, cell):
     """Refuses a cell with more parts than a day has periods, before each is read."""
-    if len(found) > rules.GREATEST_PERIOD:
-        raise BadOrders(f"{text.quoted(cell)} has {len(found):,} parts: a day has at most {rules.GREATEST_PERIOD} periods")
+    if len(parts) > rules.GREATEST_PERIOD:
+        raise BadOrders(f"{text.quoted(cell)} has {len(parts):,} parts: a day has at most {rules.GREATEST_PERIOD} periods")
 
 
 def parse_numbers(cell, periods):

@@ -16,12 +16,12 @@ class Columns:
     """A table of commands or of orders that has further columns, some of which it must have: where these stand, and the table. Those of
     orders are needed as far as its commands have them."""
 
-    def __init__(self, found, needed):
-        self.places = {name: at for at, name in reversed(list(enumerate(column_names(found))))}  # the first of each name
-        self.table = order_table.require_order_table("", found, self.needed(found.rest()), (*needed, WHAT))
+    def __init__(self, table_cells, needed):
+        self.places = {name: at for at, name in reversed(list(enumerate(column_names(table_cells))))}  # the first of each name
+        self.table = order_table.require_order_table("", table_cells, self.needed(table_cells.rest()), (*needed, WHAT))
         for name in needed:
             if name not in self.places:
-                raise order_table.BadOrders(f"line {found.header()[0]}: there is no column {name}")
+                raise order_table.BadOrders(f"line {table_cells.header()[0]}: there is no column {name}")
 
     def needed(self, rows):
         """The columns of orders that the commands of the rows need; all of them if there are none."""
@@ -54,14 +54,14 @@ class Columns:
         return None if self.is_empty(cells) else parse_command(row, what), row.faults
 
 
-def column_names(found):
+def column_names(table_cells):
     """The names of a table's columns, by its cells."""
-    return [cell.strip().lower() for cell in found.header()[1]]
+    return [cell.strip().lower() for cell in table_cells.header()[1]]
 
 
-def is_command_table(found):
+def is_command_table(table_cells):
     """Whether a table, given by its cells, has the column `what`."""
-    return WHAT in column_names(found)
+    return WHAT in column_names(table_cells)
 
 
 def add_other_faults(row, what):
@@ -104,12 +104,12 @@ class Commands:
                 yield line, command
 
 
-def parse_commands(given, periods):
+def parse_commands(table_cells, periods):
     """The commands of a table by its cells, each with its line; and notes on the table. Their faults, a line each, are
     `order_table.BadOrders`."""
     wrong = order_table.Faults()
     try:
-        columns = Columns(given, ())
+        columns = Columns(table_cells, ())
     except order_table.BadOrders as fault:
         for line in str(fault).split("\n"):
             wrong.add(line)

@@ -176,11 +176,11 @@ class Entered:
 class Below:
     """The rows of a table below its header, without those that repeat it."""
 
-    def __init__(self, found):
-        self.found, self.header = found, found.header()[1]
+    def __init__(self, table_cells):
+        self.table_cells, self.header = table_cells, table_cells.header()[1]
 
     def __iter__(self):
-        return (row for row in self.found.rest() if row[1] != self.header)
+        return (row for row in self.table_cells.rest() if row[1] != self.header)
 
 
 class Table(NamedTuple):
@@ -251,23 +251,23 @@ def count_rows_or_refuse(rows, most):
     return count
 
 
-def require_order_table(name, found, needed=NEEDED, further=()):
+def require_order_table(name, table_cells, needed=NEEDED, further=()):
     """A table of orders by its cells, of which the header has been read; or one that needs other columns, and has further ones."""
-    (line, header), read = found.header(), found.read
+    (line, header), read = table_cells.header(), table_cells.read
     if WHAT not in further:
-        refuse_commands(header, found.rest())
+        refuse_commands(header, table_cells.rest())
     try:
         places, unused = find_columns(line, header, needed, further)
-        refuse_lost_order(line, unused, found.rest())
+        refuse_lost_order(line, unused, table_cells.rest())
         refuse_lost_command(line, unused if WHAT in further else {})
-        refuse_unnamed(header, found.rest())
+        refuse_unnamed(header, table_cells.rest())
     except BadOrders as fault:
         raise BadOrders("\n".join([str(fault), *read])) from None
     notes = [*read, *unused_notes(unused)]
-    again = [number for number, cells in found.rest() if cells == header]
+    again = [number for number, cells in table_cells.rest() if cells == header]
     if again:
         notes.append(f"line {', '.join(map(str, again))} names the columns once more")
-    return Table(name, Below(found), places, len(header), found.decimal_comma, notes, read)
+    return Table(name, Below(table_cells), places, len(header), table_cells.decimal_comma, notes, read)
 
 
 def refuse_lost_order(line, unused, rows):

@@ -19,24 +19,24 @@ class Linted:
     def __init__(self, path, purpose, quiet=False):
         self.path, self.purpose, self.quiet = path, purpose, quiet
         self.input = {"role": "journal", "file": text.for_json(path), "bytes": None, "sha256": None}
-        self.found = []
+        self.findings = []
 
     def read_and_lint(self):
         data = file_io.read_bytes(self.path)
         self.input.update(bytes=len(data), sha256=hashlib.sha256(data).hexdigest())
         bar = StepBar("lint", len(data), "bytes", self.quiet)
         try:
-            self.found = lint.find_faults(data, self.purpose, bar)
+            self.findings = lint.find_faults(data, self.purpose, bar)
         finally:
             bar.end()
 
     @property
     def status(self):
-        return status_of(self.found)
+        return status_of(self.findings)
 
     def lines(self):
         """The findings for readers."""
-        return [*self.found, lint.summary_line(self.found)]
+        return [*self.findings, lint.summary_line(self.findings)]
 
     def record(self, status, message=None):
         return {
@@ -46,16 +46,16 @@ class Linted:
             "version": VERSION,
             "for": self.purpose,
             "inputs": [self.input],
-            "faults": [{"line": one.line, "field": one.field or None, "words": one.words} for one in self.found if not one.refusal],
+            "faults": [{"line": one.line, "field": one.field or None, "words": one.words} for one in self.findings if not one.refusal],
             "refused": [
                 {"line": one.line, "field": one.field or None, "reason": one.refusal, "words": one.words}
-                for one in self.found
+                for one in self.findings
                 if one.refusal
             ],
         }
 
 
-def status_of(found):
-    if all(one.refusal for one in found):
-        return command.DIFFERS if found else command.DONE
+def status_of(findings):
+    if all(one.refusal for one in findings):
+        return command.DIFFERS if findings else command.DONE
     return command.FAULTY

@@ -35,7 +35,7 @@ def place_of(side, limit):
     return rules.HIGHEST_PRICE - limit if side == "buy" else limit - rules.LOWEST_PRICE
 
 
-class Found(NamedTuple):
+class WorstLimit(NamedTuple):
     """The worst limit at which a block is accepted, in cents per MWh, None if there is none; the clearing at it, and one cent past it,
     or at the best limit if none is enough; None at a place past the range. Their results were checked: by the law, no other limit has
     such a pair, whatever the other clearings printed. `clearings` is how many were needed apart from the day as it was."""
@@ -109,47 +109,47 @@ class LimitSearch:
         before = len(self.printed)
         limit, past = self.run_for_ends()
         at, after = (None if end is None else self.run_for_day(end) for end in (limit, past))
-        return Found(limit, at, past, after, len(self.printed) - before)
+        return WorstLimit(limit, at, past, after, len(self.printed) - before)
 
 
-def why_never(search, found):
+def why_never(search, worst):
     """Why a block is rejected with the best limit of the range."""
-    read = journal.parse_journal(search.text(found.past_limit))
-    day = day_files.Day.of_text(read, search.printed[found.past_limit])
+    read = journal.parse_journal(search.text(worst.past_limit))
+    day = day_files.Day.of_text(read, search.printed[worst.past_limit])
     place = day.problem.place(*search.key)
     why = decisions.decisions(day.problem, day.published.accepted, day.outcome)[place].why
     return why if why.startswith("with ") else f"it {why}"  # 'with' its family, 'it' would gain
 
 
-def other_orders(search, found):
+def other_orders(search, worst):
     """The orders whose result is another at the limit than one cent past it, without the block."""
-    if found.at is None or found.past is None:
+    if worst.at is None or worst.past is None:
         return []
-    return changes.differing(found.past, found.at, search.key)
+    return changes.differing(worst.past, worst.at, search.key)
 
 
-def row(search, found):
+def row(search, worst):
     """The cells of `HEADS` for a block."""
     order, own = search.order, search.run_for_day(search.order.price)
     cells = [*search.key, order.side, text.eur_per_mwh(order.price), own.outcome(search.key)]
-    if found.limit is None:
-        return [*cells, "", "", "", "", f"no limit of the range is enough: with the best, {why_never(search, found)}"]
-    amounts = [text.eur(amount, own.hours, thousands="") for amount in (found.at.surplus(search.key), found.at.welfare)]
-    why = "every limit of the range is enough" if found.past is None else ""
-    return [*cells, text.eur_per_mwh(found.limit), *amounts, len(other_orders(search, found)), why]
+    if worst.limit is None:
+        return [*cells, "", "", "", "", f"no limit of the range is enough: with the best, {why_never(search, worst)}"]
+    amounts = [text.eur(amount, own.hours, thousands="") for amount in (worst.at.surplus(search.key), worst.at.welfare)]
+    why = "every limit of the range is enough" if worst.past is None else ""
+    return [*cells, text.eur_per_mwh(worst.limit), *amounts, len(other_orders(search, worst)), why]
 
 
-def cases(search, found):
+def cases(search, worst):
     """The days to compare, each with its name: as it was, at the limit, and one cent past it."""
     own = search.order.price
     yield "as it was", own, search.run_for_day(own)
-    if found.limit is not None:
-        yield "at the worst limit", found.limit, found.at
-    if found.past is not None:
-        yield "one cent past it" if found.limit is not None else "at the best limit", found.past_limit, found.past
+    if worst.limit is not None:
+        yield "at the worst limit", worst.limit, worst.at
+    if worst.past is not None:
+        yield "one cent past it" if worst.limit is not None else "at the best limit", worst.past_limit, worst.past
 
 
-def record(search, found):
+def record(search, worst):
     """The same for programs."""
     own = search.order.price
 
@@ -162,7 +162,7 @@ def record(search, found):
         return {"case": name, **numbers, "prices_eur_mwh": [price / 100 for price in day.prices], "traded": traded}
 
     def other(key):
-        energies = [float(text.energy(day.executed(key), day.hours, "")) for day in (found.past, found.at)]
+        energies = [float(text.energy(day.executed(key), day.hours, "")) for day in (worst.past, worst.at)]
         return {"participant": key[0], "order": key[1], "past_mwh": energies[0], "at_mwh": energies[1]}
 
     names = dict(zip(("participant", "order"), search.key))
@@ -170,31 +170,31 @@ def record(search, found):
         **names,
         "side": search.order.side,
         "price_eur_mwh": own / 100,
-        "worst_limit_eur_mwh": None if found.limit is None else found.limit / 100,
-        "why": row(search, found)[-1] or None,
-        "clearings": found.clearings,
+        "worst_limit_eur_mwh": None if worst.limit is None else worst.limit / 100,
+        "why": row(search, worst)[-1] or None,
+        "clearings": worst.clearings,
         "law": LAW,
-        "cases": [case(*each) for each in cases(search, found)],
-        "others": [other(key) for key in other_orders(search, found)],
+        "cases": [case(*each) for each in cases(search, worst)],
+        "others": [other(key) for key in other_orders(search, worst)],
     }
 
 
-def sentences(search, found):
+def sentences(search, worst):
     """The answer in words."""
     order, who = search.order, " ".join(search.key)
     does, worse = ("buys", "lower") if order.side == "buy" else ("sells", "higher")
     outcome = search.run_for_day(order.price).outcome(search.key)
     energy = text.energy(sum(volume for _, volume in order.volumes), search.run_for_day(order.price).hours)
     yield f"{who} {does} {energy} MWh in a block with a limit of {text.shown_price(order.price)} EUR/MWh, and is {outcome}."
-    if found.limit is None:
-        best = text.shown_price(found.past_limit)
-        yield f"No limit of the range is enough: with the best, {best} EUR/MWh, {why_never(search, found)}."
-    elif found.past is None:
-        yield f"Every limit of the range is enough, up to the worst, {text.shown_price(found.limit)} EUR/MWh."
+    if worst.limit is None:
+        best = text.shown_price(worst.past_limit)
+        yield f"No limit of the range is enough: with the best, {best} EUR/MWh, {why_never(search, worst)}."
+    elif worst.past is None:
+        yield f"Every limit of the range is enough, up to the worst, {text.shown_price(worst.limit)} EUR/MWh."
     else:
-        start = f"Its worst limit is {text.shown_price(found.limit)} EUR/MWh: with it, and with every {BETTER[order.side]} limit"
+        start = f"Its worst limit is {text.shown_price(worst.limit)} EUR/MWh: with it, and with every {BETTER[order.side]} limit"
         yield f"{start}, it is accepted; with a {worse} one it is rejected."
-    yield f"This is exact, since {LAW}. It took {text.counted(found.clearings, 'clearing')} more than the day itself."
+    yield f"This is exact, since {LAW}. It took {text.counted(worst.clearings, 'clearing')} more than the day itself."
 
 
 def run_for_short_sentence(search):
@@ -269,9 +269,9 @@ def aligned_lines(rows):
         yield "  ".join([first.ljust(widths[0]), *(cell.rjust(width) for cell, width in zip(rest, widths[1:]))]).rstrip()
 
 
-def table(search, found):
+def table(search, worst):
     """What the block and the day come to in each case, and the prices that concern the block or differ."""
-    days = list(cases(search, found))
+    days = list(cases(search, worst))
     yield ["", *(name for name, _, _ in days)]
     yield ["limit, EUR/MWh", *(text.shown_price(limit) for _, limit, _ in days)]
     yield ["result", *(day.outcome(search.key) for _, _, day in days)]
@@ -285,21 +285,21 @@ def table(search, found):
             yield [f"price of period {period}, EUR/MWh", *("no trade" if price is None else text.shown_price(price) for price in prices)]
 
 
-def other_lines(search, found):
+def other_lines(search, worst):
     """The orders whose result differs between the limit and one cent past it."""
-    keys = other_orders(search, found)
-    if found.limit is None or found.past is None:
+    keys = other_orders(search, worst)
+    if worst.limit is None or worst.past is None:
         return
     if not keys:
         yield "No other order's result differs between the worst limit and one cent past it."
         return
     yield f"The result of {text.counted(len(keys), 'other order')} differs. Executed, in MWh, one cent past the limit and at it:"
-    rows = [[" ".join(key), *(text.energy(day.executed(key), day.hours) for day in (found.past, found.at))] for key in keys[:MOST_OTHERS]]
+    rows = [[" ".join(key), *(text.energy(day.executed(key), day.hours) for day in (worst.past, worst.at))] for key in keys[:MOST_OTHERS]]
     yield from (f"  {line}" for line in aligned_lines(rows))
     if len(keys) > MOST_OTHERS:
         yield f"  and {len(keys) - MOST_OTHERS} more: --json has all"
 
 
-def lines(search, found):
+def lines(search, worst):
     """All of it, as lines for readers."""
-    return [*sentences(search, found), "", *aligned_lines(list(table(search, found))), "", *other_lines(search, found)]
+    return [*sentences(search, worst), "", *aligned_lines(list(table(search, worst))), "", *other_lines(search, worst)]

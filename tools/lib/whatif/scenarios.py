@@ -280,9 +280,9 @@ def block_of(printed, key):
     return {b"accepted": True, b"rejected": False}[outcome], int(surplus)
 
 
-def quantile(found, part):
+def quantile(numbers, part):
     """The number of a sorted list that this per cent of it are at most; None of an empty list."""
-    return found[max(-(-len(found) * part // 100) - 1, 0)] if found else None
+    return numbers[max(-(-len(numbers) * part // 100) - 1, 0)] if numbers else None
 
 
 def distribution_words(distribution):

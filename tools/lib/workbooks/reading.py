@@ -42,7 +42,7 @@ class Relations(Part):
         folder, name = posixpath.split(owner)
         self.folder = f"/{folder}"
         self.part = posixpath.join(folder, "_rels", f"{name}.rels")
-        self.found = {}
+        self.parts = {}
 
     def open_Relationship(self, attributes):
         identifier, target = attributes.get("Id", ""), attributes.get("Target", "")
@@ -51,17 +51,17 @@ class Relations(Part):
             return
         if max(len(identifier), len(target)) > LONGEST_NAME:
             raise broken(f"the name of a part has more than {LONGEST_NAME:,} characters")
-        if identifier in self.found:
+        if identifier in self.parts:
             raise broken(f"two relations are named {text.quoted(identifier)}")
-        if len(self.found) == MOST_SHEETS:
+        if len(self.parts) == MOST_SHEETS:
             raise too_many(MOST_SHEETS, "sheets")
         if attributes.get("TargetMode") == "External":
             raise broken(f"{text.quoted(target)} isn't a part of it")
-        self.found[identifier] = kind, posixpath.normpath(posixpath.join(self.folder, target)).lstrip("/")
+        self.parts[identifier] = kind, posixpath.normpath(posixpath.join(self.folder, target)).lstrip("/")
 
     def only_part_or_refuse(self, kind):
         """The only part of a kind; None if there is none."""
-        found = [part for each, part in self.found.values() if each == kind]
+        found = [part for each, part in self.parts.values() if each == kind]
         if len(found) > 1:
             raise broken(f"it has two parts of the kind {kind}")
         return found[0] if found else None
@@ -119,7 +119,7 @@ class Workbook(Part):
         differ by capitals alone for one."""
         sheets, names = {}, set()
         for name, identifier in self.sheets:
-            kind, part = self.relations.found.get(identifier, (None, None))
+            kind, part = self.relations.parts.get(identifier, (None, None))
             if kind in WITHOUT_CELLS:
                 continue
             is_known = name.lower() in names

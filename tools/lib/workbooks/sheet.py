@@ -34,7 +34,7 @@ class Strings(Texts):
 
     def __init__(self, needed):
         super().__init__()
-        self.needed, self.number, self.found, self.size = needed, -1, Kept(), 0
+        self.needed, self.number, self.texts, self.size = needed, -1, Kept(), 0
         self.styled = Numbers()  # of those that Excel shows in another way
 
     def open_si(self, _):
@@ -47,7 +47,7 @@ class Strings(Texts):
             self.size += size_of(words)
             if self.size > MOST_TEXT:
                 raise too_many(MOST_TEXT, "bytes of text in its cells")
-            self.found.add(self.number, words)
+            self.texts.add(self.number, words)
             if self.is_marked:
                 self.styled.add(self.number)
 
@@ -316,7 +316,7 @@ class Sheet(Texts):
             for at, cell in enumerate(self.cells):
                 if isinstance(cell, int):
                     self.column = at + 1
-                    words = shared.found.get(cell)
+                    words = shared.texts.get(cell)
                     if words is None:
                         raise self.fault(f"it has no string '{cell}'")
                     self.cells[at] = shared_text(cell, words, cell in shared.styled)
