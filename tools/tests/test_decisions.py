@@ -17,7 +17,7 @@ PERIODS = [line for number in (1, 2, 3) for line in (
     f"submit,H,B{number},hour,buy,8000,{number}:500,,", f"submit,H,S{number},hour,sell,6000,{number}:500,,")]
 
 
-def told(data, accepted):
+def kinds_and_words(data, accepted):
     """The kind and the words of each block."""
     day = day_of(data, results_of(data, frozenset(accepted)))
     found = decisions.decisions(day.problem, day.published.accepted, day.outcome)
@@ -54,10 +54,10 @@ class Hand(unittest.TestCase):
         self.assertEqual(best_of(data), frozenset())
         # If both are accepted nevertheless, START loses.
         said = "loses at the prices by itself, and with RUN it loses 1,060.00 EUR"
-        self.assertEqual(told(data, {0, 1})[0], (decisions.ACCEPTED, said))
+        self.assertEqual(kinds_and_words(data, {0, 1})[0], (decisions.ACCEPTED, said))
         end = "though the welfare would be 1,740.00 EUR greater"
         self.assertEqual(
-            told(data, ()),
+            kinds_and_words(data, ()),
             [
                 (
                     decisions.PARADOX,
@@ -101,7 +101,7 @@ class Hand(unittest.TestCase):
             "submit,A,Q,block,sell,1500,2:100,,X",
         )
         self.assertEqual(best_of(data), {0, 1})
-        kind, why = told(data, {0, 1})[2]
+        kind, why = kinds_and_words(data, {0, 1})[2]
         self.assertEqual(kind, decisions.REJECTED)
         self.assertEqual(
             why,
@@ -114,7 +114,7 @@ class Hand(unittest.TestCase):
         data = journal_of(*PERIODS, "submit,A,P,block,sell,10000,1:100,,", "submit,A,C,block,sell,4500,2:100,P,")
         self.assertEqual(best_of(data), frozenset())
         self.assertEqual(
-            told(data, ()),
+            kinds_and_words(data, ()),
             [
                 (decisions.REJECTED, "would lose 50.00 EUR at the prices, even with C"),
                 (
@@ -128,8 +128,9 @@ class Hand(unittest.TestCase):
 
     def test_a_child_that_would_lose(self):
         data = journal_of(*PERIODS, "submit,A,P,block,sell,10000,1:100,,", "submit,A,C,block,sell,9000,2:100,P,")
-        self.assertEqual(told(data, ())[1], (decisions.REJECTED, "would lose 200.00 EUR at the prices; its parent P is rejected"))
-        self.assertEqual(told(data, ())[0], (decisions.REJECTED, "would lose 300.00 EUR at the prices"))
+        why = "would lose 200.00 EUR at the prices; its parent P is rejected"
+        self.assertEqual(kinds_and_words(data, ())[1], (decisions.REJECTED, why))
+        self.assertEqual(kinds_and_words(data, ())[0], (decisions.REJECTED, "would lose 300.00 EUR at the prices"))
 
     def test_of_two_children_in_one_group_the_better_one_is_taken(self):
         # P loses 100 EUR at the price of 70; C1 gains 50, C2 150, D 20. Only C2 and D, a child without a group, are of use.
@@ -140,7 +141,7 @@ class Hand(unittest.TestCase):
             "submit,A,C2,block,sell,5500,2:100,P,X",
             "submit,A,D,block,sell,6800,3:100,P,",
         )
-        found = told(data, ())
+        found = kinds_and_words(data, ())
         said = f"with C2 and D it would gain 70.00 EUR at the prices, but if all 3 {IF}"
         self.assertTrue(found[0][1].startswith(said), found[0])
         # C1 with P and D would lose 30 EUR.
@@ -156,7 +157,7 @@ class Hand(unittest.TestCase):
             "submit,A,C,block,sell,2000,2:100,P,",
         )
         self.assertEqual(best_of(data), {0})
-        found = told(data, {0})
+        found = kinds_and_words(data, {0})
         self.assertEqual(
             found[2],
             (
@@ -170,30 +171,30 @@ class Hand(unittest.TestCase):
     def test_a_block_that_can_never_be_accepted(self):
         data = journal_of(*PERIODS, "submit,A,P,block,sell,2000,1:100,,X", "submit,A,C,block,sell,10,2:100,P,X")
         why = "can never be accepted, because P, from which it descends, and it are both of the group X"
-        self.assertEqual(told(data, {0})[1], (decisions.REJECTED, why))
+        self.assertEqual(kinds_and_words(data, {0})[1], (decisions.REJECTED, why))
         data = journal_of(*PERIODS, "submit,A,P,block,sell,2000,1:100,,X", "submit,A,C,block,sell,10,2:100,P,X",
                           "submit,A,D,block,sell,10,2:100,C,")
         why = "can never be accepted, because P and C, from which it descends, are both of the group X"
-        self.assertEqual(told(data, {0})[2], (decisions.REJECTED, why))
+        self.assertEqual(kinds_and_words(data, {0})[2], (decisions.REJECTED, why))
 
     def test_equal_welfare(self):
         data = journal_of(*PERIODS, "submit,A,K1,block,sell,2000,1:500,,X", "submit,A,K2,block,sell,2000,2:500,,X")
         self.assertEqual(best_of(data), {0})
         end = "in its place the welfare would be the same, and"
-        self.assertTrue(told(data, {0})[1][1].endswith(f"{end} of equal selections the one with the earlier block is taken"))
-        self.assertTrue(told(data, {1})[0][1].endswith(f"{end} it ranks above"))
+        self.assertTrue(kinds_and_words(data, {0})[1][1].endswith(f"{end} of equal selections the one with the earlier block is taken"))
+        self.assertTrue(kinds_and_words(data, {1})[0][1].endswith(f"{end} it ranks above"))
 
     def test_a_twin_that_stands_earlier(self):
         """It is the reason, regardless of the result if both were accepted."""
         data = journal_of("submit,A,B,hour,buy,6000,8:10,,", "submit,A,K1,block,sell,100,8:10,,", "submit,B,K1,block,sell,100,8:10,,")
         self.assertEqual(best_of(data), {0})
         why = "would gain 59.00 EUR at the prices, but A,K1 offers the same and stands earlier in the book"
-        self.assertEqual(told(data, {0})[1], (decisions.PARADOX, why))
+        self.assertEqual(kinds_and_words(data, {0})[1], (decisions.PARADOX, why))
         other = data.replace(b"submit,B,K1,block,sell,100", b"submit,B,K1,block,sell,101")
         unmatched = f"if it {IF} period 8 wouldn't balance: 1.0 MW would have no buyer"
-        self.assertIn(unmatched, told(other, {0})[1][1])
+        self.assertIn(unmatched, kinds_and_words(other, {0})[1][1])
         # Of results that accept the later one, it isn't the reason: they aren't the best.
-        self.assertIn(unmatched, told(data, {1})[0][1])
+        self.assertIn(unmatched, kinds_and_words(data, {1})[0][1])
 
     def test_codes(self):
         """Each is in the page of the tables, and each of a block that results can have is found."""
@@ -242,11 +243,11 @@ class Hand(unittest.TestCase):
             "submit,A,K2,block,sell,100,1:5,K1,",
             "submit,A,K3,block,sell,100,1:30,,",
         )
-        found = told(data, ())
+        found = kinds_and_words(data, ())
         self.assertTrue(found[2][1].endswith(f"{IF} period 1 wouldn't balance: 2.0 MW would have no buyer"))
         self.assertEqual(found[2][0], decisions.PARADOX)
         data = journal_of("submit,A,S1,hour,sell,1,1:3,,", "submit,A,S2,hour,sell,1,2:7,,", "submit,A,K,block,buy,9,1:3;2:10,,")
-        self.assertTrue(told(data, ())[0][1].endswith(f"{IF} period 2 wouldn't balance: 0.3 MW would have no seller"))
+        self.assertTrue(kinds_and_words(data, ())[0][1].endswith(f"{IF} period 2 wouldn't balance: 0.3 MW would have no seller"))
 
     def test_the_volume_that_finds_no_other_side(self):
         """With so much less of the block in the period, and not with a tenth more, the period balances."""
@@ -338,7 +339,7 @@ class Random(unittest.TestCase):
             self.assertEqual(decision.other.losers, losers)
             # The selection is the best one: the named reason must speak against another.
             self.assertTrue(losers or welfare <= without)
-            self.told(decision, welfare - without, losers, place)
+            self.check_worth_words(decision, welfare - without, losers, place)
         for kind, holds in {
             "families": len(family) > 1,
             "losing": not ranks[family][0],
@@ -354,7 +355,7 @@ class Random(unittest.TestCase):
         """That nobody in it loses at the prices, and its gain; the fewer blocks the better."""
         return not plain.losers(family, surpluses), sum(surpluses[place] for place in family), -len(family)
 
-    def told(self, decision, more, losers, place):
+    def check_worth_words(self, decision, more, losers, place):
         """The text about the welfare and the losers; it is silent about a block that would lose by itself, whose family
         can't be worth more."""
         found = WORTH.search(decision.why)

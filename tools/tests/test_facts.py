@@ -94,7 +94,7 @@ def plain(page):
     return re.sub(r"\s+", " ", re.sub(r"^ \* ?", "", page.read_text(), flags=re.MULTILINE))
 
 
-def found(number):
+def whole_number(number):
     return number and int(number.replace(",", ""))
 
 
@@ -353,7 +353,7 @@ class Facts(unittest.TestCase):
         with mock.patch.object(sys, "path", [str(bench), *sys.path]):
             drawn = runpy.run_path(str(bench / "make_blocks.py"))
         said = re.search(r"for (\d+) deep books of 24 blocks; with `--thin` instead, (\d+) mostly thin ones", plain(TOP / "docs" / "CHECK.md"))
-        self.assertEqual([found(number) for number in said.groups()], [len(drawn["BOOKS"]), len(drawn["MORE"])])
+        self.assertEqual([whole_number(number) for number in said.groups()], [len(drawn["BOOKS"]), len(drawn["MORE"])])
         self.assertGreater(sum(made.is_thin for made in drawn["MORE"]), len(drawn["MORE"]) / 2)
 
     def test_the_crates_of_the_kit(self):

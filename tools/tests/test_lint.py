@@ -26,14 +26,14 @@ BEYOND = rules.HIGHEST_PRICE + 1
 TENTHS = f"should be whole tenths of a MW from 1 to {rules.GREATEST_VOLUME}"
 
 
-def told(data, command="clear"):
+def fault_lines(data, command="clear"):
     return [str(fault) for fault in lint.find_faults(data, command)]
 
 
 class Hand(unittest.TestCase):
     def check(self, data, *wanted, command="clear"):
         """Each fault that is reported begins and ends in one way."""
-        found = told(data, command)
+        found = fault_lines(data, command)
         self.assertEqual(len(found), len(wanted), found)
         for line, (begin, part) in zip(found, wanted):
             self.assertTrue(line.startswith(f"{begin}: ") and part in line, (line, begin, part))
@@ -64,7 +64,7 @@ class Hand(unittest.TestCase):
     def test_characters(self):
         data = GOOD.replace(b"NORD", "NØRD".encode())
         self.check(data, ("line 2", "'Ø' isn't ASCII: a journal has no accented letters"), ("line 2, participant", "A to Z"))
-        found = told(b"\xd8\n" * 100)
+        found = fault_lines(b"\xd8\n" * 100)
         self.assertEqual(len([line for line in found if "isn't ASCII" in line]), lint.MOST_LINES)
         self.assertIn("line 21: 80 lines from here on aren't ASCII either: save the file as plain CSV, in ASCII", found)
 
@@ -81,7 +81,7 @@ class Hand(unittest.TestCase):
         self.check(GOOD.replace(b"WIND", b'"wind'), ("line 2", said), ("line 2, order", "write WIND-8"))
         self.check(GOOD.replace(b"close", b'"close'), ("line 4", said))
         self.check(GOOD.replace(b"day", b'"day'), ("line 1", said))
-        self.assertEqual("\n".join(told(b'"a\n' * 100)).count(said), lint.MOST_QUOTES)
+        self.assertEqual("\n".join(fault_lines(b'"a\n' * 100)).count(said), lint.MOST_QUOTES)
 
     def test_a_quote_that_is_not_closed_in_the_last_field(self):
         """The program takes it, if the rest of the text is a name or nothing."""
@@ -123,7 +123,7 @@ class Hand(unittest.TestCase):
 
     def test_a_field_with_a_comma(self):
         data = GOOD.replace(b"6800,8:200;9:200,,", b"68,00,8:200;9:200,,G")
-        found = told(data)
+        found = fault_lines(data)
         self.assertEqual(found[0], "line 3: it has 10 fields and should have 9: a field can't contain a comma")
 
     def test_records(self):
@@ -194,7 +194,7 @@ class Hand(unittest.TestCase):
     def test_a_journal_that_is_too_long_is_not_called_open(self):
         cancels = b"cancel,NORD,WIND-8,,,,,,\n" * (rules.MOST_RECORDS - 1)
         self.assertEqual(
-            [fault for fault in told(b"day,24,,,,,,,\n" + cancels + b"close,,,,,,,,\n") if "WIND-8" not in fault],
+            [fault for fault in fault_lines(b"day,24,,,,,,,\n" + cancels + b"close,,,,,,,,\n") if "WIND-8" not in fault],
             [f"line {rules.MOST_RECORDS + 1}: a journal has at most {rules.MOST_RECORDS - 1} commands: remove the rest"],
         )
 
@@ -368,12 +368,12 @@ class Long(unittest.TestCase):
         ):
             with self.subTest(line[:30]):
                 self.assertEqual(self.measured(self.first, self.DAY + line), first)
-                found = self.measured(lambda data: told(data, "replay"), self.DAY + line)
+                found = self.measured(lambda data: fault_lines(data, "replay"), self.DAY + line)
                 self.assertEqual(found, [f"line 2: the line has {len(line.strip(bytes([10]))):,} bytes, {many}"])
-                self.measured(lambda data: told(data, "replay"), line + b"\n" + self.DAY)
+                self.measured(lambda data: fault_lines(data, "replay"), line + b"\n" + self.DAY)
 
     def test_the_lines_after_a_long_one(self):
-        found = told(GOOD.replace(HOUR, b"," * 70_000 + b"\r\n" + HOUR.replace(b"1200", b"12.5")))
+        found = fault_lines(GOOD.replace(HOUR, b"," * 70_000 + b"\r\n" + HOUR.replace(b"1200", b"12.5")))
         self.assertEqual(found[0], "line 2: the line has 70,000 bytes, far more than a command has: remove it")
         self.assertEqual((len(found), found[1][:14]), (2, "line 3, price:"))
 
@@ -383,7 +383,7 @@ class Long(unittest.TestCase):
         for lines in (b'""\n' * (self.SIZE // 3), b"\n" * self.SIZE, b'"A\n' * (self.SIZE // 3), b"a,\n" * (self.SIZE // 3)):
             self.measured(told, self.DAY + lines)
         for count in (rules.GREATEST_PERIOD, rules.GREATEST_PERIOD + 1, 15_000):
-            found = told(self.DAY + b"submit,A,K,block,buy,1,%s1:1,,\n" % (b"1:1;" * (count - 1)), "replay")[0]
+            found = fault_lines(self.DAY + b"submit,A,K,block,buy,1,%s1:1,,\n" % (b"1:1;" * (count - 1)), "replay")[0]
             self.assertEqual(f"it has {count:,} pairs, and a day has at most 100 periods" in found, count > rules.GREATEST_PERIOD)
 
     def test_a_text_that_is_too_long(self):

@@ -257,11 +257,11 @@ class Clients(unittest.TestCase):
     def enter(self, found, *commands):
         return found.enter(DAY, *commands)
 
-    def made(self):
+    def make_client(self):
         return client.Office(f"http://127.0.0.1:{self.server.server_port}", "GAS.x")
 
     def test_numbers(self):
-        found, receipt = self.made(), (200, {"reply": "done"})
+        found, receipt = self.make_client(), (200, {"reply": "done"})
         busy, used = (503, {"fault": "Unavailable", "words": ""}), (409, {"fault": "NumberUsed", "words": "", "next": 9})
         self.server.planned = [None, busy, receipt, None, None, busy, receipt, used, receipt]
         self.assertEqual(self.enter(found, "a"), [{"reply": "done"}])
@@ -278,7 +278,7 @@ class Clients(unittest.TestCase):
         self.assertEqual(puts, [4, 4, 4, 5, 5, 5, 5, 6, 9])
 
     def test_no_answer_to_the_first_command(self):
-        found = self.made()
+        found = self.make_client()
         self.server.planned = [None, None, None, (200, {"reply": "done"})]
         with self.assertRaises(client.OfficeFault) as caught:
             self.enter(found, "a")
@@ -292,7 +292,7 @@ class Clients(unittest.TestCase):
         target = f"http://localhost:{self.server.server_port}/elsewhere"
         self.server.whole = f"HTTP/1.0 302 Found\r\nLocation: {target}\r\nContent-Length: 0\r\n\r\n".encode()
         with self.assertRaisesRegex(client.OfficeFault, "^the answer has the status 302: it redirects, which no office does$") as caught:
-            self.enter(self.made(), "a")
+            self.enter(self.make_client(), "a")
         self.assertEqual((caught.exception.fault, caught.exception.status), ("Unknown", 302))
         self.assertEqual(self.server.asked, [f"/days/{DAY}/commands/GAS?since=99999"])
 
@@ -312,11 +312,11 @@ class Clients(unittest.TestCase):
             self.server.whole = whole
             self.server.asked.clear()
             with self.subTest(whole=whole), self.assertRaises(client.OfficeFault) as caught:
-                self.enter(self.made(), "a")
+                self.enter(self.make_client(), "a")
             self.assertEqual((caught.exception.fault, caught.exception.status, len(self.server.asked)), (fault, status, count))
 
     def test_a_command_without_a_receipt_keeps_its_number(self):
-        found = self.made()
+        found = self.make_client()
         self.server.planned = [*(b"HTTP/1.0 200 OK\r\n\r\n" + body for body in (b"", b"<html>\n")), (200, {"reply": "done"})]
         for _ in range(2):
             with self.assertRaisesRegex(client.OfficeFault, "^the answer has the status 200, but isn't an office's$"):
@@ -339,7 +339,7 @@ class AsyncClients(Clients):
 
         return asyncio.run(entered())
 
-    def made(self):
+    def make_client(self):
         return client.AsyncOffice(f"http://127.0.0.1:{self.server.server_port}", "GAS.x")
 
 

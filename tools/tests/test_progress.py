@@ -16,7 +16,7 @@ class Terminal(io.StringIO):
 
 
 class Told(unittest.TestCase):
-    def told(self, stream, **more):
+    def shown_text(self, stream, **more):
         with mock.patch("sys.stderr", stream):
             progress = Progress("audit", 60, **more)
             progress.add_expected_steps(4)
@@ -26,17 +26,17 @@ class Told(unittest.TestCase):
         return stream.getvalue()
 
     def test_at_a_terminal_the_line_is_written_over_and_taken_away(self):
-        *lines, cleared, end = self.told(Terminal()).split("\r")[1:]
+        *lines, cleared, end = self.shown_text(Terminal()).split("\r")[1:]
         self.assertEqual(lines, [f"audit: {part} % of all selections, 0 s" for part in (25, 50, 75, 100)])
         self.assertEqual((cleared.strip(), len(cleared), end), ("", len(lines[-1]), ""))
 
     def test_elsewhere_nothing_is_told(self):
-        self.assertEqual(self.told(io.StringIO()), "")
-        self.assertEqual(self.told(Terminal(), quiet=True), "")
+        self.assertEqual(self.shown_text(io.StringIO()), "")
+        self.assertEqual(self.shown_text(Terminal(), quiet=True), "")
 
 
 class Bars(unittest.TestCase):
-    def told(self, stream, seconds, **more):
+    def shown_text(self, stream, seconds, **more):
         """The bar of ten steps, which take this many seconds each."""
         with mock.patch("sys.stderr", stream), mock.patch("time.monotonic", side_effect=(seconds * at for at in range(99))):
             bar = StepBar("audit", 10, "days", **more)
@@ -46,15 +46,15 @@ class Bars(unittest.TestCase):
         return stream.getvalue()
 
     def test_a_bar_is_shown_after_a_moment(self):
-        lines = self.told(Terminal(), 0.2).split("\r")[1:-1]
+        lines = self.shown_text(Terminal(), 0.2).split("\r")[1:-1]
         self.assertEqual(lines[0], "audit: [#########.....................] 3 of 10 days, 1 wrong, 1 s")
         self.assertEqual(lines[-2], f"audit: [{'#' * 30}] 10 of 10 days, 1 wrong, 2 s")
         self.assertEqual((lines[-1].strip(), len(lines)), ("", 9))
 
     def test_elsewhere_and_of_short_runs_nothing_is_told(self):
-        self.assertEqual(self.told(Terminal(), 0.01), "")
-        self.assertEqual(self.told(io.StringIO(), 1), "")
-        self.assertEqual(self.told(Terminal(), 1, quiet=True), "")
+        self.assertEqual(self.shown_text(Terminal(), 0.01), "")
+        self.assertEqual(self.shown_text(io.StringIO(), 1), "")
+        self.assertEqual(self.shown_text(Terminal(), 1, quiet=True), "")
 
 
 class Time(unittest.TestCase):

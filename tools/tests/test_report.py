@@ -76,7 +76,7 @@ class Trades(unittest.TestCase):
 
 
 @functools.lru_cache(maxsize=None)
-def made(data, text, curves):
+def make_page(data, text, curves):
     from lib.report import page
 
     return page.make_day_page(day_of(data, text), "A <day> & its results", list(curves))
@@ -88,7 +88,7 @@ PACKAGES = "matplotlib or jinja2 is missing (Debian's python3-matplotlib, python
 @unittest.skipUnless(modules.has_module("matplotlib") and modules.has_module("jinja2"), PACKAGES)
 class Page(unittest.TestCase):
     def page(self, data, text, curves=()):
-        return made(data, text, tuple(curves))
+        return make_page(data, text, tuple(curves))
 
     def test_the_page_is_whole_and_stands_alone(self):
         for name in ("auction-day", "empty", "too-large-block"):

@@ -24,14 +24,14 @@ def table(*rows, header=HEADER):
     return "".join(f"{row}\n" for row in [header, *rows]).encode()
 
 
-def made(*rows, header=HEADER, periods=24):
+def records_and_notes(*rows, header=HEADER, periods=24):
     orders = order_table.parse_tables([("", table(*rows, header=header))], periods)
     return journal.journal_text(order_table.journal_of(orders, periods, False)).splitlines()[1:], orders.notes
 
 
 def wrong(*rows, header=HEADER, periods=24):
     try:
-        made(*rows, header=header, periods=periods)
+        records_and_notes(*rows, header=header, periods=periods)
     except order_table.BadOrders as fault:
         return str(fault).split("\n")
     raise AssertionError("the table is right")
@@ -41,7 +41,7 @@ class Columns(unittest.TestCase):
     ROW = "A,H,hour,buy,1,8,5,,"
 
     def test_other_columns_are_ignored_with_a_note(self):
-        lines, notes = made(f"{self.ROW},seen by Jo,7", header=f"{HEADER},comment,x\x1b")
+        lines, notes = records_and_notes(f"{self.ROW},seen by Jo,7", header=f"{HEADER},comment,x\x1b")
         self.assertEqual(lines, ["submit,A,H,hour,buy,100,8:50,,"])
         self.assertEqual(notes, ["the column 'comment' isn't used", "the column 'x\\x1b' isn't used"])
         data = table(f"{self.ROW},a", header=f"{HEADER},comment")
@@ -56,7 +56,7 @@ class Columns(unittest.TestCase):
         self.assertEqual(wrong(*rows, header=header), said)
         first = ["line 2, column 1: 'X' is in a column without a name: write one, or remove it", said[0].replace("8", "9")]
         self.assertEqual(wrong(*(f"X,{row}" for row in rows), header=f",{header}"), first)
-        self.assertEqual(made(*rows[:2], header=header), made(*rows[:2]))
+        self.assertEqual(records_and_notes(*rows[:2], header=header), records_and_notes(*rows[:2]))
         with self.assertRaises(order_table.BadOrders):  # also if the row is one of others
             order_table.parse_tables([("", table(*rows, header=header))], 24, "A")
 
@@ -64,7 +64,7 @@ class Columns(unittest.TestCase):
         """Of each row only its own cells are looked at."""
         header = f"{HEADER.removesuffix(',parent,group')}{',' * 16_376},x"
         began = time.process_time()
-        lines, notes = made(*(f"A,H{number},hour,buy,1,8,5" for number in range(2_000)), header=header)
+        lines, notes = records_and_notes(*(f"A,H{number},hour,buy,1,8,5" for number in range(2_000)), header=header)
         self.assertLess(time.process_time() - began, 2)
         self.assertEqual((len(lines), notes), (2_000, ["the column 'x' isn't used"]))
         said = "line 3, column 16383: 'y' is in a column without a name: write one, or remove it"
@@ -109,7 +109,7 @@ class Columns(unittest.TestCase):
         for heading in ("hour", "Sell", "2026", "8-20", "07:00-20:00", "1;3"):
             self.assertEqual(wrong(header=f"{header},{heading}"), [f"line 1, column 8: '{heading}' {ends}"])
         for headings in ("hour,2026", "2025,2026,2026-11-25", "block", "buy,sell", "hour of a day,buy price,1,2", "x\x1b", "price 2026"):
-            self.assertEqual(len(made(self.ROW.removesuffix(",,"), header=f"{header},{headings}")[0]), 1)
+            self.assertEqual(len(records_and_notes(self.ROW.removesuffix(",,"), header=f"{header},{headings}")[0]), 1)
 
     def test_a_command_on_the_line_of_the_header(self):
         """It would be lost. A cancel has no number, side or kind, and its word may end the last heading."""
@@ -130,7 +130,7 @@ class Columns(unittest.TestCase):
             self.assertEqual(len(list(found)), 1, heads)
 
     def test_headers_of_tables_put_together(self):
-        lines, notes = made(self.ROW, HEADER, self.ROW.replace("A,", "B,"))
+        lines, notes = records_and_notes(self.ROW, HEADER, self.ROW.replace("A,", "B,"))
         self.assertEqual((len(lines), notes), (2, ["line 3 names the columns once more"]))
 
     def test_several_files(self):
@@ -151,7 +151,7 @@ class Columns(unittest.TestCase):
 
 class Times(unittest.TestCase):
     def periods(self, cell, periods=24):
-        lines, _ = made(f"A,K,block,buy,1,{cell},5,,", periods=periods)
+        lines, _ = records_and_notes(f"A,K,block,buy,1,{cell},5,,", periods=periods)
         return [int(pair.split(":")[0]) for pair in lines[0].split(",")[6].split(";")]
 
     def test_times_are_periods(self):
@@ -257,7 +257,7 @@ class ForSpreadsheets(unittest.TestCase):
         self.assertEqual(wrong("A,K,block,buy,1,8-10,1 500 200.5,,"), [said])
         # these are several numbers
         for volumes in ("1 50", "1 5000", "1;500", "1.5 500", "1; 500"):
-            (line,), _ = made(f"A,K,block,buy,1,8-9,{volumes},,")
+            (line,), _ = records_and_notes(f"A,K,block,buy,1,8-9,{volumes},,")
             self.assertEqual(line.count(":"), 2)
 
     def test_an_empty_part_of_a_list(self):

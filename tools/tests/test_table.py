@@ -99,37 +99,37 @@ class Results(unittest.TestCase):
 
 
 class Orders(unittest.TestCase):
-    def made(self, *rows, header=HEADER, periods=24):
+    def records(self, *rows, header=HEADER, periods=24):
         table = "".join(f"{row}\n" for row in [header, *rows]).encode()
         return journal.journal_text(order_table.parse_orders(table, periods, False)).splitlines()[1:]
 
     def wrong(self, *rows, header=HEADER):
         with self.assertRaises(order_table.BadOrders) as fault:
-            self.made(*rows, header=header)
+            self.records(*rows, header=header)
         return str(fault.exception)
 
     def test_orders(self):
-        self.assertEqual(self.made(HOUR), ["submit,NORD,WIND-8,hour,sell,1250,8:450,,"])
+        self.assertEqual(self.records(HOUR), ["submit,NORD,WIND-8,hour,sell,1250,8:450,,"])
         same = ";".join(f"{period}:900" for period in range(8, 21))
-        self.assertEqual(self.made(BLOCK), [f"submit,COAL,PEAK,block,sell,8000,{same},,FILL"])
-        self.assertEqual(self.made("A,K,block,buy,-0.05,1;3-4,5;0.1;7,,"), ["submit,A,K,block,buy,-5,1:50;3:1;4:70,,"])
-        self.assertEqual(self.made("A,K,block,BUY, 0 ,1, 5.0 ,,"), ["submit,A,K,block,buy,0,1:50,,"])
-        linked = self.made("A,K1,block,buy,1,1,5,,", "A,K2,block,buy,1,1,5,K1,")
+        self.assertEqual(self.records(BLOCK), [f"submit,COAL,PEAK,block,sell,8000,{same},,FILL"])
+        self.assertEqual(self.records("A,K,block,buy,-0.05,1;3-4,5;0.1;7,,"), ["submit,A,K,block,buy,-5,1:50;3:1;4:70,,"])
+        self.assertEqual(self.records("A,K,block,BUY, 0 ,1, 5.0 ,,"), ["submit,A,K,block,buy,0,1:50,,"])
+        linked = self.records("A,K1,block,buy,1,1,5,,", "A,K2,block,buy,1,1,5,K1,")
         self.assertEqual(linked[1], "submit,A,K2,block,buy,100,1:50,K1,")
 
     def test_forms_of_tables(self):
-        made = self.made(HOUR)
+        made = self.records(HOUR)
         short, head = "NORD,WIND-8,hour,sell,12.5,8,45", HEADER.removesuffix(",parent,group")
-        self.assertEqual(self.made(short, header=head), made)
-        self.assertEqual(self.made("", short + ",,", "", header=head + ",,"), made)
+        self.assertEqual(self.records(short, header=head), made)
+        self.assertEqual(self.records("", short + ",,", "", header=head + ",,"), made)
         self.assertEqual(
-            self.made(
+            self.records(
                 "hour;WIND-8;NORD;8;45,0;12,5;sell", header="kind;order;participant;periods;volume_mw;price_eur_mwh;side"
             ),
             made,
         )
-        self.assertEqual(self.made(HOUR.replace(",", "\t"), header=HEADER.replace(",", "\t")), made)
-        self.assertEqual(self.made(HOUR + "\r", header="\ufeff" + HEADER.upper() + "\r"), made)
+        self.assertEqual(self.records(HOUR.replace(",", "\t"), header=HEADER.replace(",", "\t")), made)
+        self.assertEqual(self.records(HOUR + "\r", header="\ufeff" + HEADER.upper() + "\r"), made)
 
     def test_errors_name_line_and_column(self):
         for old, new, column, words in (
@@ -234,11 +234,11 @@ class Orders(unittest.TestCase):
         for what, row in (("amend", "NORD,WIND-8,,,12.5,8,45,,"), ("cancel", "NORD,WIND-8,,,,,,,"), ("close", ",,,,,,,,")):
             said = self.wrong(f"submit,{HOUR}", f"{what},{row}", header=f"what,{HEADER}")
             self.assertEqual(said, f"line 3, column what: '{what}': {words}")
-        self.assertEqual(self.made(f"submit,{HOUR}", header=f"what,{HEADER}"), self.made(HOUR))
+        self.assertEqual(self.records(f"submit,{HOUR}", header=f"what,{HEADER}"), self.records(HOUR))
 
     def test_days_that_are_none(self):
         with self.assertRaisesRegex(order_table.BadOrders, "^a day has 23, 24, 25, 92, 96 or 100 periods, not 26$"):
-            self.made(HOUR, periods=26)
+            self.records(HOUR, periods=26)
 
     def test_tables_that_are_none(self):
         said = "line 1: there is no column kind; the columns are participant"

@@ -158,32 +158,32 @@ class Page(unittest.TestCase):
     def answer(text, running=None):
         return None, support.results_of(text, best(text))
 
-    def said(self, lines, answer=answer, results=None, *words):
+    def sentences(self, lines, answer=answer, results=None, *words):
         """The sentences, and the lines on standard error."""
         data = journal_of(*lines)
         day = support.day_of(data, results or support.results_of(data, best(data)))
-        told = unittest.mock.patch.object(command, "print_note", lambda _, line: self.told.append(line))
+        told = unittest.mock.patch.object(command, "print_note", lambda _, line: self.notes.append(line))
         with unittest.mock.patch.object(engine, "run_clear", answer), told:
             return limits.run_for_rejected(day, *words)
 
     def setUp(self):
-        self.told = []
+        self.notes = []
 
     def test_the_sentence(self):
         high = SMALL[0], SMALL[1].replace("4000", "6000")
         sentence = "With a limit of 50.00 EUR/MWh or lower it would have been accepted."
-        self.assertEqual(self.said(high), {0: sentence})
-        self.assertEqual([self.said(high, Page.answer, None, who) for who in ("GEN", "CITY")], [{0: sentence}, {}])
+        self.assertEqual(self.sentences(high), {0: sentence})
+        self.assertEqual([self.sentences(high, Page.answer, None, who) for who in ("GEN", "CITY")], [{0: sentence}, {}])
         low = BUYER[0], BUYER[1].replace("3000", "1999")
-        self.assertEqual(self.said(low), {0: sentence.replace("50", "20").replace("lower", "higher")})
-        self.assertEqual(self.said(NEVER)[1], "With no limit would it have been accepted.")
-        self.assertEqual((self.said(SMALL), self.told), ({}, []))
+        self.assertEqual(self.sentences(low), {0: sentence.replace("50", "20").replace("lower", "higher")})
+        self.assertEqual(self.sentences(NEVER)[1], "With no limit would it have been accepted.")
+        self.assertEqual((self.sentences(SMALL), self.notes), ({}, []))
 
     def test_each_rejected_block_has_one_however_long_it_takes(self):
         """A clock that jumps by an hour at each look, as on a machine that is busy with other work."""
         blocks = [f"submit,GEN,UNIT-{number},block,sell,{5000 + number},1:20,," for number in range(1, 5)]
         with unittest.mock.patch("time.monotonic", itertools.count(0, 3_600).__next__):
-            said = self.said((SMALL[0], *blocks))
+            said = self.sentences((SMALL[0], *blocks))
         self.assertEqual(said, dict.fromkeys(range(4), "With a limit of 50.00 EUR/MWh or lower it would have been accepted."))
 
     def test_a_limit_that_is_not_computed_says_so(self):
@@ -210,9 +210,9 @@ class Page(unittest.TestCase):
             ("the results break the rules", None, high, Page.answer, wrong),
             ("the page was made without limits", None, high, Page.answer, None, None, False),
         ):
-            self.told = []
-            self.assertEqual(self.said(*given), {0: f"Its limit wasn't computed: {why}."})
-            said = [line.partition(" break the rules (results line 2: the welfare is 1")[0] for line in self.told]
+            self.notes = []
+            self.assertEqual(self.sentences(*given), {0: f"Its limit wasn't computed: {why}."})
+            said = [line.partition(" break the rules (results line 2: the welfare is 1")[0] for line in self.notes]
             self.assertEqual(said, [told] * bool(told))
 
 
