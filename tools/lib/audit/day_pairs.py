@@ -70,7 +70,7 @@ def require_listed_pairs(path, notes):
     try:
         rows = iter(sheets.text_rows(data, notes))
         header = next(rows, (0, []))[1]
-        heads = [cell.strip().lower() for cell in header]
+        heads = sheets.column_names(header)
         refuse_wrong_heads(path, heads)
         refuse_lost_day(path, header)
         pairs, lines = [], {}

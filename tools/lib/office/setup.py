@@ -99,7 +99,7 @@ def parse_participants(data, notes):
     found, lines, wrong = {}, {}, order_table.Faults()
     for line, cells in rows:
         row = order_table.Row(cells, table, None)
-        who, share = row.parse_cell(WHO, cell_values.parse_participant), row.parse_cell(SHARE, parse_share)
+        who, share = row.parse_cell_or_note_fault(WHO, cell_values.parse_participant), row.parse_cell_or_note_fault(SHARE, parse_share)
         if who and who in lines:
             row.faults.append(f"column {WHO}: {who} is in line {lines[who]} too")
         found[who] = share
@@ -113,7 +113,7 @@ def parse_participants(data, notes):
 
 def find_columns(line, header):
     """Where the columns of a table of participants stand. It has no others."""
-    names, columns = [cell.strip().lower() for cell in header], f"the columns are {WHO}, {SHARE}"
+    names, columns = sheets.column_names(header), f"the columns are {WHO}, {SHARE}"
     if WHO not in names:
         raise order_table.BadOrders(f"line {line}: there is no column {WHO}; {columns}")
     for at, name in enumerate(names):
@@ -121,7 +121,7 @@ def find_columns(line, header):
             raise order_table.BadOrders(f"line {line}, column {at + 1}: the column {text.quoted(name)} appears twice")
         if name not in (WHO, SHARE, ""):
             raise order_table.BadOrders(f"line {line}, column {at + 1}: {text.quoted(header[at])} is not a column; {columns}")
-    return {name: at for at, name in enumerate(names) if name}
+    return order_table.Places({name: at for at, name in enumerate(names) if name})
 
 
 def parse_share(cell):

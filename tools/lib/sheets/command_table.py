@@ -17,75 +17,58 @@ class Columns:
     orders are needed as far as its commands have them."""
 
     def __init__(self, table_cells, needed):
-        self.places = {name: at for at, name in reversed(list(enumerate(column_names(table_cells))))}  # the first of each name
-        self.table = order_table.require_order_table("", table_cells, self.needed(table_cells.rest()), (*needed, WHAT))
+        names = sheets.column_names(table_cells.line_and_header()[1])
+        self.places = order_table.Places({name: at for at, name in reversed(list(enumerate(names)))})  # the first of each name
+        self.table = order_table.require_order_table("", table_cells, self.needed_columns(table_cells.rows_below()), (*needed, WHAT))
         for name in needed:
             if name not in self.places:
-                raise order_table.BadOrders(f"line {table_cells.header()[0]}: there is no column {name}")
+                raise order_table.BadOrders(f"line {table_cells.line_and_header()[0]}: there is no column {name}")
 
-    def needed(self, rows):
+    def needed_columns(self, rows):
         """The columns of orders that the commands of the rows need; all of them if there are none."""
         commands = set()
         for _, cells in rows:
-            if any(self.cell(cells, name) for name in (WHAT, *order_table.ORDER)):
-                commands.add(self.cell(cells, WHAT).lower())
+            if any(self.places.cell_text(cells, name) for name in (WHAT, *order_table.ORDER)):
+                commands.add(self.places.cell_text(cells, WHAT).lower())
         return set().union(*(NEEDED.get(what, order_table.NEEDED) for what in commands)) if commands else order_table.NEEDED
-
-    def given(self, cells, name):
-        """A cell as the table has it."""
-        at = self.places.get(name, len(cells))
-        return cells[at] if at < len(cells) else ""
-
-    def cell(self, cells, name):
-        return sheets.unescaped(self.given(cells, name).strip())
 
     def is_empty(self, cells):
         """Whether a row adds no command to a day: it has none, or the close, before which the commands are put."""
-        return not any(self.cell(cells, name) for name in (WHAT, *self.table.places)) or self.cell(cells, WHAT).lower() == "close"
+        is_filled = any(self.places.cell_text(cells, name) for name in (WHAT, *self.table.places))
+        return not is_filled or self.places.cell_text(cells, WHAT).lower() == "close"
 
-    def parse_row(self, cells, periods):
+    def parse_row_and_faults(self, cells, periods):
         """The command that a row adds to a day, None if it adds none; and the faults of the row."""
-        row, what = order_table.Row(cells, self.table, periods), self.cell(cells, WHAT).lower()
+        row, what = order_table.Row(cells, self.table, periods), self.places.cell_text(cells, WHAT).lower()
         try:
-            cell_values.refuse_unlike(self.given(cells, WHAT), True)
+            cell_values.refuse_unlike(self.places.given_cell(cells, WHAT), True)
         except order_table.BadOrders as fault:
             row.faults.append(f"column {WHAT}: {fault}")
         add_other_faults(row, what)
-        return None if self.is_empty(cells) else parse_command(row, what), row.faults
-
-
-def column_names(table_cells):
-    """The names of a table's columns, by its cells."""
-    return [cell.strip().lower() for cell in table_cells.header()[1]]
+        return None if self.is_empty(cells) else parse_command_or_note_faults(row, what), row.faults
 
 
 def is_command_table(table_cells):
     """Whether a table, given by its cells, has the column `what`."""
-    return WHAT in column_names(table_cells)
+    return WHAT in sheets.column_names(table_cells.line_and_header()[1])
 
 
 def add_other_faults(row, what):
     """Adds to a row's faults its cells that the command doesn't have."""
     for name in order_table.ORDER if what in NEEDED else []:
-        if name not in NEEDED[what] and (cell := row.cell(name)):
+        if name not in NEEDED[what] and (cell := row.cell_text(name)):
             article = "an" if what == "amend" else "a"
             row.faults.append(f"column {name}: {text.quoted(cell)} should be left out: {article} {what} has no {name}")
 
 
-def parse_command(row, what):
+def parse_command_or_note_faults(row, what):
     """The command of a row: an order to submit, or the amend or cancel of one. Faults are added to the row's faults."""
     if what == "cancel":
-        return journal.Cancel(row.parse_cell("participant", cell_values.parse_participant), row.parse_cell("order", cell_values.parse_name))
+        return journal.Cancel(*row.parse_names_or_note_faults())
     if what == "amend":
-        who, name = row.parse_cell("participant", cell_values.parse_participant), row.parse_cell("order", cell_values.parse_name)
-        price = row.parse_cell("price_eur_mwh", lambda cell: cell_values.parse_price(cell, row.decimal_comma))
-        numbers = row.parse_cell("periods", lambda cell: cell_values.parse_kept_periods(cell, row.periods))
-        volumes = row.parse_cell(
-            "volume_mw", lambda cell: cell_values.parse_volumes(cell, numbers or row.periods_of_volumes(cell), row.decimal_comma)
-        )
-        return journal.Amend(who, name, price, volumes)
+        return journal.Amend(*row.parse_names_or_note_faults(), *row.parse_price_and_volumes_or_note_faults())
     if what in ("", "submit"):
-        return row.parse_command()
+        return row.parse_submit_or_note_faults()
     row.faults.append(f"column {WHAT}: {text.quoted(what)} should be submit, amend or cancel")
     return None
 
@@ -99,7 +82,7 @@ class Commands:
 
     def __iter__(self):
         for line, cells in self.columns.table.rows:
-            command, _ = self.columns.parse_row(cells, self.periods)
+            command, _ = self.columns.parse_row_and_faults(cells, self.periods)
             if command:
                 yield line, command
 
@@ -115,7 +98,7 @@ def parse_commands(table_cells, periods):
             wrong.add(line)
         raise wrong.as_one_fault() from None
     for line, cells in columns.table.rows:
-        _, faults = columns.parse_row(cells, periods)
+        _, faults = columns.parse_row_and_faults(cells, periods)
         for words in faults:
             wrong.add(order_table.row_fault(line, words))
     if wrong.count:

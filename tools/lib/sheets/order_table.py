@@ -35,12 +35,25 @@ KINDS, SIDES, DIGITS = ("hour", "block"), ("buy", "sell"), re.compile(r"[\W\d]*\
 COMMAND_AT_END = re.compile("(?:submit|amend|cancel)$")  # of a cell
 
 
+class Places(dict):
+    """The place of each column in the rows of a table, by the column's name."""
+
+    def given_cell(self, cells, name):
+        """A cell of a row as the table has it; empty if the row ends before it, or the table has no such column."""
+        at = self.get(name, len(cells))
+        return cells[at] if at < len(cells) else ""
+
+    def cell_text(self, cells, name):
+        """The same without spaces around it, and without the apostrophes that keep it from being taken for a formula."""
+        return sheets.unescaped(self.given_cell(cells, name).strip())
+
+
 def find_columns(line, header, needed, further):
     """Where each column stands, and the headings of those that aren't used, by their columns; if not, all that is wrong with the columns,
     a line each. Those that are needed have to be there; the further ones are used, and read by others."""
-    names = [cell.strip().lower() for cell in header]
+    names = sheets.column_names(header)
     missing = [name for name in ORDER if name not in names]
-    places, wrong, unused = {}, [], {}
+    places, wrong, unused = Places(), [], {}
     for at, (name, cell) in enumerate(zip(names, header), 1):
         if name in places or name in further and names.index(name) < at - 1:
             wrong.append(f"line {line}, column {at}: the column {text.quoted(name)} appears twice")
@@ -84,34 +97,29 @@ class Row:
         """`raises`: names that aren't in capitals are put into them."""
         self.cells, self.table, self.periods, self.raises = cells, table, periods, raises
         self.decimal_comma = table.decimal_comma
-        self.faults = table.strays(cells)
+        self.faults = table.stray_cell_faults(cells)
         self.raised = {}  # these names, by their text
 
-    def given_cell(self, name):
-        """A cell as the table has it."""
-        at = self.table.places.get(name)
-        return self.cells[at] if at is not None and at < len(self.cells) else ""
+    def cell_text(self, name):
+        return self.table.places.cell_text(self.cells, name)
 
-    def cell(self, name):
-        return sheets.unescaped(self.given_cell(name).strip())
-
-    def parse_cell(self, name, parser):
+    def parse_cell_or_note_fault(self, name, parser):
         """The value that a parser makes of a cell; None if it is wrong, which is a fault of the row."""
-        cell = self.cell(name)
+        cell = self.cell_text(name)
         if self.raises and name in NAMES and cell.isascii() and cell != cell.upper() == self.probable_name(name):
             self.raised[cell] = cell = cell.upper()
         try:
-            cell_values.refuse_unlike(self.given_cell(name), name in NAMES, shapes.unit_of(name))
+            cell_values.refuse_unlike(self.table.places.given_cell(self.cells, name), name in NAMES, shapes.unit_of(name))
             return parser(cell)
         except BadOrders as fault:
             self.faults.append(f"column {name}: {fault}")
             return None
 
-    def parse_link(self, name, kind):
-        if self.cell(name) and kind == "hour":
+    def parse_link_or_note_fault(self, name, kind):
+        if self.cell_text(name) and kind == "hour":
             self.faults.append(f"column {name}: an hourly order has none")
             return None
-        return self.parse_cell(name, lambda cell: cell and cell_values.parse_name(cell))
+        return self.parse_cell_or_note_fault(name, lambda cell: cell and cell_values.parse_name(cell))
 
     def periods_of_volumes(self, cell):
         """As many periods as there are volumes, if the periods can't be read."""
@@ -119,20 +127,29 @@ class Row:
 
     def probable_name(self, name):
         """A name, or the one that was probably meant if it breaks its rule, so that other lines that name it aren't wrong too."""
-        return fields.parse_field(name, self.cell(name))[0]
+        return fields.parse_field(name, self.cell_text(name))[0]
 
-    def parse_command(self):
-        """The submit that the row is; of no use if something is wrong."""
-        who, name = self.parse_cell("participant", cell_values.parse_participant), self.parse_cell("order", cell_values.parse_name)
-        kind = self.parse_cell("kind", cell_values.word_parser(*KINDS))
-        side = self.parse_cell("side", cell_values.word_parser(*SIDES))
-        price = self.parse_cell("price_eur_mwh", lambda cell: cell_values.parse_price(cell, self.decimal_comma))
-        numbers = self.parse_cell("periods", lambda cell: cell_values.parse_kept_periods(cell, self.periods))
+    def parse_names_or_note_faults(self):
+        """The participant, and the name of the order."""
+        who = self.parse_cell_or_note_fault("participant", cell_values.parse_participant)
+        return who, self.parse_cell_or_note_fault("order", cell_values.parse_name)
+
+    def parse_price_and_volumes_or_note_faults(self, kind=None):
+        """The limit, and the volumes of the periods; of an hourly order there is one period."""
+        price = self.parse_cell_or_note_fault("price_eur_mwh", lambda cell: cell_values.parse_price(cell, self.decimal_comma))
+        numbers = self.parse_cell_or_note_fault("periods", lambda cell: cell_values.parse_kept_periods(cell, self.periods))
         if kind == "hour" and numbers and len(numbers) != 1:
             self.faults.append(f"column periods: an hourly order has one period, not {len(numbers)}")
         of_volumes = lambda cell: cell_values.parse_volumes(cell, numbers or self.periods_of_volumes(cell), self.decimal_comma)
-        volumes = self.parse_cell("volume_mw", of_volumes)
-        parent, group = (self.parse_link(name, kind) for name in OPTIONAL)
+        return price, self.parse_cell_or_note_fault("volume_mw", of_volumes)
+
+    def parse_submit_or_note_faults(self):
+        """The submit that the row is; of no use if something is wrong."""
+        who, name = self.parse_names_or_note_faults()
+        kind = self.parse_cell_or_note_fault("kind", cell_values.word_parser(*KINDS))
+        side = self.parse_cell_or_note_fault("side", cell_values.word_parser(*SIDES))
+        price, volumes = self.parse_price_and_volumes_or_note_faults(kind)
+        parent, group = (self.parse_link_or_note_fault(name, kind) for name in OPTIONAL)
         return journal.Submit(who, name, journal.Order(kind, side, price, volumes, parent, group))
 
 
@@ -177,10 +194,10 @@ class Below:
     """The rows of a table below its header, without those that repeat it."""
 
     def __init__(self, table_cells):
-        self.table_cells, self.header = table_cells, table_cells.header()[1]
+        self.table_cells, self.header = table_cells, table_cells.line_and_header()[1]
 
     def __iter__(self):
-        return (row for row in self.table_cells.rest() if row[1] != self.header)
+        return (row for row in self.table_cells.rows_below() if row[1] != self.header)
 
 
 class Table(NamedTuple):
@@ -188,21 +205,21 @@ class Table(NamedTuple):
 
     name: str
     rows: Below
-    places: dict
+    places: Places
     width: int
     decimal_comma: bool
     notes: list
     read: list  # those of the notes that say what was read of the file
 
-    def strays(self, cells):
+    def stray_cell_faults(self, cells):
         """The faults of a row with cells that are in no column."""
         return [f"it has {len(cells)} cells, but the header has {self.width}"] if len(cells) > self.width else []
 
-    def line(self, number):
+    def line_words(self, number):
         """A line of the table in a message about another one."""
         return f"line {number} of {self.name}" if self.name else f"line {number}"
 
-    def told(self, words):
+    def named_words(self, words):
         """Words about the table, with its name."""
         return f"{self.name}: {words}" if self.name else words
 
@@ -215,11 +232,11 @@ class Cells(NamedTuple):
     decimal_comma: bool
     read: list
 
-    def header(self):
+    def line_and_header(self):
         """The first row, with its line."""
         return next(iter(self.rows))
 
-    def rest(self):
+    def rows_below(self):
         """The rows after the first one."""
         return itertools.islice(self.rows, 1, None)
 
@@ -253,18 +270,18 @@ def count_rows_or_refuse(rows, most):
 
 def require_order_table(name, table_cells, needed=NEEDED, further=()):
     """A table of orders by its cells, of which the header has been read; or one that needs other columns, and has further ones."""
-    (line, header), read = table_cells.header(), table_cells.read
+    (line, header), read = table_cells.line_and_header(), table_cells.read
     if WHAT not in further:
-        refuse_commands(header, table_cells.rest())
+        refuse_commands(header, table_cells.rows_below())
     try:
         places, unused = find_columns(line, header, needed, further)
-        refuse_lost_order(line, unused, table_cells.rest())
+        refuse_lost_order(line, unused, table_cells.rows_below())
         refuse_lost_command(line, unused if WHAT in further else {})
-        refuse_unnamed(header, table_cells.rest())
+        refuse_unnamed(header, table_cells.rows_below())
     except BadOrders as fault:
         raise BadOrders("\n".join([str(fault), *read])) from None
     notes = [*read, *unused_notes(unused)]
-    again = [number for number, cells in table_cells.rest() if cells == header]
+    again = [number for number, cells in table_cells.rows_below() if cells == header]
     if again:
         notes.append(f"line {', '.join(map(str, again))} names the columns once more")
     return Table(name, Below(table_cells), places, len(header), table_cells.decimal_comma, notes, read)
@@ -311,7 +328,7 @@ def refuse_unnamed(header, rows):
 
 def refuse_commands(header, rows):
     """Refuses a table of commands with one that no order of a table can be."""
-    names = [cell.strip().lower() for cell in header]
+    names = sheets.column_names(header)
     at = names.index(WHAT) if WHAT in names else None
     for line, cells in rows if at is not None else []:
         word = cells[at].strip().lower() if at < len(cells) else ""
@@ -366,24 +383,24 @@ def parse_tables(sources, periods, who=None, raises=False, held=None):
                 wrong.add(f"{name}: {line}" if name else line)
     entered, submits, number, others = Entered(periods, *held or ()), [], 0, 0
     for table in tables:
-        notes += map(table.told, table.notes)
+        notes += map(table.named_words, table.notes)
         raised = {}
         for line, cells in table.rows:
             row = Row(cells, table, periods, raises)
             number += 1
             if who and row.probable_name("participant") != who:
-                row.parse_cell("participant", cell_values.parse_participant)
+                row.parse_cell_or_note_fault("participant", cell_values.parse_participant)
                 others += 1
             else:
-                command = row.parse_command()
-                entered.enter_or_note_faults(table.line(line), row, command)
+                command = row.parse_submit_or_note_faults()
+                entered.enter_or_note_faults(table.line_words(line), row, command)
                 submits += [] if row.faults else [(number, command)]
                 raised.update(row.raised)
             for words in row.faults:
-                wrong.add(table.told(row_fault(line, words)))
-        notes += [table.told(capitals_note(raised))] if raised else []
+                wrong.add(table.named_words(row_fault(line, words)))
+        notes += [table.named_words(capitals_note(raised))] if raised else []
     if wrong.count:
-        read = [table.told(note) for table in tables for note in table.read]
+        read = [table.named_words(note) for table in tables for note in table.read]
         raise wrong.as_one_fault(read)
     return Orders(submits, notes, others)
 

@@ -32,6 +32,11 @@ class BadTable(Exception):
     """A file that isn't a table, or a table that has too many rows for a sheet."""
 
 
+def column_names(header):
+    """The names of a table's columns by its header."""
+    return [cell.strip().lower() for cell in header]
+
+
 def is_workbook(data):
     return data.startswith(XLSX)
 

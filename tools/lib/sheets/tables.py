@@ -58,14 +58,17 @@ def outcomes(day):
             yield decision.kind, euros(day, surplus)
 
 
+def amount_of(row_trades):
+    """The payment for an order's trades: to a participant for a sell, and by it, below 0, for a buy."""
+    return sum(trade.amount() if trade.side == "sell" else -trade.amount() for trade in row_trades)
+
+
 def orders(day):
     yield ORDER + RESULT
-    for (row, made), outcome in zip(trades.row_trades(day), outcomes(day)):
+    for (row, row_trades), outcome in zip(trades.row_trades(day), outcomes(day)):
         offered = energy(day, sum(tenths for _, tenths in row.order.volumes))
-        executed = energy(day, sum(trade.volume for trade in made))
-        # The payment to a participant for a sell, and by it for a buy.
-        amount = sum(trade.amount() if trade.side == "sell" else -trade.amount() for trade in made)
-        yield [*order_cells(row), offered, executed, *outcome, euros(day, amount)]
+        executed = energy(day, sum(trade.volume for trade in row_trades))
+        yield [*order_cells(row), offered, executed, *outcome, euros(day, amount_of(row_trades))]
 
 
 def blocks(day):
@@ -129,17 +132,17 @@ def results_by_row(day):
     """The outcome of each order of the book, by participant and name. `write` writes the amounts of the reasons."""
     found = iter(zip(decisions.decisions(day.problem, day.published.accepted, day.outcome), day.published.surpluses))
     executed = iter(day.published.executed)
-    made = {}
-    for row, trades_made in trades.row_trades(day):
-        amount = sum(trade.amount() if trade.side == "sell" else -trade.amount() for trade in trades_made)
-        sums = energy(day, sum(trade.volume for trade in trades_made)), euros(day, amount)
+    rows = {}
+    for row, row_trades in trades.row_trades(day):
+        sums = energy(day, sum(trade.volume for trade in row_trades)), euros(day, amount_of(row_trades))
         if row.order.kind == "hour":
             done = next(executed)
-            made[row.who, row.name] = Result(trades.execution_words(row.order, done), "", *sums, *decisions.hourly_code_and_words(day, row, done))
+            outcome, why = trades.execution_words(row.order, done), decisions.hourly_code_and_words(day, row, done)
+            rows[row.who, row.name] = Result(outcome, "", *sums, *why)
         else:
             decision, surplus = next(found)
-            made[row.who, row.name] = Result(decision.kind, euros(day, surplus), *sums, decision.code, decision.why)
-    return made
+            rows[row.who, row.name] = Result(decision.kind, euros(day, surplus), *sums, decision.code, decision.why)
+    return rows
 
 
 def last_commands(day):

@@ -122,7 +122,7 @@ class Table:
 
     def parts(self):
         """The name of each scenario, with its rows."""
-        lines = ((line, self.columns.cell(cells, SCENARIO), cells) for line, cells in self.columns.table.rows)
+        lines = ((line, self.columns.places.cell_text(cells, SCENARIO), cells) for line, cells in self.columns.table.rows)
         return itertools.groupby(lines, lambda each: each[1])
 
     def count_or_raise(self):
@@ -179,10 +179,10 @@ class Table:
     def command_of(self, line, cells):
         """The command of a line; None if it has none."""
         try:
-            cell_values.refuse_unlike(self.columns.given(cells, SCENARIO), True)
+            cell_values.refuse_unlike(self.columns.places.given_cell(cells, SCENARIO), True)
         except order_table.BadOrders as fault:
             raise Fault(f"{self.name}: line {line}, column {SCENARIO}: {fault}") from None
-        command, faults = self.columns.parse_row(cells, self.held.periods)
+        command, faults = self.columns.parse_row_and_faults(cells, self.held.periods)
         if faults:
             wrong = "\n".join(order_table.row_fault(line, words) for words in faults)
             raise Fault(f"{self.name}: {changes.in_few_lines(wrong)}")
