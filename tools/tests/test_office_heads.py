@@ -104,7 +104,7 @@ class SignedHeads(Office):
                     await self.until(lambda: not given.is_healthy)
                     with self.assertRaises(refusals.Refused) as caught:
                         given.submit("GAS", 2, commands("cancel,GAS,B,,,,,,"))
-                    self.assertEqual(caught.exception.fault, "Unavailable")
+                    self.assertEqual(caught.exception.fault, refusals.Fault.UNAVAILABLE)
                     self.assertEqual(await given.submit("GAS", 1, commands("cancel,GAS,A,,,,,,")), [1])  # which is entered
                 await self.until(lambda: given.is_healthy)
                 self.assertEqual(await given.submit("GAS", 2, commands("cancel,GAS,B,,,,,,")), [2])
@@ -230,21 +230,21 @@ class Numbers(Office):
     async def test_each_number_is_used_once(self):
         self.make(share=5)
         first, second, third = (f"cancel,GAS,{name},,,,,," for name in "ABC")
-        disk = Disk()
+        disk, used, ahead = Disk(), refusals.Fault.NUMBER_USED, refusals.Fault.NUMBER_AHEAD
         with opener(disk):
             async with self.running(self.writer()) as given:
-                self.assertEqual(await self.refused(given, "GAS", 2, first), ("NumberAhead", {"next": 1}))
+                self.assertEqual(await self.refused(given, "GAS", 2, first), (ahead, {"next": 1}))
                 self.assertEqual(await given.submit("GAS", 1, commands(first, second)), [1, 2])
                 self.assertEqual(await given.submit("GAS", 1, commands(first, second)), [1, 2])
                 self.assertEqual(await given.submit("GAS", 2, commands(second, third)), [2, 3])
-                self.assertEqual(await self.refused(given, "GAS", 2, first), ("NumberUsed", {"number": 2, "next": 4}))
-                self.assertEqual(await self.refused(given, "GAS", 3, second, first), ("NumberUsed", {"number": 3, "next": 4}))
-                self.assertEqual(await self.refused(given, "GAS", 1, first, third), ("NumberUsed", {"number": 2, "next": 4}))
-                self.assertEqual(await self.refused(given, "GAS", 2, second, first, third), ("NumberUsed", {"number": 3, "next": 4}))
-                self.assertEqual(await self.refused(given, "GAS", 4, first, first, first), ("ShareUsed", {"next": 4}))
+                self.assertEqual(await self.refused(given, "GAS", 2, first), (used, {"number": 2, "next": 4}))
+                self.assertEqual(await self.refused(given, "GAS", 3, second, first), (used, {"number": 3, "next": 4}))
+                self.assertEqual(await self.refused(given, "GAS", 1, first, third), (used, {"number": 2, "next": 4}))
+                self.assertEqual(await self.refused(given, "GAS", 2, second, first, third), (used, {"number": 3, "next": 4}))
+                self.assertEqual(await self.refused(given, "GAS", 4, first, first, first), (refusals.Fault.SHARE_USED, {"next": 4}))
                 with self.assertRaisesRegex(refusals.Refused, "^you may enter 5 commands on this day, and have entered 3$"):
                     await given.submit("GAS", 4, commands(first, first, first))
-                self.assertEqual((await self.refused(given, "OTHER", 1, "cancel,OTHER,A,,,,,,"))[0], "ShareUsed")
+                self.assertEqual((await self.refused(given, "OTHER", 1, "cancel,OTHER,A,,,,,,"))[0], refusals.Fault.SHARE_USED)
                 self.assertEqual(await given.submit("A", 1, commands("cancel,A,A,,,,,,")), [4])
         self.assertEqual(disk.records, [first, second, third, "cancel,A,A,,,,,,"])
 
@@ -259,8 +259,8 @@ class Numbers(Office):
                     for number, *records in ((1, first), (1, first), (1, second), (2, second), (1, first, third), (3, third))
                 ]
                 found = await asyncio.gather(*waiting, return_exceptions=True)
-        faults = [one if isinstance(one, list) else one.fault for one in found]
-        self.assertEqual(faults, [[1], [1], "NumberUsed", [2], "NumberUsed", [3]])
+        faults, used = [one if isinstance(one, list) else one.fault for one in found], refusals.Fault.NUMBER_USED
+        self.assertEqual(faults, [[1], [1], used, [2], used, [3]])
 
 
 if __name__ == "__main__":

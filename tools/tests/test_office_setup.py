@@ -286,9 +286,10 @@ class Setup(Office):
         """Before the orders are in that are its own."""
         for seconds in ("0", "-1", "86401", "1.5", "x"):
             self.assertEqual(run_tool("office", "demo", "--no-browser", "--seconds", seconds)[0], command.COMMAND_LINE, seconds)
-        told = mock.Mock(is_ready=mock.Mock(wait=mock.AsyncMock()), submit=mock.AsyncMock(side_effect=refusals.Refused("Closed", "closed")))
+        closed = mock.AsyncMock(side_effect=refusals.Refused(refusals.Fault.CLOSED, "closed"))
+        writer = mock.Mock(is_ready=mock.Mock(wait=mock.AsyncMock()), submit=closed)
         with self.assertRaisesRegex(command.Stop, r"^the demo's own orders weren't entered \(closed\): give more --seconds$") as raised:
-            asyncio.run(demo.enter_orders(told))
+            asyncio.run(demo.enter_orders(writer))
         self.assertEqual(raised.exception.status, command.COMMAND_LINE)
 
     def test_the_command_line(self):
@@ -540,7 +541,7 @@ class Setup(Office):
                     path.write_bytes(damage)
                 with self.subTest(damage=damage), self.assertRaises(refusals.Refused) as caught:
                     answers.require_authorized(asked)
-                self.assertEqual(caught.exception.fault, "Unavailable")
+                self.assertEqual(caught.exception.fault, refusals.Fault.UNAVAILABLE)
                 await self.until(lambda: not served.is_healthy)
                 said = json.loads(log.getvalue().splitlines()[-1])
                 self.assertEqual((said["event"], said["day"]), ("not served", None))

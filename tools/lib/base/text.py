@@ -131,6 +131,17 @@ def for_json(value):
     return SURROGATE.sub(lambda found: escaped(found[0]), value) if isinstance(value, str) else value
 
 
+def require_unrepeated(fault_of, pairs):
+    """The object of these members of JSON, none of which comes twice: readers differ in which they would take. `fault_of` makes the
+    exception of the name of one that does."""
+    members = {}
+    for name, value in pairs:
+        if name in members:
+            raise fault_of(name)
+        members[name] = value
+    return members
+
+
 MOST_SHOWN = 80  # characters of a stranger's text in a message
 
 

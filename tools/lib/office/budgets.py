@@ -3,7 +3,7 @@
 import time
 
 from .guards import Buckets, address_or_network
-from .refusals import Refused
+from .refusals import Fault, Refused
 
 COMMANDS_A_SECOND, MOST_COMMANDS = 200, 2_000  # of a participant; many bytes count as several
 BYTES_OF_COMMAND = 100
@@ -45,10 +45,10 @@ class Budgets:
     def charge_address_or_refuse(self, buckets, request, words):
         if not self.behind_proxy and (seconds := buckets.take_unless_in_debt(address_or_network(request.remote))):
             request.protocol.is_deaf = True  # else the rest of many requests at once would be read too
-            raise Refused("TooFast", words, seconds=seconds)
+            raise Refused(Fault.TOO_FAST, words, seconds=seconds)
 
 
 def charge_or_refuse(buckets, who, count):
     """Charges a participant's request, or refuses it."""
     if seconds := buckets.take_unless_in_debt(who, count):
-        raise Refused("TooFast", "too many requests", seconds=seconds)
+        raise Refused(Fault.TOO_FAST, "too many requests", seconds=seconds)

@@ -3,6 +3,7 @@
 import contextlib
 import datetime
 import fcntl
+import functools
 import json
 import os
 import tempfile
@@ -46,14 +47,7 @@ class Odd(ValueError):
     """A file of the office isn't as the office writes it: the words say where."""
 
 
-def require_unrepeated(pairs):
-    """The object of these members, none of which comes twice."""
-    made = {}
-    for name, value in pairs:
-        if name in made:
-            raise Odd(f"{text.quoted(name)} comes twice")
-        made[name] = value
-    return made
+require_unrepeated = functools.partial(text.require_unrepeated, lambda name: Odd(f"{text.quoted(name)} comes twice"))
 
 
 def parse_terms(data, day):

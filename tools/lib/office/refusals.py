@@ -1,11 +1,34 @@
 """Why the office refuses a request, in the words that its participant gets."""
 
+import enum
+
 STOPPED_WORDS = "the day is stopped: ask the operator"
 CLOSED_WORDS = "the day is closed, and this command isn't in its journal"
 
 
+class Fault(enum.Enum):
+    """The faults of requests: the word for each in an answer, and the answer's status. The last two are of any request, and so
+    openapi.json doesn't have them."""
+
+    MALFORMED = "Malformed", 400
+    TOKEN = "Token", 401
+    SHARE_USED = "ShareUsed", 403
+    NOT_FOUND = "NotFound", 404
+    NUMBER_USED = "NumberUsed", 409
+    NUMBER_AHEAD = "NumberAhead", 409
+    CLOSED = "Closed", 410
+    TOO_LARGE = "TooLarge", 413
+    TOO_FAST = "TooFast", 429
+    UNAVAILABLE = "Unavailable", 503
+    METHOD = "Method", 405
+    DEFECT = "Defect", 500
+
+    def __init__(self, word, status):
+        self.word, self.status = word, status
+
+
 class Refused(Exception):
-    """A request that enters nothing: the fault's name, the words for it, and further members of the answer."""
+    """A request that enters nothing: the fault, the words for it, and further members of the answer."""
 
     def __init__(self, fault, words, **more):
         super().__init__(words)
@@ -14,4 +37,4 @@ class Refused(Exception):
 
 def unread_tokens_refusal():
     """The fault of a request while the file of the tokens can't be read."""
-    return Refused("Unavailable", "the office can't read its tokens: send the same command again", seconds=1)
+    return Refused(Fault.UNAVAILABLE, "the office can't read its tokens: send the same command again", seconds=1)

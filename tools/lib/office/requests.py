@@ -1,5 +1,6 @@
 """The commands in the body of a request: records of a journal, or JSON. And the records that a table of orders or commands makes."""
 
+import functools
 import json
 import re
 
@@ -60,12 +61,7 @@ def fault_words(body, fault):
     return " " + RECORD.sub(lambda found: f"record {int(found[1]) - 1}", str(fault).removeprefix("input: "))
 
 
-def require_unrepeated(pairs):
-    """The members of an object, of which no two have one name: a reader that takes the first would see another command."""
-    found = dict(pairs)
-    if len(found) < len(pairs):
-        raise BadRequest("an object has two members of one name")
-    return found
+require_unrepeated = functools.partial(text.require_unrepeated, lambda _: BadRequest("an object has two members of one name"))
 
 
 def parse_json_records(body, who, first):

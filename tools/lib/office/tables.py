@@ -12,7 +12,7 @@ if not __package__:  # the program: an isolated Python leaves the tools out
     sys.path.insert(0, str(Path(__file__).resolve().parents[2]))
 
 from lib.office import programs, requests
-from lib.office.refusals import Refused
+from lib.office.refusals import Fault, Refused
 
 MOST_SECONDS = 20  # for a table
 MOST_MEMORY = 1 << 29  # bytes of addresses; a workbook of 1 MiB takes a tenth
@@ -26,7 +26,7 @@ async def run_for_table_records_and_notes(data, who, periods, orders=()):
     try:
         made = await programs.run_for_output(sys.executable, "-I", "-B", __file__, who, str(periods), data=given, seconds=MOST_SECONDS)
     except programs.ProgramFailed:
-        raise Refused("Malformed", f"the table can't be read within {MOST_SECONDS} s: it is too large, or the office is busy") from None
+        raise Refused(Fault.MALFORMED, f"the table can't be read within {MOST_SECONDS} s: it is too large, or the office is busy") from None
     value = json.loads(made)
     if "wrong" in value:
         raise requests.BadRequest(value["wrong"])

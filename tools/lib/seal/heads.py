@@ -4,6 +4,7 @@ A head is the signed root of the tree over a journal's entries. A receipt shows 
 that the tree of a head begins with the tree of an earlier one. docs/FORMATS.md has the formats to the byte."""
 
 import base64
+import functools
 import hmac
 import json
 import re
@@ -216,12 +217,7 @@ def parse_salts(value):
     return Salts(day, parse_base64(secret, HASH_BYTES))
 
 
-def require_unrepeated(pairs):
-    """The object of these members, none of which comes twice."""
-    made = dict(pairs)
-    if len(made) != len(pairs):
-        raise BadRecord("a member of an object comes twice")
-    return made
+require_unrepeated = functools.partial(text.require_unrepeated, lambda _: BadRecord("a member of an object comes twice"))
 
 
 def parse_line(data, read):
