@@ -98,8 +98,8 @@ class Model:
         self.prices = {number: self.add_period(number, curve) for number, curve in curves.items()}
         gains = [self.add_gain(place, block.order) for place, block in enumerate(problem.blocks)]
         for place, gain in enumerate(gains):
-            helping = [(gains[other], 1) for other in problem.rescuers[place]]
-            self.program.add_row([(gain, 1), *helping], lower=0)
+            gains_of_rescuers = [(gains[other], 1) for other in problem.rescuers[place]]
+            self.program.add_row([(gain, 1), *gains_of_rescuers], lower=0)
         self.add_links_and_groups()
         self.slack = max(HALF, ROUNDING * self.size)
         self.program.add_row(self.duality, upper=ROOM * self.slack)

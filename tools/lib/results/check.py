@@ -47,7 +47,7 @@ def selection_faults(problem, published, follows):
         yield subject_fault(published, kind, f"block {problem.blocks[place]}", words)
     for place, loss in selection.losses_of(problem, published.accepted, follows.surpluses).items():
         block = f"block {problem.blocks[place]}"
-        family = " together with its accepted descendants" if selection.helping(problem, published.accepted, place) else ""
+        family = " together with its accepted descendants" if selection.accepted_rescuers(problem, published.accepted, place) else ""
         yield subject_fault(published, "loss", block, f"{block}: it is accepted and loses {loss}{family}")
     for number, found in follows.cleared.items():
         if found is None:

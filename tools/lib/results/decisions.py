@@ -79,7 +79,7 @@ class Judge:
             return NO_PRICE
         if surplus >= 0:
             return GAINS
-        return COVERED if selection.gain_with_helpers(self.problem, self.accepted, place, self.surpluses) >= 0 else LOSES
+        return COVERED if selection.gain_with_rescuers(self.problem, self.accepted, place, self.surpluses) >= 0 else LOSES
 
     def rejected_code(self, place, family, other):
         if family.rivals:
@@ -119,11 +119,11 @@ class Judge:
         if surplus is None:
             return "is accepted, and has a period that doesn't balance, and so has no price"
         why = "gains nothing" if not surplus else f"{'gains' if surplus > 0 else 'loses'} at the prices"
-        helping = selection.helping(self.problem, self.accepted, place)
-        if surplus < 0 and helping:
-            together = selection.gain_with_helpers(self.problem, self.accepted, place, self.surpluses)
+        rescuers = selection.accepted_rescuers(self.problem, self.accepted, place)
+        if surplus < 0 and rescuers:
+            together = selection.gain_with_rescuers(self.problem, self.accepted, place, self.surpluses)
             does = "loses" if together < 0 else "gains"
-            why += f" by itself, and with {self.names(helping)} it {does} {self.eur(abs(together))}"
+            why += f" by itself, and with {self.names(rescuers)} it {does} {self.eur(abs(together))}"
         return why + (f", and its parent {self.name(parent)} is accepted" if parent is not None else "")
 
     def never_why(self, place, of_group):
@@ -162,11 +162,11 @@ class Judge:
 
     def at_the_prices_words(self, place, family):
         """The gain or loss of a block at the prices, with its family."""
-        own, helping = family.gains[place], family.members.intersection(self.problem.rescuers[place])
+        own, rescuers = family.gains[place], family.members.intersection(self.problem.rescuers[place])
         if own < 0:
-            return f"would lose {self.eur(-own)} at the prices" + (f", even with {self.names(helping)}" if helping else "")
+            return f"would lose {self.eur(-own)} at the prices" + (f", even with {self.names(rescuers)}" if rescuers else "")
         losers = family.losers()
-        others = helping if losers else family.members - {place}
+        others = rescuers if losers else family.members - {place}
         gain = own if losers else family.gain()
         start = f"with {self.names(others)} it " if others else ""
         why = start + (f"would gain {self.eur(gain)} at the prices" if gain else "would gain nothing at the prices")
@@ -228,7 +228,7 @@ class Judge:
         words = []
         first = sorted(other.losers, key=lambda loser: (loser != place, loser))[:MOST_LOSERS]
         for loser in first:
-            family = " together with its accepted descendants" if selection.helping(self.problem, other.accepted, loser) else ""
+            family = " together with its accepted descendants" if selection.accepted_rescuers(self.problem, other.accepted, loser) else ""
             who = "the block itself" if loser == place else str(self.problem.blocks[loser])
             words.append(f"{who} would lose {self.eur(other.losers[loser])}{family}")
         more = len(other.losers) - MOST_LOSERS

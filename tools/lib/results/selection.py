@@ -129,20 +129,20 @@ def descendants(place, blocks):
     return found
 
 
-def helping(problem, accepted, place):
+def accepted_rescuers(problem, accepted, place):
     """The accepted blocks that make up for the loss of an accepted block."""
     return [other for other in problem.rescuers[place] if other in accepted]
 
 
-def gain_with_helpers(problem, accepted, place, surpluses):
+def gain_with_rescuers(problem, accepted, place, surpluses):
     """The gain of an accepted block, with the accepted blocks that make up for its loss; None if a surplus isn't known."""
-    gains = [surpluses[other] for other in [place, *helping(problem, accepted, place)]]
+    gains = [surpluses[other] for other in [place, *accepted_rescuers(problem, accepted, place)]]
     return None if None in gains else sum(gains)
 
 
 def losses_of(problem, accepted, surpluses):
     """The accepted places that lose, each with its loss, as far as that is known."""
-    gains = {place: gain_with_helpers(problem, accepted, place, surpluses) for place in sorted(accepted)}
+    gains = {place: gain_with_rescuers(problem, accepted, place, surpluses) for place in sorted(accepted)}
     return {place: -gain for place, gain in gains.items() if gain is not None and gain < 0}
 
 
