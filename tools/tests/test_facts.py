@@ -115,7 +115,7 @@ class Facts(unittest.TestCase):
                 for match in re.finditer(said, plain(page)):
                     with self.subTest(page=page.name, said=match[0]):
                         counted += 1
-                        for number, right in zip(map(found, match.groups()), wanted):
+                        for number, right in zip(map(whole_number, match.groups()), wanted):
                             self.assertIn(number, right if isinstance(right, set) else {right})
             with self.subTest(said=said):
                 self.assertGreater(counted, 0)
@@ -344,7 +344,7 @@ class Facts(unittest.TestCase):
         heads = sum(len(FUNCTION.findall(path.read_text())) for path in functions)
         tests = sum(len(path.read_text().splitlines()) for path in (TOP / "tests" / "rattle").rglob("*.rt.test"))
         said = re.search(r"have another ([\d,]+) lines.* Some (\d+) of ([\d,]+) functions have handwritten proofs", text)
-        for number, count in zip(map(found, said.groups()), (tests, len(proved), heads)):
+        for number, count in zip(map(whole_number, said.groups()), (tests, len(proved), heads)):
             with self.subTest(number):
                 self.assertAlmostEqual(number / count, 1, delta=0.1)
 
@@ -376,7 +376,7 @@ class Facts(unittest.TestCase):
             r"contract reaches \(some \[(\d+), in ([\d,]+) lines\]": sizes,
         }
         for said, wanted in counts.items():
-            for number, count in zip(map(found, re.search(said, text).groups()), wanted):
+            for number, count in zip(map(whole_number, re.search(said, text).groups()), wanted):
                 with self.subTest(said):
                     self.assertAlmostEqual(number / count, 1, delta=0.1)
 

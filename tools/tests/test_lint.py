@@ -379,9 +379,9 @@ class Long(unittest.TestCase):
 
     def test_many_lines_and_volumes(self):
         accents = self.DAY + b"\xc3\xa9\n" * (self.SIZE // 3)
-        self.assertIn("aren't ASCII either", "".join(self.measured(told, accents)))
+        self.assertIn("aren't ASCII either", "".join(self.measured(fault_lines, accents)))
         for lines in (b'""\n' * (self.SIZE // 3), b"\n" * self.SIZE, b'"A\n' * (self.SIZE // 3), b"a,\n" * (self.SIZE // 3)):
-            self.measured(told, self.DAY + lines)
+            self.measured(fault_lines, self.DAY + lines)
         for count in (rules.GREATEST_PERIOD, rules.GREATEST_PERIOD + 1, 15_000):
             found = fault_lines(self.DAY + b"submit,A,K,block,buy,1,%s1:1,,\n" % (b"1:1;" * (count - 1)), "replay")[0]
             self.assertEqual(f"it has {count:,} pairs, and a day has at most 100 periods" in found, count > rules.GREATEST_PERIOD)
@@ -390,7 +390,7 @@ class Long(unittest.TestCase):
         data = self.DAY + b"," * rules.MOST_BYTES
         self.assertEqual(self.measured(self.first, data), "input: TooLong")
         said = f"line 1: the text has {len(data):,} bytes, but a journal has at most {rules.MOST_BYTES:,}"
-        self.assertEqual(self.measured(told, data), [f"{said}: remove empty lines; the day and 10000 commands take less"])
+        self.assertEqual(self.measured(fault_lines, data), [f"{said}: remove empty lines; the day and 10000 commands take less"])
 
     def test_only_empty_lines_make_a_journal_too_long(self):
         """The longest commands, with all fields in quotes and CR LF, take less than a journal may have."""
