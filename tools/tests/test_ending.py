@@ -227,6 +227,35 @@ class Failing(unittest.TestCase):
             self.assertIn(f'from lib.base import ending\n\nending.guard_tool("{name}")\n\n', text)
 
 
+class Start(unittest.TestCase):
+    """The first lines of tools, which each has for itself: nothing that they share can be imported before."""
+
+    HOOK = "sys.excepthook = exit_by_fault\n"
+
+    def lines_until_guarded(self, name):
+        """The lines of a tool from its first import until it is guarded."""
+        _, begin, rest = (TOOLS / name).read_text().partition("\nimport _signal\n")
+        lines, guard, _ = rest.partition(f'\nending.guard_tool("{name}")\n')
+        self.assertTrue(begin and guard, name)
+        return lines.replace(f"{name}: ", "TOOL: ")
+
+    def test_tools_that_say_why_they_cannot_start(self):
+        """They begin alike. The audit alone also says that its folder is missing."""
+        names = {path.name for path in TOOLS.iterdir() if path.is_file() and self.HOOK in path.read_text()}
+        self.assertGreater(len(names), 8)
+        starts = {name: self.lines_until_guarded(name) for name in names}
+        audit_hook, _, _ = starts.pop("audit").partition(self.HOOK)
+        (start,) = set(starts.values())
+        self.assertEqual(audit_hook, start.partition(self.HOOK)[0])
+
+    def test_each_tool_can_be_interrupted_from_its_first_line(self):
+        first = self.lines_until_guarded("plot").partition("\nimport ")[0]
+        names = [path.name for path in TOOLS.iterdir() if path.is_file() and path.read_text().startswith("#!/usr/bin/env -S python3 ")]
+        self.assertGreater(len(names), 12)
+        for name in names:
+            self.assertIn(f'"""\n\nimport _signal\n{first}\nimport ', (TOOLS / name).read_text(), name)
+
+
 class Interrupted(unittest.TestCase):
     """Ctrl-C ends a tool with a status of its own, without a traceback."""
 
