@@ -807,14 +807,18 @@ class Unlike(unittest.TestCase):
                 fault = "line 2, column price_eur_mwh: '92' is a text with a format: clear its formats"
                 self.assertEqual((found and found.order.price, said), (9_200, None) if is_read else (None, fault), font)
 
-    def test_hidden_sheets(self):
-        """One that is shown comes first; if a hidden one is read, the note says so."""
+    def parts_of_two(self, *names):
+        """The parts of a workbook with two sheets of these names and states; the second has the order K2."""
         listed = '<workbook xmlns="{}" xmlns:r="{}"><sheets><sheet name="{}" r:id="r1"{}/><sheet name="{}" r:id="r2"{}/></sheets></workbook>'
         relation = f'<Relationship Id="r{{0}}" Type="{made.OFFICE[0]}/worksheet" Target="worksheets/sheet{{0}}.xml"/>'
-        parts = {
+        return {
+            "xl/workbook.xml": listed.format(made.MAIN[0], made.OFFICE[0], *names).encode(),
             "xl/_rels/workbook.xml.rels": f'<Relationships xmlns="{made.RELATIONS}">{relation.format(1)}{relation.format(2)}</Relationships>'.encode(),
             "xl/worksheets/sheet2.xml": made.OPEN + order(2, "K2") + made.CLOSE,
         }
+
+    def test_hidden_sheets(self):
+        """One that is shown comes first; if a hidden one is read, the note says so."""
         hidden, very = ' state="hidden"', ' state="veryHidden"'
         for names, wanted, note in (
             (("a", "", "b", ""), "K1", "of 2 sheets, 'a' was read; 'b' has the columns of orders too"),
@@ -822,9 +826,37 @@ class Unlike(unittest.TestCase):
             (("orders", very, "b", ""), "K1", "of 2 sheets, 'orders' was read, a hidden one"),
             (("a", hidden, "b", very), "K1", "of 2 sheets, 'a' was read, a hidden one; 'b' has the columns of orders too"),
         ):
-            workbook = {"xl/workbook.xml": listed.format(made.MAIN[0], made.OFFICE[0], *names).encode()}
-            orders = order_table.parse_tables([("", made.workbook_of_sheet(made.OPEN, order(2, "K1"), made.CLOSE, **parts, **workbook))], 24)
+            orders = order_table.parse_tables([("", made.workbook_of_sheet(made.OPEN, order(2, "K1"), made.CLOSE, **self.parts_of_two(*names)))], 24)
             self.assertEqual(([submit.name for _, submit in orders.submits], orders.notes), ([wanted], [note]))
+
+    def test_an_earlier_sheet_that_cant_be_read(self):
+        """It may be the table of today: no later sheet is read in its place, except if it is hidden."""
+        heads, end = b"<c r='A1' t='inlineStr'><is><t>participant</t></is></c>", made.OPEN.index(b"<c t=")
+        first = made.ROOT + b"<sheetData><row r='1'>" + heads.replace(b"participant", b"note") + heads.replace(b"A1", b"B1")
+        repair = ": repair the sheet 'today', or name the one to read 'orders'"
+        for pieces, said in (
+            ([first.replace(b"B1", b"A1"), b"</row>", made.CLOSE], "sheet 'today', cell A1: it occurs twice"),
+            ([made.ROOT, b"<sheetData><row r='0'>", heads, b"</row>", made.CLOSE], "sheet 'today': a row has the number '0': they go from 1 to 1048576"),
+            ([made.OPEN.replace(b"<sheetData>", b"<other/><sheetData>"), made.CLOSE], "sheet 'today': an element 'other' stands in 'worksheet'"),
+            ([b"no XML"], "line 1: the Excel workbook can't be read: 'xl/worksheets/sheet1.xml': syntax error: line 1, column 0"),
+            ([made.OPEN.replace(b"<is>", b"<is/><is>", 1), made.CLOSE], "sheet 'today', cell A1: two elements 'is' stand in 'c'"),
+            ([made.OPEN[:end], b"<c t='s'><v>9</v></c></row>", made.CLOSE], "sheet 'today', cell A1: it has no string '9'"),
+            ([made.ROOT, b"</worksheet>"], "sheet 'today': it has no table of cells"),
+            ([made.OPEN.replace(b"<is><t>side</t></is>", b"<f>A9</f>").replace(b"<c t='inlineStr'><f>", b"<c><f>"), made.CLOSE],
+             "sheet 'today': a formula of its first row was saved without its value"),
+            ([made.ROOT, b"<sheetData><row><c><f>SUM(A2:A9)</f></c></row>", made.CLOSE], None),
+            ([made.ROOT, b"<sheetData/></worksheet>"], None),
+        ):  # fmt: skip
+            for hidden in (False, True):
+                parts = self.parts_of_two("today", ' state="hidden"' * hidden, "old", "")
+                data = made.workbook_of_sheet(*pieces, **parts)
+                with self.subTest(said, hidden=hidden):
+                    if said and not hidden:
+                        with self.assertRaisesRegex(order_table.BadOrders, f"^{re.escape(said + repair)}$"):
+                            order_table.parse_tables([("", data)], 24)
+                    else:
+                        submits = order_table.parse_tables([("", data)], 24).submits
+                        self.assertEqual([submit.name for _, submit in submits], ["K2"])
 
     def test_a_sheet_of_macros(self):
         """It has cells, which aren't read: it is no table of orders, and it counts among the sheets."""

@@ -3,7 +3,7 @@
 import posixpath
 
 from ..base import text
-from .limits import LONGEST_NAME, MOST_HEADS, MOST_SHEETS, broken, too_many
+from .limits import LONGEST_NAME, MOST_HEADS, MOST_SHEETS, BadWorkbook, broken, too_many
 from .package import Package
 from .part import ANY_OTHERS, Part, truth_word_or_none
 from .sheet import FirstRow, Sheet, Strings, is_due
@@ -139,23 +139,28 @@ class Workbook(Part):
         named = [name for name in sheets if name.lower() == preferred]
         if named and sheets[named[0]] is None:
             raise broken(f"the sheet {text.quoted(named[0])} is one of macros: copy its table to another sheet")
-        tables = {name: part for name, part in sheets.items() if part is not None}
-        found = named or self.find_sheets_or_refuse(tables, needed)
-        name = sorted([*found, *tables], key=lambda name: (name not in found, name in self.hidden))[0]
+        tables = {name: sheets[name] for name in sorted(sheets, key=self.hidden.__contains__) if sheets[name] is not None}
+        found = named or self.find_sheets_or_refuse(tables, needed, preferred)
+        name = [*found, *tables][0]
         others = [text.quoted(other) for other in found if other != name]
         more = f"; {', '.join(others)} {'has' if len(others) == 1 else 'have'} the columns of orders too" if others else ""
         return name, sheets[name], f"of {len(sheets)} sheets, {text.quoted(name)} was read{', a hidden one' * (name in self.hidden)}{more}"
 
-    def find_sheets_or_refuse(self, sheets, needed):
-        """The sheets with the needed names in their first rows."""
-        rows, heads = {name: FirstRow(name, part, self, needed) for name, part in sheets.items()} if needed else {}, 0
-        for row in rows.values():
-            row.parse_first_row_if_readable()
+    def find_sheets_or_refuse(self, sheets, needed, preferred):
+        """The sheets with the needed names in their first rows. One that can't be read may have them too: before these it is a fault."""
+        rows, heads = [FirstRow(name, part, self, needed) for name, part in sheets.items()] if needed else [], 0
+        for row in rows:
+            row.parse_first_row()
             heads += len(row.needed)
             if heads > MOST_HEADS:
                 raise too_many(MOST_HEADS, "strings in the first rows of its sheets")
-        shared = self.parse_strings(set().union(*(row.needed for row in rows.values())))
-        return [name for name, row in rows.items() if set(needed) <= row.sought_names(shared)]
+        shared, found = self.parse_strings(set().union(*(row.needed for row in rows))), []
+        for name, row in zip(sheets, rows):
+            if row.has_names(shared):
+                found.append(name)
+            elif row.unread and not found:
+                raise BadWorkbook(f"{row.unread}: repair the sheet {text.quoted(name)}, or name the one to read {preferred!r}")
+        return found
 
     def parse_strings(self, needed):
         """The shared strings, of which those that are needed are read."""

@@ -338,16 +338,18 @@ class Enough(Exception):
 
 
 class FirstRow(Sheet):
-    """The needed names in the first row of a sheet that isn't empty. A sheet that can't be read has none: if it is read as the table, it is
-    a fault."""
+    """The needed names in the first row of a sheet that isn't empty. A sheet that can't be read, or whose formulas lack the values that may
+    be those names, is `unread`: the fault."""
 
     def __init__(self, name, part, book, names):
         super().__init__(name, part, book, None)
-        self.sought, self.needed = names, set()
+        self.sought, self.needed = set(names), set()
+        self.uncomputed, self.unread = 0, None  # how many cells are formulas without their values
 
     def content_or_refuse(self):
         """The content of a cell, or a word in its place if it isn't needed."""
         words = super().content_or_refuse()
+        self.uncomputed += isinstance(words, Uncomputed)
         return words if isinstance(words, int) or not words or words.strip().lower() in self.sought else "other"
 
     def close_row(self):
@@ -355,16 +357,23 @@ class FirstRow(Sheet):
         if self.rows:
             raise Enough
 
-    def parse_first_row_if_readable(self):
+    def parse_first_row(self):
         try:
             self.book.package.parse_part(self.part, self)
         except Enough:
             self.rows = [(row, list(set(cells))) for row, cells in self.rows]
-        except BadWorkbook:
-            self.rows, self.needed = [], set()
+        except BadWorkbook as fault:
+            self.rows, self.needed, self.unread = [], set(), fault
 
-    def sought_names(self, shared):
+    def has_names(self, shared):
+        """Whether all names that are sought are in the row."""
+        if self.unread:
+            return False
         try:
-            return {cell.strip().lower() for _, cells in self.rows_or_refuse(shared) for cell in cells} & set(self.sought)
-        except BadWorkbook:
-            return set()
+            lacking = self.sought - {cell.strip().lower() for _, cells in self.rows_or_refuse(shared) for cell in cells}
+        except BadWorkbook as fault:
+            self.unread = fault
+            return False
+        if 0 < len(lacking) <= self.uncomputed:
+            self.unread = BadWorkbook(f"{self.place}: a formula of its first row was saved without its value")
+        return not lacking
