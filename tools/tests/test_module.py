@@ -35,6 +35,7 @@ class Module(unittest.TestCase):
     def test_a_run_of_the_program(self):
         day = dam_tools.clear(dam_tools.read_journal(AUCTION), program=self.program, workers=2)
         self.assertEqual((day.wrong, day.published.welfare), ([], 3021520000))
+        self.assertIs(day.said, day.published)
         rows = dam_tools.records(day)
         self.assertEqual((len(rows), rows[18]["price_eur_mwh"], rows[18]["traded"]), (24, 165.0, True))
         again = dam_tools.read_results(AUCTION, AUCTION_RESULTS)

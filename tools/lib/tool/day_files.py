@@ -84,6 +84,11 @@ class Day:
             raise command.Stop(f"{command.shown(results_path)} has no results of this journal: {self.wrong[0]}")
         self.outcome = selection.outcome(self.problem, self.published.accepted)
 
+    @property
+    def said(self):
+        """The published numbers, by the name that `dam_tools` first gave them, for the programs that use it."""
+        return self.published
+
     def note_faults_and_return_status(self, tool, quiet=False):
         """Returns the status of a tool that has shown the results. If they break the rules, or else if their encoding differs, it says so on
         standard error."""
