@@ -757,16 +757,40 @@ class Unlike(unittest.TestCase):
         ):  # fmt: skip
             close = f'</sheetData><conditionalFormatting sqref="E2:E9"><cfRule>{rule}<extLst/></cfRule></conditionalFormatting>'
             self.check_conditions(made.workbook_of_sheet(made.OPEN, order(2, "K1"), made.CLOSE.replace(b"</sheetData>", close.encode())), fault)
-        extension = '</sheetData><extLst><ext><x:dxf xmlns:x="urn:x"><numFmt formatCode="0%"/></x:dxf></ext></extLst>'
-        data = made.workbook_of_sheet(made.OPEN, order(2, "K1"), made.CLOSE.replace(b"</sheetData>", extension.encode()))
-        with self.assertRaisesRegex(sheets.BadTable, "an element 'numFmt' stands in 'extLst'"):
-            sheets.parse_rows(data)
+
+    def test_conditional_formats_of_extensions(self):
+        later = "http://schemas.microsoft.com/office/spreadsheetml/2009/9/main"
+        for rule, kind in (
+            ('<x:dxf><numFmt formatCode="0%"/></x:dxf>', "with a number format"),
+            ("<x:dxf><font><b/><strike/></font></x:dxf>", "with a font that strikes out"),
+            ('<x:iconSet showValue=" 0"><x:cfvo/></x:iconSet>', "that hides numbers"),
+            ('<x:dataBar showValue="false"/>', "that hides numbers"),
+            ('<x:dxf><font><b/><strike val="0"/></font></x:dxf>', None),
+            ('<x:iconSet iconSet="3Stars"><x:cfvo/></x:iconSet><x:dataBar showValue="1"/>', None),
+        ):
+            formats = f'<x:conditionalFormatting xmlns:x="{later}"><x:cfRule>{rule}</x:cfRule></x:conditionalFormatting>'
+            close = made.CLOSE.replace(b"</sheetData>", f"</sheetData><extLst><ext>{formats}</ext></extLst>".encode())
+            self.check_order(made.workbook_of_sheet(made.OPEN, order(2, "K1"), close), kind and f"it has a conditional format {kind}: delete it")
+
+    def test_styles_of_tables(self):
+        """The fonts of a style of tables may strike the orders of a table out."""
+        fault = "it has a table, and the workbook a style of tables that strikes out: delete the style"
+        dxfs = '<dxfs><dxf><font/></dxf><dxf><font><strike/></font><numFmt formatCode="0%"/></dxf></dxfs>'
+        for number, tables, said in (("1", "<tablePart/>", fault), ("0", "<tablePart/>", None), ("1", "", None)):
+            style = f'<tableStyles><tableStyle name="a"><tableStyleElement dxfId="{number}"/></tableStyle></tableStyles>'
+            styles = f'<styleSheet xmlns="{made.MAIN[0]}">{dxfs}{style}</styleSheet>'
+            close = made.CLOSE.replace(b"</sheetData>", f"</sheetData><tableParts>{tables}</tableParts>".encode())
+            self.check_order(made.workbook_of_sheet(made.OPEN, order(2, "K1"), close, **{"xl/styles.xml": styles.encode()}), said)
 
     def check_conditions(self, data, fault):
         """A workbook of one order, whose conditional format has a fault or none."""
+        self.check_order(data, fault and f"the cells 'E2:E9' have a conditional format {fault}: delete it")
+
+    def check_order(self, data, fault):
+        """A workbook of one order, whose sheet has a fault or none."""
         with self.subTest(fault):
             if fault:
-                with self.assertRaisesRegex(sheets.BadTable, f"^sheet 'orders': the cells 'E2:E9' have a conditional format {fault}: delete it$"):
+                with self.assertRaisesRegex(sheets.BadTable, f"^sheet 'orders': {fault}$"):
                     sheets.parse_rows(data)
             else:
                 self.assertEqual(len(order_table.parse_tables([("", data)], 24).submits), 1)
@@ -854,6 +878,8 @@ class Unlike(unittest.TestCase):
                     if said and not hidden:
                         with self.assertRaisesRegex(order_table.BadOrders, f"^{re.escape(said + repair)}$"):
                             order_table.parse_tables([("", data)], 24)
+                        with self.assertRaisesRegex(requests.BadRequest, f"^{re.escape(said + repair)}$"):
+                            requests.parse_table_records_and_notes(data, "A", 24)
                     else:
                         submits = order_table.parse_tables([("", data)], 24).submits
                         self.assertEqual([submit.name for _, submit in submits], ["K2"])

@@ -47,7 +47,6 @@ class Part:
     PLACES = {}  # for each known element, the ones that may stand in it, in their order (of those with a | in any); several if a * follows
     BETWEEN = {}  # others that may stand between these, in any order, with those of other namespaces; never after the extensions
     ELSEWHERE = set()  # the known ones that have another meaning in elements that are left out
-    REFUSED = set()  # others that may not stand in elements that are left out
 
     def __init__(self):
         self.prefix = ""  # of the known names: the namespace
@@ -55,7 +54,7 @@ class Part:
         self.left_out, self.outside = 0, ""  # how deep it is in an element that is left out, and the name of that
         self.places, self.known = places_of(type(self))
         self.opening, self.closing = ({name: getattr(self, f"{when}_{name}", None) for name in self.known} for when in ("open", "close"))
-        self.kept = {f"{space} {name}" for space in self.NAMESPACES for name in self.known - self.ELSEWHERE | self.REFUSED}
+        self.kept = {f"{space} {name}" for space in self.NAMESPACES for name in self.known - self.ELSEWHERE}
         self.taken, self.length = [], 0
 
     def parse(self, package, chunks):
@@ -101,7 +100,7 @@ class Part:
         if self.package.elements > MOST_ELEMENTS:
             raise too_many(MOST_ELEMENTS, "elements: delete the rows and columns that the table doesn't need")
         if self.left_out:
-            self.pass_left_out_or_refuse(name)
+            self.pass_left_out_or_refuse(name, attributes)
             return
         if not self.prefix:
             self.begin_root_or_refuse(name)
@@ -121,13 +120,17 @@ class Part:
         if call := self.opening[local]:
             call(attributes)
 
-    def pass_left_out_or_refuse(self, name):
+    def pass_left_out_or_refuse(self, name, attributes):
         """Passes an element in one that is left out."""
         self.left_out += 1
         if self.left_out > DEEPEST:
             raise broken(f"more than {DEEPEST} elements stand in one another")
         if name in self.kept:
             raise self.fault(f"an element {text.quoted(name.rpartition(' ')[2])} stands in {text.quoted(self.outside)}")
+        self.refuse_in_left_out(name.rpartition(" ")[2], attributes)
+
+    def refuse_in_left_out(self, name, attributes):
+        """Refuses an element of any namespace, in one that is left out, that changes what the part shows."""
 
     def refuse_stranger(self, within, kind, name):
         """Refuses an element that isn't a known one, unless it may stand here."""

@@ -90,7 +90,7 @@ class Workbook(Part):
         if part := self.relations.only_part_or_refuse(STYLES):
             package.parse_part(part, styles)
         self.formats, self.styled = styles.cell_formats(), styles.styled_formats()
-        self.struck, self.conditional = styles.struck, styles.conditional
+        self.struck, self.conditional, self.has_striking_tables = styles.struck, styles.conditional, styles.has_striking_tables
 
     def parse_relations(self, owner):
         relations = Relations(owner)

@@ -8,8 +8,8 @@ from ..base import text
 from .cells import Date, Hidden, Kept, Numbers, Rows, Struck, StruckString, Styled, StyledString, Truth, Uncomputed
 from .cells import column_name, column_number, trimmed, unescaped
 from .limits import LAST_COLUMN, LAST_ROW, MOST_CELLS, MOST_ELEMENTS, MOST_TEXT, BadWorkbook, broken, size_of, too_many
-from .part import ANY_OTHERS, EXTENSIONS, FONT, OF_FONTS, TRUTHS, Texts, truth_word_or_none, unsigned_number_or_none
-from .styles import digits_text, general_text
+from .part import ANY_OTHERS, EXTENSIONS, FONT, OF_FONTS, TRUTHS, Texts, strikes_out, truth_word_or_none, unsigned_number_or_none
+from .styles import A_NUMBER_FORMAT, A_STRIKING_FONT, digits_text, general_text
 
 NUMBER = re.compile(r"[+-]?(?:[0-9]+(?:\.[0-9]*)?|\.[0-9]+)(?:[eE][+-]?[0-9]{1,3})?")
 WHOLE = re.compile(r"-?[0-9]{1,15}")
@@ -22,6 +22,14 @@ CLOCK = re.compile(r"T?([0-9]{2}:[0-9]{2})(?::[0-9.]*)?Z?")
 def is_due(attributes):
     """Whether Excel computes all formulas once it opens the workbook."""
     return truth_word_or_none(attributes, "fullCalcOnLoad") == "TRUE"
+
+
+HIDING = "that hides numbers"
+
+
+def hides_numbers(attributes):
+    """Whether a bar or an icon of a conditional format hides the number."""
+    return truth_word_or_none(attributes, "showValue") == "FALSE"
 
 
 class Strings(Texts):
@@ -61,7 +69,7 @@ class Sheet(Texts):
     ROOT = "worksheet"
     PLACES = {
         "": ROOT,
-        ROOT: "sheetViews sheetData sheetCalcPr mergeCells conditionalFormatting* extLst",
+        ROOT: "sheetViews sheetData sheetCalcPr mergeCells conditionalFormatting* tableParts extLst",
         "sheetViews": "sheetView* extLst",
         "sheetView": EXTENSIONS,
         "sheetData": "row*",
@@ -74,17 +82,17 @@ class Sheet(Texts):
         "mergeCells": "mergeCell*",
         "conditionalFormatting": "cfRule* extLst",
         "cfRule": "dataBar|iconSet* extLst",
+        "tableParts": "tablePart*",
     }
     BETWEEN = {ROOT: {ANY_OTHERS, *(
         "sheetPr dimension sheetFormatPr cols sheetProtection protectedRanges scenarios autoFilter sortState"
         " dataConsolidate customSheetViews phoneticPr dataValidations hyperlinks printOptions pageMargins pageSetup"
         " headerFooter rowBreaks colBreaks customProperties cellWatches ignoredErrors smartTags drawing legacyDrawing legacyDrawingHF"
-        " drawingHF picture oleObjects controls webPublishItems tableParts").split()},
+        " drawingHF picture oleObjects controls webPublishItems").split()},
         "sheetView": {ANY_OTHERS, *"pane selection pivotSelection".split()},
         "conditionalFormatting": {ANY_OTHERS}, "cfRule": {ANY_OTHERS, *"formula colorScale".split()},
         **dict.fromkeys(["dataBar", "iconSet"], {ANY_OTHERS, "cfvo", "color"}), "rPr": OF_FONTS}  # fmt: skip
     ELSEWHERE = {"dataBar", "iconSet", "rPr", "strike", "vertAlign"}
-    REFUSED = {"numFmt"}  # in an extension: the format of a condition
 
     def __init__(self, name, part, book, most):
         super().__init__()
@@ -297,13 +305,29 @@ class Sheet(Texts):
 
     def open_dataBar(self, attributes):
         """A bar or an icon may stand in place of a number."""
-        if truth_word_or_none(attributes, "showValue") == "FALSE":
-            raise self.conditional_fault("that hides numbers")
+        if hides_numbers(attributes):
+            raise self.conditional_fault(HIDING)
 
     open_iconSet = open_dataBar
 
     def conditional_fault(self, kind):
         return self.fault(f"the cells {text.quoted(self.ranges)} have a conditional format {kind}: delete it")
+
+    def refuse_in_left_out(self, name, attributes):
+        """An extension has the conditional formats that Excel 2007 didn't have, each with its own number format and font."""
+        kind = None
+        if name == "numFmt":
+            kind = f"with {A_NUMBER_FORMAT}"
+        elif name == "strike" and strikes_out(attributes):
+            kind = f"with {A_STRIKING_FONT}"
+        elif name in ("dataBar", "iconSet") and hides_numbers(attributes):
+            kind = HIDING
+        if kind:
+            raise self.fault(f"it has a conditional format {kind}: delete it")
+
+    def open_tablePart(self, _):
+        if self.book.has_striking_tables:
+            raise self.fault("it has a table, and the workbook a style of tables that strikes out: delete the style")
 
     width = None  # of the widest row, once it is needed
 

@@ -245,13 +245,17 @@ def format_number_or_refuse(attributes):
     return number
 
 
+# Why the format of a condition changes what is shown.
+A_NUMBER_FORMAT, A_STRIKING_FONT = "a number format", "a font that strikes out"
+
+
 class Styles(Part):
     """For each format of cells how it shows a number: as a `Date`, a `Percentage`, `general_text`, or by its sections."""
 
     ROOT = "styleSheet"
     PLACES = {
         "": ROOT,
-        ROOT: "numFmts fonts cellXfs dxfs extLst",
+        ROOT: "numFmts fonts cellXfs dxfs tableStyles extLst",
         "numFmts": "numFmt*",
         "fonts": "font*",
         "font": FONT,
@@ -259,9 +263,11 @@ class Styles(Part):
         "xf": "alignment extLst",
         "dxfs": "dxf*",
         "dxf": "font numFmt extLst",
+        "tableStyles": "tableStyle*",
+        "tableStyle": "tableStyleElement*",
     }
     BETWEEN = {
-        ROOT: {ANY_OTHERS, *"fills borders cellStyleXfs cellStyles tableStyles colors".split()},
+        ROOT: {ANY_OTHERS, *"fills borders cellStyleXfs cellStyles colors".split()},
         "xf": {ANY_OTHERS, "protection"},
         "dxf": {ANY_OTHERS, *"fill alignment border protection".split()},
         "fonts": {ANY_OTHERS},
@@ -279,6 +285,7 @@ class Styles(Part):
         self.fonts, self.struck_fonts = 0, set()  # how many fonts there are, and those that strike out
         self.struck = set()  # the formats with one of these
         self.conditions, self.conditional = 0, {}  # how many formats of conditions there are, and why some change what is shown
+        self.has_striking_tables = False  # whether a style of tables strikes out
 
     def open_numFmt(self, attributes):
         code = attributes.get("formatCode", "")
@@ -293,7 +300,7 @@ class Styles(Part):
         shown, is_plain = shown_by(code), shows_texts(code)
         if self.within[-2] == "dxf":
             if shown is not general_text or not is_plain:
-                self.conditional[self.conditions - 1] = "a number format"
+                self.conditional.setdefault(self.conditions - 1, A_NUMBER_FORMAT)
             return
         number = format_number_or_refuse(attributes)
         if self.codes.setdefault(number, code) != code:
@@ -310,10 +317,15 @@ class Styles(Part):
         if strikes_out(attributes) and self.within[-3] == "fonts":
             self.struck_fonts.add(self.fonts - 1)
         elif strikes_out(attributes):
-            self.conditional[self.conditions - 1] = "a font that strikes out"
+            self.conditional[self.conditions - 1] = A_STRIKING_FONT
 
     def open_dxf(self, _):
         self.conditions += 1
+
+    def open_tableStyleElement(self, attributes):
+        """A style of tables has the fonts of formats that conditions may have too."""
+        kind = self.conditional.get(unsigned_number_or_none(attributes.get("dxfId", "")))
+        self.has_striking_tables = self.has_striking_tables or kind == A_STRIKING_FONT
 
     def open_xf(self, attributes):
         if unsigned_number_or_none(attributes.get("fontId", "0")) in self.struck_fonts:
