@@ -196,9 +196,9 @@ class Worked(unittest.TestCase):
             self.assertEqual((status, out.decode().splitlines()[0], err), (command.DONE, said, ""))
 
     def test_notes_say_how_a_table_was_read(self):
-        heads, row = "participant,order,kind,side,price_eur_mwh,periods,volume_mw,sub-group", "A,H1,hour,buy,3.00,1,1,\u00fc"
+        heads, row = "participant,order,kind,side,price_eur_mwh,periods,volume_mw,region", "A,H1,hour,buy,3.00,1,1,\u00fc"
         data = f"{heads}\n{row}\nA,K1,block,buy,1.00,1-2,1\n".encode("cp1252")
-        notes = ["sent: line 2: the table isn't in UTF-8, and was read as Windows-1252", "sent: the column 'sub-group' isn't used"]
+        notes = ["sent: line 2: the table isn't in UTF-8, and was read as Windows-1252", "sent: the column 'region' isn't used"]
         status, out, err = audit(PUBLISHED, data)
         self.assertEqual((status, err.splitlines()), (command.DONE, [f"audit: {note}" for note in notes]))
         self.assertEqual(audit(PUBLISHED, data, "A", "--quiet"), (command.DONE, "", ""))

@@ -48,6 +48,17 @@ class Columns(unittest.TestCase):
         self.assertEqual(run_tool("table", "--journal", "-", data=data)[2], "table: standard input: the column 'comment' isn't used\n")
         self.assertEqual(run_tool("table", "--journal", "--quiet", "-", data=data)[2], "")
 
+    def test_columns_of_links_with_longer_names(self):
+        """Orders would lose their groups or parents."""
+        for heading, name in (
+            ("exclusive_group", "group"), ("group_name", "group"), ("Exclusive Group", "group"), ("parent_name", "parent"), ("linked to", "parent"),
+        ):  # fmt: skip
+            header = HEADER.removesuffix(",parent,group")
+            said = wrong("A,H,block,buy,1,8,5,X", header=f"{header},{heading}")
+            self.assertEqual(said, [f"line 1, column 8: '{heading}' is not a column: write {name}"])
+            _, notes = records_and_notes("A,H,block,buy,1,8,5,,,X", header=f"{HEADER},{heading}")
+            self.assertEqual(notes, [f"the column '{heading}' isn't used"])
+
     def test_a_column_without_a_name(self):
         """It may be one that orders have; if its cells are empty too, it separates others."""
         header = HEADER.replace("parent", " ")

@@ -408,10 +408,10 @@ class Tools(unittest.TestCase):
 
     def test_notes_say_how_a_table_was_read(self):
         amended = self.run_whatif("change", self.journal, "-", data=b"amend,GEN,UNIT,,,6000,1:20,,\n")[1]
-        head, row = "what,participant,order,price_eur_mwh,periods,volume_mw,sub-group,note\n", "amend,GEN,UNIT,60,1,2,,f\u00fcr\n"
+        head, row = "what,participant,order,price_eur_mwh,periods,volume_mw,region,note\n", "amend,GEN,UNIT,60,1,2,,f\u00fcr\n"
         orders = "participant,order,kind,side,price_eur_mwh,periods,volume_mw,note\n", "GEN,MORE,hour,sell,60,1,2,f\u00fcr\n"
         code = ["line 2: the table isn't in UTF-8, and was read as Windows-1252"]
-        unused = ["the column 'sub-group' isn't used", "the column 'note' isn't used"]
+        unused = ["the column 'region' isn't used", "the column 'note' isn't used"]
         for table, said in (((head, row), code + unused), (orders, code + unused[1:])):
             data = "".join(table).encode("cp1252")
             status, out, err = self.run_whatif("change", self.journal, "-", data=data)

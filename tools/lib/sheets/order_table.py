@@ -22,6 +22,7 @@ WHAT = "what"
 COMMANDS_ALONE = ("amend", "cancel", "close")
 MOST_ERRORS = 20
 MOST_ROWS = rules.MOST_RECORDS - 1  # after the first one: as many as a journal has commands
+OF_LINKS = {"group": "group", "parent": "parent", "link": "parent"}  # words in headings of the columns that a table may leave out
 ALIKE = 0.75  # a column whose name is at least so similar to one that is missing is probably meant to be that
 
 # Why the book refuses an order that is right in itself.
@@ -86,8 +87,11 @@ def unused_notes(unused):
 
 
 def columns_meant(name, missing, needed):
-    """The missing columns that a name probably stands for: those that are needed, and of which it is the first word, or one like it."""
-    return [one for one in missing if one in needed and one.startswith(f"{name}_")] or difflib.get_close_matches(name, missing, 1, ALIKE)
+    """The missing columns that a name probably stands for: those that are needed, and of which it is the first word, or one like it, or one
+    of which it has a word: without a column of links, orders would lose them."""
+    begun = [one for one in missing if one in needed and one.startswith(f"{name}_")]
+    alike = begun or difflib.get_close_matches(name, missing, 1, ALIKE)
+    return alike or [one for word, one in OF_LINKS.items() if word in name and one in missing]
 
 
 class Row:
