@@ -521,6 +521,7 @@ class Unlike(unittest.TestCase):
             ('_("$"* #,##0.00_);_("$"* \\(#,##0.00\\);_("$"* "-"??_);_(@_)', "$"), ('[>3]0" kW";0', " kW"), ('0\\ "k"\\W', " kW"),
             ("0k", "k"), ('0" EUR/kWh"', " EUR/kWh"), ('"A - B "0', "A - B "), ("0*k", "k"), ("0~", "~"), ('"EUR "0" ct"', " ct"),
             ('0" MWh"', " MWh"), ('"EUR "0" MW"', " MW"), ("0\\ [$CHF]", " CHF"), ("[$£-809]0", "£"), ('[>3]0" MW";0" EUR"', " EUR"),
+            ('0" mW"', " mW"), ('0" Mw"', " Mw"), ('0" EUR/mWh"', " EUR/mWh"),
         ):  # fmt: skip
             found, fault = self.shown(code.replace('"', "&quot;").replace(">", "&gt;"), 5)
             self.assertEqual((fault, found), (said.format(words), None), code)
@@ -536,7 +537,7 @@ class Unlike(unittest.TestCase):
     def test_formats_with_a_unit_of_another_column(self):
         """A column of prices has numbers in EUR or EUR/MWh, one of volumes in MW, and one of periods in no unit."""
         of_prices = "0[$€-407]", '"EUR "0', '0" EUR/MWh"', '0" €/MWh"', '0" Euro per MWh"', '[>9]0" EUR";0', '"EUR "0"/MWh"'
-        of_volumes = '0" MW"', '0"mw"', "0\\ [$MW]", '0" (MW)"', '[>9]0" MW";0'
+        of_volumes = '0" MW"', '0"MW"', "0\\ [$MW]", '0" (MW)"', '[>9]0" MW";0'
         for codes, unit, right in ((of_prices, "EUR", "E"), (of_volumes, "MW", "G")):
             for code in (each.replace('"', "&quot;").replace(">", "&gt;") for each in codes):
                 for letter, column in (("E", "is in EUR/MWh"), ("G", "is in MW"), ("F", "has no unit")):

@@ -34,8 +34,8 @@ REVERSED = "\u202e"  # the characters after it are shown from right to left
 # The words that a format may add to a number of each kind, a unit of orders or none, between signs, of which others decide, and separators.
 UNITS = {
     Formatted: re.compile(""),
-    Price: re.compile(r"(?:EUR(?:OS?)?|\u20ac)?(?: ?(?:[-/.]|per) ?MWh)?", re.IGNORECASE),
-    Power: re.compile("(?:MW)?", re.IGNORECASE),
+    Price: re.compile(r"(?:(?i:EUR(?:OS?)?)|\u20ac)?(?: ?(?:[-/.]|(?i:per)) ?MWh)?"),
+    Power: re.compile("(?:MW)?"),
 }
 SIGNS = f"-()+*{SEPARATORS}"
 LETTER, OTHER = r"[^\W\d_]", r"[\W\d_]"
