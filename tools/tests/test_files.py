@@ -76,6 +76,9 @@ class Files(unittest.TestCase):
                     ran = subprocess.run([sys.executable, TOOLS / name, *words], stdin=given, stdout=out, stderr=subprocess.PIPE)
                     said = f"{name}: standard output goes to {shown}, which is one of the inputs: write to another file\n"
                     self.assertEqual((ran.returncode, ran.stderr.decode()), (command.NO_INPUT, said))
+                    recorded = [sys.executable, TOOLS / name, "--json", *words]
+                    ran = subprocess.run(recorded, stdin=given, stdout=out, stderr=subprocess.PIPE)
+                    self.assertEqual((ran.returncode, ran.stderr.decode()), (command.NO_INPUT, said))
         self.assertEqual([path.read_bytes() for path in texts], [AUCTION.read_bytes(), read_results(AUCTION)])
         # a program that has closed it, and reads a file by dam_tools, may give its number to the file
         code = f"import sys; sys.path.insert(0, {str(TOOLS)!r}); import dam_tools; dam_tools.read_results(*sys.argv[1:])"

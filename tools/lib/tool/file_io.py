@@ -6,7 +6,7 @@ import os
 import stat
 import sys
 
-from ..base import replacing
+from ..base import ending, replacing
 from . import command
 
 MOST_BYTES, PART = 64 << 20, 1 << 20  # of a file that a tool reads, and of those how many at once
@@ -35,13 +35,15 @@ def read_bytes(path):
 
 
 def refuse_own_output(path, file):
-    """Ends the tool if what it prints would be added to a file that it reads."""
+    """Ends the tool if what it prints would be added to a file that it reads. Then its record of the fault isn't printed either."""
     try:
         found = os.fstat(file.fileno())
         is_own = sys.stdout is not None and stat.S_ISREG(found.st_mode) and os.path.samestat(found, os.fstat(1))
     except (OSError, ValueError):  # one of them has no number, or is closed
         return
     if is_own:
+        if ending.watched:  # not a program that calls the package for Python
+            command.discard_stream(sys.stdout)
         raise command.Stop(f"standard output goes to {command.shown(path)}, which is one of the inputs: write to another file")
 
 
