@@ -80,6 +80,16 @@ class Files(unittest.TestCase):
                     ran = subprocess.run(recorded, stdin=given, stdout=out, stderr=subprocess.PIPE)
                     self.assertEqual((ran.returncode, ran.stderr.decode()), (command.NO_INPUT, said))
         self.assertEqual([path.read_bytes() for path in texts], [AUCTION.read_bytes(), read_results(AUCTION)])
+        with self.journal.open("ab") as out:
+            said = f"standard output goes to {self.journal}, "
+            key = self.folder / "key.pem"
+            subprocess.run(["openssl", "genpkey", "-algorithm", "ed25519", "-out", key], check=True, stderr=subprocess.DEVNULL)
+            public = self.folder / "public.pem"
+            subprocess.run(["openssl", "pkey", "-in", key, "-pubout", "-out", public], check=True)
+            words = [sys.executable, TOOLS / "receipts", "heads", "--json", self.journal, "--key", public]
+            ran = subprocess.run(words, stdout=out, stderr=subprocess.PIPE)
+            self.assertEqual((ran.returncode, said in ran.stderr.decode()), (command.NO_INPUT, True), ran.stderr)
+        self.assertEqual(self.journal.read_bytes(), AUCTION.read_bytes())
         # a program that has closed it, and reads a file by dam_tools, may give its number to the file
         code = f"import sys; sys.path.insert(0, {str(TOOLS)!r}); import dam_tools; dam_tools.read_results(*sys.argv[1:])"
         closed = subprocess.run(["sh", "-c", 'exec "$@" >&-', "sh", sys.executable, "-c", code, *texts], stderr=subprocess.PIPE)

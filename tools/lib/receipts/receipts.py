@@ -82,6 +82,8 @@ def parse_head(path, data, key, odd, day=None):
 
 def unread_finding(path, fault):
     """The finding on a file that can't be read, or isn't of its kind."""
+    if isinstance(fault, file_io.OwnOutput):
+        raise fault
     return Finding(path, None, UNREAD, f"it {str(fault).removeprefix(command.shown(path)).strip()}")
 
 

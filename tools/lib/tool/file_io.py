@@ -13,6 +13,10 @@ MOST_BYTES, PART = 64 << 20, 1 << 20  # of a file that a tool reads, and of thos
 NAMED_BY_OUT = ": name it by --out to replace it"
 
 
+class OwnOutput(command.Stop):
+    """Standard output is one of the inputs."""
+
+
 def require_binary_stream(stream):
     """The bytes of standard input or output, which Python has as None if it is closed."""
     if stream is None:
@@ -44,7 +48,7 @@ def refuse_own_output(path, file):
     if is_own:
         if ending.watched:  # not a program that calls the package for Python
             command.discard_stream(sys.stdout)
-        raise command.Stop(f"standard output goes to {command.shown(path)}, which is one of the inputs: write to another file")
+        raise OwnOutput(f"standard output goes to {command.shown(path)}, which is one of the inputs: write to another file")
 
 
 def unread_message(path, fault):
