@@ -1,4 +1,5 @@
-"""The package's changelog in Debian's form, of CHANGELOG.md: an entry for each version, with a line for each of its points."""
+"""The package's changelog in Debian's form, of CHANGELOG.md: an entry for each version, with a line for each of its points. The changes
+under `## Next` have no version yet."""
 
 import email.utils
 import re
@@ -7,7 +8,7 @@ import textwrap
 from . import clone as made_of
 
 WIDTH = 78
-SECTION = re.compile(r"^## (\S+)\n(.*?)(?=^## |\Z)", re.MULTILINE | re.DOTALL)
+SECTION = re.compile(r"^## (\d\S*)\n(.*?)(?=^## |\Z)", re.MULTILINE | re.DOTALL)
 LINK = re.compile(r"\[([^\]]*)\]\([^)]*\)")
 
 

@@ -226,7 +226,7 @@ class Record(unittest.TestCase):
 class Version(unittest.TestCase):
     def test_it_is_that_of_the_changelog_and_of_the_package(self):
         heads = re.findall(r"^## (\S+)$", (TOP / "CHANGELOG.md").read_text(), re.MULTILINE)
-        self.assertEqual(heads[0], rules.VERSION)
+        self.assertEqual(heads[heads[0] == "Next"], rules.VERSION)
         text = (TOP / "pyproject.toml").read_text()
         self.assertIn('\ndynamic = ["version"]\n', text)
         self.assertIn('\nversion = { attr = "tools.lib.base.rules.VERSION" }\n', text)
