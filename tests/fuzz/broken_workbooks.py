@@ -132,7 +132,7 @@ def wrap_row_or_cell(rng, content):
 
 @changing_sheet
 def add_row_behind_the_cells(rng, content):
-    """Adds a row behind the table of cells, or next to it."""
+    """Adds a row after the table of cells, or next to it."""
     row = '<row r="1048576"><c r="A1048576"><v>1</v></c></row>'
     around = rng.choice(["", "sheetPr", "x", "extLst", "sheetData"])
     row = f"<{around}>{row}</{around}>" if around else row

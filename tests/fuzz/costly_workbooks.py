@@ -9,7 +9,7 @@ LONG_NAME = "the name of an element has more than"
 
 
 def table_workbook(*pieces, **parts):
-    """A workbook of a table of orders, with these pieces behind its first row; other parts by name."""
+    """A workbook of a table of orders, with these pieces after its first row; other parts by name."""
     return workbook_of_sheet(OPEN, *pieces, CLOSE, **parts)
 
 

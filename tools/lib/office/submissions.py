@@ -115,7 +115,7 @@ def token_refusal(submission):
     """The fault of a submission whose token isn't its participant's now; None if it is."""
     try:
         return None if submission.is_authorized() else Refused(Fault.TOKEN, "the token isn't of this participant any more")
-    except folder.UNREADABLE:  # the submissions behind this one, and the close, mustn't be lost
+    except folder.UNREADABLE:  # the submissions after this one, and the close, mustn't be lost
         return unread_tokens_refusal()
 
 

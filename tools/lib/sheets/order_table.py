@@ -301,7 +301,7 @@ def refuse_lost_order(line, unused, rows):
 
 
 def refuse_lost_command(line, unused):
-    """Refuses a header that goes on with a command: with its word, or with one that ends the last heading, and the names behind it."""
+    """Refuses a header that goes on with a command: with its word, or with one that ends the last heading, and the names after it."""
     for at, cell in unused.items():
         words = cell.strip().lower()
         names = [unused.get(at + 1, ""), unused.get(at + 2, "")]
