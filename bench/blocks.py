@@ -13,19 +13,19 @@ of a few milliseconds."""
 
 import make_blocks
 import make_family
-from clearing import MOST_OF_BEFORE, MOST_OF_DEEP, BooksTogether, parse_kinds_or_exit, write_book
+from clearing import MOST_OF_BEFORE, MOST_OF_DEEP, THE_TWIN, BooksTogether, parse_kinds_or_exit, write_timed_book
 from figures import Figures
-from running import TWIN, prepare_enumeration
+from running import TWIN, write_results_and_return_command
 
 DEFAULT = ["2", "3"]  # the default plan: workers, and how many of the first blocks are cut
-MOST = {"before": MOST_OF_BEFORE, "the twin": 2, "enumeration": 0.1}  # times as long
+MOST = {"before": MOST_OF_BEFORE, THE_TWIN: 2, "enumeration": 0.1}  # times as long
 MOST_TOGETHER = {"alone": 12, "before": 1}
 
 
-def measure_book(figures, drawn):
-    book = write_book("blocks", drawn)
-    twin = {"the twin": [TWIN, *DEFAULT]} if drawn in make_family.BOOKS else {}
-    book.time_or_exit({**twin, "enumeration": prepare_enumeration(book.path)})
+def write_book_and_record(figures, drawn):
+    book = write_timed_book("blocks", drawn)
+    twin = [TWIN, *DEFAULT] if drawn in make_family.BOOKS else None
+    book.run_and_note_seconds_or_exit({"enumeration": write_results_and_return_command(book.path)}, twin)
     book.record_clear(figures, MOST_OF_DEEP, MOST)
     book.run_and_record_peers(figures)
     return book
@@ -35,7 +35,7 @@ def main():
     figures = Figures("out/blocks.tsv")
     drawn = [*make_blocks.BOOKS, *make_family.BOOKS]
     kinds = parse_kinds_or_exit(drawn)
-    books = [measure_book(figures, each) for each in drawn if each.kind in kinds]
+    books = [write_book_and_record(figures, each) for each in drawn if each.kind in kinds]
     BooksTogether("deep books", books).record_sums(figures, MOST_OF_DEEP, MOST_TOGETHER)
 
 

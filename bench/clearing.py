@@ -11,7 +11,7 @@ import statistics
 import sys
 
 from figures import multiple_text, seconds_text
-from running import BEFORE, DAM, LIMIT, PEER_LIMIT, run_in_turns, run_to_file
+from running import BEFORE, DAM, LIMIT, PEER_LIMIT, run_in_turns_or_exit, run_to_file_or_exit
 
 MOST_OF_DEEP = 0.15  # seconds
 MOST_OF_BEFORE = 2  # times as long as the program before
@@ -19,6 +19,7 @@ TURNS, SECONDS, ONCE = 5, 6.0, 1.0  # at most, for a book; a program that takes 
 PEERS = {"highs": "HiGHS", "cbc": "CBC"}
 SPARE = 15.0  # seconds that the program of a peer may take to be written
 LEAST_OF_PEER = 20  # times as long as `dam clear`
+THE_TWIN = "the twin"
 OTHERS = {"alone": "the same without blocks", "before": "the program before", "enumeration": "the enumeration"}
 
 
@@ -48,10 +49,10 @@ def answer_of_peer(asked):
     return (None, f"gave up after {PEER_LIMIT:g} s") if text == "gave up" else (int(text), "")
 
 
-def write_book(part, drawn):
+def write_timed_book(part, drawn):
     """Writes the journal of a book and the one without its blocks, and returns the book, on which no program was run."""
     words = drawn.words, drawn.words_without_blocks
-    return TimedBook(drawn, *(run_to_file(f"out/{part}-{'-'.join(each)}.csv", drawn.script, *each) for each in words))
+    return TimedBook(drawn, *(run_to_file_or_exit(f"out/{part}-{'-'.join(each)}.csv", drawn.script, *each) for each in words))
 
 
 class TimedBook:
@@ -65,17 +66,18 @@ class TimedBook:
     def label(self):
         return f"{self.name}: dam clear"
 
-    def run_programs(self, more, limit=LIMIT):
+    def run_programs_in_turns_or_exit(self, more, limit=LIMIT):
         """The runs of `dam clear`, of itself on the book without its blocks, and of more programs that there are."""
         clear = [DAM, "clear"]
         words = {"dam": clear, "alone": clear, **{name: given for name, given in more.items() if given}}
-        return run_in_turns(words, self.path, TURNS, SECONDS, ONCE, inputs={"alone": self.alone}, limit=limit)
+        return run_in_turns_or_exit(words, self.path, TURNS, SECONDS, ONCE, inputs={"alone": self.alone}, limit=limit)
 
-    def time_or_exit(self, more):
-        """Runs `dam clear` and other programs by turns; `more` has the words of further ones. The twin must find the same welfare."""
-        runs = self.run_programs({"before": BEFORE and [BEFORE, "clear"], **more})
-        if runs["dam"] and any(int(each.text.split()[1]) != welfare_of(runs["dam"][0]) for each in runs.get("the twin", [])):
-            sys.exit(f"{self.name}: the twin finds another welfare")
+    def run_and_note_seconds_or_exit(self, more, twin=None):
+        """Notes the seconds of `dam clear` and other programs, by turns; `more` has the words of further ones, and `twin` those of the twin,
+        which must find the same welfare."""
+        runs = self.run_programs_in_turns_or_exit({"before": BEFORE and [BEFORE, "clear"], THE_TWIN: twin, **more})
+        if twin and runs["dam"] and any(int(each.text.split()[1]) != welfare_of(runs["dam"][0]) for each in runs[THE_TWIN]):
+            sys.exit(f"{self.name}: {THE_TWIN} finds another welfare")
         self.walls = wall_seconds_of(runs)
 
     def median_seconds(self, name):
@@ -103,7 +105,8 @@ class TimedBook:
         add to `dam clear`, which is nearer to that of a solver, since the rest reads and prints."""
         if not self.walls.get("dam"):
             return
-        runs = self.run_programs({peer: ["./peer.py", peer, self.path, str(PEER_LIMIT)] for peer in PEERS}, max(LIMIT, PEER_LIMIT + SPARE))
+        peers = {peer: ["./peer.py", peer, self.path, str(PEER_LIMIT)] for peer in PEERS}
+        runs = self.run_programs_in_turns_or_exit(peers, max(LIMIT, PEER_LIMIT + SPARE))
         walls, welfare = wall_seconds_of(runs), welfare_of(runs["dam"][0])
         added = max(statistics.median(walls["dam"]) - statistics.median(walls["alone"]), 0)
         for peer, name in PEERS.items():

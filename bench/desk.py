@@ -19,7 +19,7 @@ from concurrent.futures import ThreadPoolExecutor
 from pathlib import Path
 
 from figures import MIB, PER_SECOND, Figures
-from running import DAM, DESK, call_in_turns, run_for_peak_memory, run_or_exit, run_to_file
+from running import DAM, DESK, call_in_turns, measure_peak_mebibytes, run_or_exit, run_to_file_or_exit
 
 sys.path.insert(0, str(Path(__file__).resolve().parent.parent / "tests" / "desk"))
 
@@ -32,7 +32,7 @@ TARGETS = {1: 0.8, 64: 2, 1_000: 2}  # times as many records as sqlite3, by the 
 TABLE = "CREATE TABLE journal (number INTEGER PRIMARY KEY, record TEXT NOT NULL)"
 
 
-def empty_folder_for_desk(folder):
+def remove_files_and_return_desk_path(folder):
     """The path of a file in a folder, which is emptied."""
     for path in Path(folder).iterdir():
         path.unlink()
@@ -45,41 +45,44 @@ def read_batches(size):
     return [b"".join(records[at : at + size]) for at in range(0, len(records), size)]
 
 
-def run_with_replay(desk):
+def run_in_turns_with_replay_or_exit(desk):
     """The runs of a desk, and those of `dam replay` on the journal."""
     return call_in_turns({"desk": desk, "replay": lambda _: run_or_exit([DAM, "replay"], JOURNAL)}, TURNS, seconds=30).values()
 
 
-def record_writing(figures, folder):
-    desk, replay = run_with_replay(lambda _: run_or_exit([DESK, empty_folder_for_desk(folder)], JOURNAL))
+def run_and_record_writing(figures, folder):
+    desk, replay = run_in_turns_with_replay_or_exit(lambda _: run_or_exit([DESK, remove_files_and_return_desk_path(folder)], JOURNAL))
     if desk[0].text != replay[0].text:
         sys.exit("the desk and dam replay print different texts")
     figures.record_times("dam replay compared with a desk in memory, 10,000 records", replay, desk, least=0.5)
 
 
-def record_opening(figures, folder, medium):
-    file = empty_folder_for_desk(folder)
+def run_and_record_opening(figures, folder, medium):
+    file = remove_files_and_return_desk_path(folder)
     run_or_exit([DESK, file], JOURNAL)
-    runs = run_with_replay(lambda _: run_or_exit([DESK, file]))
+    runs = run_in_turns_with_replay_or_exit(lambda _: run_or_exit([DESK, file]))
     figures.record_times(f"opening 10,000 records {medium} compared with dam replay", *runs, 2)
 
 
-def record_rates(figures, folder):
+def run_and_record_rates(figures, folder):
     for size, least in TARGETS.items():
         batches = read_batches(size)
         count = sum(batch.count(b"\n") for batch in batches)
-        programs = {"desk": lambda _: count / time_desk(folder, batches), "sqlite": lambda _: count / time_sqlite(folder, size)}
+        programs = {
+            "desk": lambda _: count / run_and_time_desk_or_exit(folder, batches),
+            "sqlite": lambda _: count / write_and_time_sqlite(folder, size),
+        }
         rates = call_in_turns(programs, DISK_TURNS, seconds=60)
         what = f"records that a desk keeps compared with sqlite3, batches of {size:,}"
         figures.record_ratio(what, rates["desk"], rates["sqlite"], least=least, shown=PER_SECOND)
 
 
-def time_desk(folder, batches):
+def run_and_time_desk_or_exit(folder, batches):
     """The seconds of a desk that gets these batches."""
     in_packets = max(map(len, batches)) <= device.PACKET
     ours, theirs = os.pipe2(os.O_CLOEXEC | (os.O_DIRECT if in_packets else 0))
     fcntl.fcntl(theirs, fcntl.F_SETPIPE_SZ, device.ROOM)
-    words = [DESK, empty_folder_for_desk(folder)]
+    words = [DESK, remove_files_and_return_desk_path(folder)]
     with subprocess.Popen(words, stdin=ours, stdout=subprocess.PIPE) as desk, ThreadPoolExecutor(1) as reader:
         os.close(ours)
 
@@ -108,10 +111,10 @@ def read_answers_or_exit(desk, batches):
     return b"".join(parts)
 
 
-def time_sqlite(folder, size):
+def write_and_time_sqlite(folder, size):
     """The seconds in which sqlite3 keeps the journal."""
     records = Path(JOURNAL).read_text().splitlines()
-    with contextlib.closing(sqlite3.connect(empty_folder_for_desk(folder), isolation_level=None)) as database:
+    with contextlib.closing(sqlite3.connect(remove_files_and_return_desk_path(folder), isolation_level=None)) as database:
         for words in ("PRAGMA journal_mode=WAL", "PRAGMA synchronous=FULL", TABLE):
             database.execute(words)
         begun = time.perf_counter()
@@ -122,13 +125,13 @@ def time_sqlite(folder, size):
         return time.perf_counter() - begun
 
 
-def record_memory(figures, folder):
-    run_to_file(BLOCKS, "./make_journal.py", "blocks")
+def run_and_record_memory(figures, folder):
+    run_to_file_or_exit(BLOCKS, "./make_journal.py", "blocks")
     for about, journal in [("10,000 records", JOURNAL), ("10,000 blocks of 100 volumes", BLOCKS)]:
-        replay = run_for_peak_memory([DAM, "replay"], journal)
-        file = empty_folder_for_desk(folder)
+        replay = measure_peak_mebibytes([DAM, "replay"], journal)
+        file = remove_files_and_return_desk_path(folder)
         for what, given in [("a desk", journal), ("an opening", os.devnull)]:
-            more, detail = run_for_peak_memory([DESK, file], given) - replay, f"dam replay has {MIB(replay)}"
+            more, detail = measure_peak_mebibytes([DESK, file], given) - replay, f"dam replay has {MIB(replay)}"
             figures.record_at_most(f"memory of {what} above dam replay's, {about}", more, 10, shown=MIB, detail=detail)
 
 
@@ -136,12 +139,12 @@ def main():
     figures = Figures("out/desk.tsv")
     in_memory = MEMORY if os.path.isdir(MEMORY) else "out"
     with tempfile.TemporaryDirectory(dir=in_memory, prefix="desk-") as folder:
-        record_writing(figures, folder)
-        record_opening(figures, folder, "in memory")
-        record_memory(figures, folder)
+        run_and_record_writing(figures, folder)
+        run_and_record_opening(figures, folder, "in memory")
+        run_and_record_memory(figures, folder)
     with tempfile.TemporaryDirectory(dir="out", prefix="desk-") as folder:
-        record_opening(figures, folder, "on disk")
-        record_rates(figures, folder)
+        run_and_record_opening(figures, folder, "on disk")
+        run_and_record_rates(figures, folder)
 
 
 if __name__ == "__main__":

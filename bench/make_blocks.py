@@ -59,7 +59,7 @@ class BlockMarket(DayMarket):
     def draw_noise(self, volumes=BLOCK_VOLUMES):
         return {period: self.rng.randint(*volumes) for period in range(1, self.count + 1)}
 
-    def draw_stretch(self, by_hour):
+    def draw_hours(self, by_hour):
         """A span of hours, with one volume or with a volume for each hour."""
         hours = range(*sorted(self.rng.sample(range(1, HOURS + 2), 2)))
         return self.volumes_by_period({hour: self.draw_volume() for hour in hours}) if by_hour else self.draw_flat(hours)
@@ -78,7 +78,7 @@ class LevelMarket(BlockMarket):
 
 def draw_mixed(day, number):
     turn = number % 4
-    return day.draw_flat(BY_TURNS[turn]) if turn < 3 else day.draw_stretch(by_hour=number % 8 == turn)
+    return day.draw_flat(BY_TURNS[turn]) if turn < 3 else day.draw_hours(by_hour=number % 8 == turn)
 
 
 # The volumes of a day's block, by its number.
@@ -93,7 +93,7 @@ WIDE = "wide"
 KINDS = {**USUAL_KINDS, "mixed": draw_mixed, WIDE: lambda day, number: day.draw_noise((LEAST_WIDE, day.rng.randint(*MOST_WIDE)))}
 
 
-def give_to_families(blocks, size):
+def set_participants_for_families(blocks, size):
     """The blocks by families of this size, each with its number, and with the participant of its first block."""
     for first in range(0, len(blocks), size):
         family = blocks[first : first + size]
@@ -103,19 +103,19 @@ def give_to_families(blocks, size):
 
 
 def set_links(blocks, rng):
-    for _, family in give_to_families(blocks, 6):
+    for _, family in set_participants_for_families(blocks, 6):
         for place, block in enumerate(family[1:], 1):
             block.parent = rng.choice(family[:place]).name
 
 
 def set_groups(blocks, _rng):
-    for number, family in give_to_families(blocks, 3):
+    for number, family in set_participants_for_families(blocks, 3):
         for block in family:
             block.group = f"GROUP-{number}"
 
 
 def set_links_and_groups(blocks, _rng):
-    for number, (parent, *children) in give_to_families(blocks, 4):
+    for number, (parent, *children) in set_participants_for_families(blocks, 4):
         for block in children:
             block.parent, block.group = parent.name, f"GROUP-{number}"
 

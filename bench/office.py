@@ -18,7 +18,7 @@ sys.path.insert(0, str(HERE.parent / "tests" / "office"))
 
 import loads
 from lib.tool import modules
-from served import ServedOffice, office_for_test
+from served import ServedOffice, running_office
 
 CONNECTIONS, TURNS, COMMANDS = 50, 5, 40  # COMMANDS of each connection in a turn
 WHOLE_DAY = 199  # and on the whole day
@@ -42,12 +42,12 @@ def run_load(office, count):
 
 
 def serve_and_load(kind):
-    with office_for_test(DAM, DESK, kind=kind, count=CONNECTIONS) as office:
+    with running_office(DAM, DESK, kind=kind, count=CONNECTIONS) as office:
         office.start()
         return run_load(office, COMMANDS)
 
 
-def record_comparison(figures):
+def run_and_record_comparison(figures):
     loads_by_name = {"ours": lambda _: serve_and_load(ServedOffice), "theirs": lambda _: serve_and_load(ServedPlain)}
     found = call_in_turns(loads_by_name, TURNS, math.inf)
     (our_rates, our_times), (their_rates, their_times) = (zip(*results) for results in found.values())
@@ -56,9 +56,9 @@ def record_comparison(figures):
     figures.record_ratio(f"{what}, time of a command", our_times, their_times, most=1)
 
 
-def record_whole_day(figures):
+def run_and_record_whole_day(figures):
     commands = CONNECTIONS * WHOLE_DAY
-    with office_for_test(DAM, DESK, count=CONNECTIONS) as office:
+    with running_office(DAM, DESK, count=CONNECTIONS) as office:
         office.start()
         rate, _ = run_load(office, WHOLE_DAY)
         what = f"commands that an office takes, {commands:,} of a day"
@@ -73,8 +73,8 @@ def main():
     if not all(map(modules.has_module, ("aiohttp", "cryptography", "jinja2"))):
         figures.record("the office: python3-aiohttp, python3-cryptography or python3-jinja2 is missing", "")
         return
-    record_comparison(figures)
-    record_whole_day(figures)
+    run_and_record_comparison(figures)
+    run_and_record_whole_day(figures)
 
 
 if __name__ == "__main__":

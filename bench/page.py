@@ -62,7 +62,7 @@ A part's CSV file has all figures and targets ([some set later](../bench/NOTES.m
 """
 
 
-def run_for_output(*words):
+def capture_output(*words):
     """The output of a program, or nothing if it is missing or fails."""
     try:
         return subprocess.run(words, stdout=subprocess.PIPE, stderr=subprocess.DEVNULL, text=True, check=True).stdout.strip()
@@ -72,13 +72,13 @@ def run_for_output(*words):
 
 def query_version(package):
     """The version of one of Debian's packages."""
-    return run_for_output("dpkg-query", "--show", "--showformat", "${Version}", package) or "of an unknown version"
+    return capture_output("dpkg-query", "--show", "--showformat", "${Version}", package) or "of an unknown version"
 
 
 def query_facts_of_run(part):
     """The day, the commit, the machine and the kit of a part's figures, and other facts about them."""
-    commit = run_for_output("git", "rev-parse", "--short", "HEAD") or "unknown"
-    if run_for_output("git", "status", "--porcelain", "--", ":/", *(f":(top,exclude){name}" for name in WRITTEN)):
+    commit = capture_output("git", "rev-parse", "--short", "HEAD") or "unknown"
+    if capture_output("git", "status", "--porcelain", "--", ":/", *(f":(top,exclude){name}" for name in WRITTEN)):
         commit += " with changes"
     processors = re.findall(r"(?m)^model name\s*: (.*)", Path("/proc/cpuinfo").read_text()) or [os.uname().machine]
     load, limit, before = (os.environ.get(name, "") for name in ("LOAD", "PEER_LIMIT", "BEFORE_IS"))
@@ -88,7 +88,7 @@ def query_facts_of_run(part):
         notes += [f"{peers}: the time of solving alone, at most {limit} s"] * bool(limit)
         notes += [f"the program before is {before}"] * bool(before)
     machine = f"{os.cpu_count()} processors ({processors[0]})"
-    return [part, str(datetime.date.today()), commit, machine, load, run_for_output("rt", "version"), "; ".join(notes)]
+    return [part, str(datetime.date.today()), commit, machine, load, capture_output("rt", "version"), "; ".join(notes)]
 
 
 def read_rows(path):
@@ -182,7 +182,7 @@ def rows_of_missed(rows):
             yield [kind, count, span_text([figure for _, figure in wrong]), target, furthest]
 
 
-def read_figures_into_section(part):
+def read_and_compose_section(part):
     """The figures that the page shows of a part; a table by books begins with the words that say which books these are."""
     words, rows = f"{read_description(part)}\n" if part in CELLS else None, read_rows(KEPT / f"{part}.csv")
     tables = table_of_part(part, rows), table_of_names(TOGETHER, rows)
@@ -197,7 +197,7 @@ def read_row_of_run(part, load, notes):
     return [part, f"[{len(rows)}](../bench/measured/{part}.csv)", wrong, load.split(" ")[0] or "unknown", notes]
 
 
-def sentences_by_value(runs, column, words):
+def text_of_values(runs, column, words):
     """Says by these words which parts have which value in a column of the runs. The most common one comes last."""
     parts = collections.defaultdict(list)
     for run in runs:
@@ -208,19 +208,19 @@ def sentences_by_value(runs, column, words):
     return "".join(f"{subject} {words.format(value)}.\n" for subject, value in subjects)
 
 
-def read_figures_into_page():
+def read_and_compose_page():
     """The page, from the kept figures of all parts."""
     runs = read_rows(KEPT / "runs.csv")
     notes = list(dict.fromkeys(note for run in runs for note in run[6].split("; ") if note))
     lines = [read_row_of_run(run[0], run[4], " ".join(f"({notes.index(note) + 1})" for note in run[6].split("; ") if note)) for run in runs]
     when = markdown_table(["Part", "Figures", "Targets missed", "Load", "Notes"], lines)
     notes = "; ".join(f"({number}) {note}" for number, note in enumerate(notes, 1))
-    circumstances = "".join(sentences_by_value(runs, column, words) for column, words in CIRCUMSTANCES.items())
+    circumstances = "".join(text_of_values(runs, column, words) for column, words in CIRCUMSTANCES.items())
     circumstances += f"Notes: {notes}.\n" if notes else ""
     wrong = [[run[0], *each] for run in runs for each in rows_of_missed(read_rows(KEPT / f"{run[0]}.csv"))]
     wrong = markdown_table(["Part", "Missed", "How many", "Figures", "Target", "Worst"], wrong) if wrong else "None.\n"
     circumstances = textwrap.fill(circumstances, 140, break_on_hyphens=False) + "\n"
-    sections = (read_figures_into_section(run[0]) for run in runs)
+    sections = (read_and_compose_section(run[0]) for run in runs)
     return "\n".join([HEAD, when, circumstances, "## Missed targets\n", wrong, *sections])
 
 
@@ -231,7 +231,7 @@ def main():
     KEPT.mkdir(exist_ok=True)
     if parts:
         write_kept_figures(parts)
-    PAGE.write_text(read_figures_into_page(), encoding="utf-8")
+    PAGE.write_text(read_and_compose_page(), encoding="utf-8")
 
 
 if __name__ == "__main__":

@@ -3,7 +3,7 @@
 welfare of a journal's blocks. PEER is `highs`, which scipy has in it, or `cbc`, Debian's coinor-cbc with its usual cuts. Prints the
 welfare, and on standard error the nanoseconds that the solver took; or prints `gave up` at the limit, `failed`, or `missing: PACKAGE`.
 
-Both get the program of tools/lib/audit/solver.py. It has the executions of the hourly orders, the balance of each period, blocks that are
+Both get the program of tools/lib/audit/highs_search.py. It has the executions of the hourly orders, the balance of each period, blocks that are
 accepted as a whole or not at all, links and groups, and prices that support the executions, at which no accepted block loses, unless its
 descendants make up for that. It doesn't have the rule that chooses among supporting prices, nor the rule on ties. So a solver is asked
 again without each selection that isn't eligible, and its answer may be another selection of the same welfare than that of `dam`."""
@@ -31,7 +31,7 @@ LATE = 5.0  # seconds after its limit at which CBC is ended
 def solve_by_highs(model, left):
     """A selection, or None if there is none, and the seconds that it took. Fails if there is no time left."""
     begun = time.perf_counter()
-    return model.solve_next(left), time.perf_counter() - begun
+    return model.solve_for_selection_or_none(left), time.perf_counter() - begun
 
 
 def solve_by_cbc(model, left):
@@ -85,7 +85,7 @@ INFINITE = float("inf")
 SOLVERS = {"highs": solve_by_highs, "cbc": solve_by_cbc}
 
 
-def find_welfare(solve, model, problem, limit):
+def run_solver_for_welfare(solve, model, problem, limit):
     """The welfare, or a word that says why there is none, and the seconds that the solver took."""
     lasted = 0.0
     while lasted < limit:
@@ -96,14 +96,14 @@ def find_welfare(solve, model, problem, limit):
         lasted += taken
         if chosen is None:
             return "failed", lasted
-        welfare = selection.eligible_welfare(problem, chosen)
+        welfare = selection.eligible_welfare_or_none(problem, chosen)
         if welfare is not None and lasted < limit:  # at its limit HiGHS returns its selection, whether it is the best or not
             return welfare, lasted
         model.forbid(chosen)
     return "gave up", limit
 
 
-def missing_package(peer):
+def find_missing_package(peer):
     """The package that is missing, if one is. The program of both is written with scipy."""
     if not modules.has_module("scipy"):
         return PACKAGES["highs"]
@@ -113,16 +113,16 @@ def missing_package(peer):
 def main():
     modules.exec_with_modules("scipy")
     peer, path, limit = sys.argv[1:]
-    if lacking := missing_package(peer):
+    if lacking := find_missing_package(peer):
         print(f"missing: {lacking}")
         return
-    from lib.audit import solver
+    from lib.audit import highs_search
 
-    closed, _ = book.run_commands(journal.parse_journal(Path(path).read_bytes()))
+    closed, _ = book.book_and_refusals(journal.parse_journal(Path(path).read_bytes()))
     problem = selection.Problem(closed)
-    model = solver.Model(problem)
-    model.restrict(0, [], solver.ROOM)
-    found, lasted = find_welfare(SOLVERS[peer], model, problem, float(limit))
+    model = highs_search.Model(problem)
+    model.restrict(0, [], highs_search.ROOM)
+    found, lasted = run_solver_for_welfare(SOLVERS[peer], model, problem, float(limit))
     print(found)
     print(peer, round(lasted * 1e9), file=sys.stderr)
 

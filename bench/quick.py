@@ -8,39 +8,39 @@ compares each receipt with its entry. The times that are compared also have the 
 import sys
 
 from figures import MIB, Figures
-from running import BASELINE, DAM, MEASURES, run_for_peak_memory, run_in_turns
+from running import BASELINE, DAM, MEASURES, measure_peak_mebibytes, run_in_turns_or_exit
 
 JOURNAL, HOURLY, DAY = "out/journal.csv", "out/hourly.csv", "out/day.csv"
 
 
-def record_programs(figures, what, words, others, journal, most, same=False):
+def run_and_record_programs(figures, what, words, others, journal, most, same=False):
     """Wall and processor time of a program compared with another one's."""
-    ones, others = run_in_turns({"one": words, "other": others}, journal, seconds=30).values()
+    ones, others = run_in_turns_or_exit({"one": words, "other": others}, journal, seconds=30).values()
     if same and len({each.text for each in ones + others}) > 1:
         sys.exit(f"{what}: they print different texts")
     figures.record_times(what, ones, others, most)
 
 
-def record_commands(figures):
+def run_and_record_commands(figures):
     baseline, replay, day = [BASELINE, "day"], [DAM, "replay"], [DAM, "day"]
-    record_programs(figures, "dam replay compared with the baseline, 10,000 records", replay, [BASELINE], JOURNAL, 1.2, same=True)
-    record_programs(figures, "dam clear compared with dam replay, 4,000 hourly orders", [DAM, "clear"], replay, HOURLY, 1.5)
-    record_programs(figures, "dam day compared with the baseline with threads, 9,999 commands", day, baseline, DAY, 1.2)
+    run_and_record_programs(figures, "dam replay compared with the baseline, 10,000 records", replay, [BASELINE], JOURNAL, 1.2, same=True)
+    run_and_record_programs(figures, "dam clear compared with dam replay, 4,000 hourly orders", [DAM, "clear"], replay, HOURLY, 1.5)
+    run_and_record_programs(figures, "dam day compared with the baseline with threads, 9,999 commands", day, baseline, DAY, 1.2)
     what = "dam day compared with the baseline with threads, peak memory"
     note = "the baseline keeps one book, and a gate that shows versions two; each entry and order has room for 100 volumes"
-    figures.record_ratio(what, [run_for_peak_memory(day, DAY)], [run_for_peak_memory(baseline, DAY)], 1.5, shown=MIB, note=note)
+    figures.record_ratio(what, [measure_peak_mebibytes(day, DAY)], [measure_peak_mebibytes(baseline, DAY)], 1.5, shown=MIB, note=note)
 
 
-def record_settlement(figures):
-    laps = run_in_turns({"": [MEASURES, "settlement"]}, DAY)[""]
+def run_and_record_settlement(figures):
+    laps = run_in_turns_or_exit({"": [MEASURES, "settlement"]}, DAY)[""]
     what = "settle of 10,000 entries and 9 passes compared with a plain pass"
     figures.record_ratio(what, *([each.reported_seconds(part) for each in laps] for part in ("settle", "receipts")), 3)
 
 
 def main():
     figures = Figures("out/quick.tsv")
-    record_commands(figures)
-    record_settlement(figures)
+    run_and_record_commands(figures)
+    run_and_record_settlement(figures)
 
 
 if __name__ == "__main__":

@@ -65,7 +65,7 @@ def run_or_exit(words, given=os.devnull, limit=LIMIT, padding=0):
     return done
 
 
-def run_to_file(path, *words):
+def run_to_file_or_exit(path, *words):
     """Writes the output of a program to a file, and returns its path."""
     with open(path, "wb") as made:
         made.write(run_or_exit(words).text)
@@ -92,7 +92,7 @@ def call_in_turns(functions, most=31, seconds=5.0, once=math.inf):
     return found
 
 
-def run_in_turns(programs, given=os.devnull, most=31, seconds=5.0, once=math.inf, inputs=None, limit=LIMIT):
+def run_in_turns_or_exit(programs, given=os.devnull, most=31, seconds=5.0, once=math.inf, inputs=None, limit=LIMIT):
     """Runs programs in turns, and returns the runs of each; a program that doesn't end in time has none. A program reads the file of its
     name among the inputs, or else the given one. Each turn has their stacks at another place, because the time of a walk varies with
     that."""
@@ -104,7 +104,7 @@ def run_in_turns(programs, given=os.devnull, most=31, seconds=5.0, once=math.inf
     return call_in_turns({name: runs(name, words) for name, words in programs.items()}, most, seconds, once)
 
 
-def run_for_peak_memory(words, given):
+def measure_peak_mebibytes(words, given):
     """The peak memory of a program in MiB. (The system's report on a child of this process also counts this process's pages.)"""
     with open(given, "rb") as text, tempfile.NamedTemporaryFile("r") as used:
         timed = ["/usr/bin/time", "-f", "%M", "-o", used.name, *words]
@@ -112,10 +112,10 @@ def run_for_peak_memory(words, given):
         return int(used.read()) / 1024
 
 
-def prepare_enumeration(path):
+def write_results_and_return_command(path):
     """The command that tries all selections of a book by `tools/audit`, with four threads, and fails if the results of `dam` aren't right
     and best; None if numpy is missing, or `dam` takes too long."""
-    cleared = run_or_exit([DAM, "clear"], path) if modules.has_module("numpy") or modules.run_for_modules("numpy") else None
+    cleared = run_or_exit([DAM, "clear"], path) if modules.has_module("numpy") or modules.run_and_see_if_debian_has("numpy") else None
     if cleared is None:
         return None
     results = f"{path}.txt"

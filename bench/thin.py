@@ -15,9 +15,9 @@ search looks for a subset of the volumes with the best sum, and hardly any bound
 
 import make_blocks
 import make_family
-from clearing import MOST_OF_BEFORE, BooksTogether, parse_kinds_or_exit, write_book
+from clearing import MOST_OF_BEFORE, BooksTogether, parse_kinds_or_exit, write_timed_book
 from figures import Figures
-from running import prepare_enumeration
+from running import write_results_and_return_command
 
 MOST = 3.0  # seconds
 MOST_OF_SUM_BEFORE, ONE_IN = 1 / 6, 20
@@ -25,9 +25,9 @@ MOST_OF_ENUMERATION = {True: 0.5, False: 0.1}  # by whether the market is thin
 BOOKS = make_blocks.THIN + make_blocks.HARDEST + make_blocks.BOUND + make_family.THIN + make_blocks.DEEP
 
 
-def measure_book(figures, drawn):
-    book = write_book("thin", drawn)
-    book.time_or_exit({"enumeration": prepare_enumeration(book.path)})
+def write_book_and_record(figures, drawn):
+    book = write_timed_book("thin", drawn)
+    book.run_and_note_seconds_or_exit({"enumeration": write_results_and_return_command(book.path)})
     book.record_clear(figures, MOST, {"before": MOST_OF_BEFORE, "enumeration": MOST_OF_ENUMERATION[drawn.is_thin]})
     if not drawn.is_thin:
         book.run_and_record_peers(figures)
@@ -37,7 +37,7 @@ def measure_book(figures, drawn):
 def main():
     figures = Figures("out/thin.tsv")
     kinds = parse_kinds_or_exit(BOOKS)
-    books = [measure_book(figures, each) for each in BOOKS if each.kind in kinds]
+    books = [write_book_and_record(figures, each) for each in BOOKS if each.kind in kinds]
     BooksTogether("wide and mixed books", [book for book in books if not book.drawn.is_thin]).record_sums(figures, MOST, {})
     thin = BooksTogether("all thin books", [book for book in books if book.drawn.is_thin])
     thin.record_sums(figures, MOST, {"before": MOST_OF_SUM_BEFORE})

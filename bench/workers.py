@@ -9,7 +9,7 @@ at another place."""
 import make_family
 from figures import Figures
 from make_blocks import book_of_kind
-from running import LIMIT, MEASURES, run_in_turns, run_to_file
+from running import LIMIT, MEASURES, run_in_turns_or_exit, run_to_file_or_exit
 
 CUT = "8"
 DEFAULT, ONE = ("2", "3"), ("1", "0")
@@ -26,18 +26,18 @@ LONG = [
 
 def run_searches(plans, book, most):
     """The seconds of the search under each plan, in several runs; for one that doesn't end, the limit."""
-    runs = run_in_turns({plan: [MEASURES, "search", *plan] for plan in plans}, book, most, seconds=20)
+    runs = run_in_turns_or_exit({plan: [MEASURES, "search", *plan] for plan in plans}, book, most, seconds=20)
     return {plan: [each.reported_seconds("search") for each in found] or [LIMIT] for plan, found in runs.items()}
 
 
-def record_speed(figures, name, book):
+def run_and_record_speed(figures, name, book):
     found = run_searches([(workers, CUT) for workers in ("1", *LEAST)], book, most=8)
     for workers, least in LEAST.items():
         what = f"{name}, cut {CUT}: the rate of {workers} workers compared with 1"
         figures.record_ratio(what, found["1", CUT], found[workers, CUT], least=least)
 
 
-def record_default(figures, name, book):
+def run_and_record_default(figures, name, book):
     found = run_searches([DEFAULT, ONE], book, most=32)
     figures.record_ratio(f"{name}: the search by the default plan compared with 1 worker", found[DEFAULT], found[ONE], 1)
 
@@ -45,12 +45,13 @@ def record_default(figures, name, book):
 def main():
     figures = Figures("out/workers.tsv")
     for drawn in LONG:
-        name, book = drawn.name, run_to_file(f"out/workers-{'-'.join(drawn.words)}.csv", drawn.script, *drawn.words)
-        record_speed(figures, name, book)
-        record_default(figures, name, book)
+        name, book = drawn.name, run_to_file_or_exit(f"out/workers-{'-'.join(drawn.words)}.csv", drawn.script, *drawn.words)
+        run_and_record_speed(figures, name, book)
+        run_and_record_default(figures, name, book)
     for family in make_family.FAMILIES:
         for orders in ORDERS:
-            record_default(figures, f"{family} {orders}", run_to_file(f"out/{family}-{orders}.csv", "./make_family.py", family, orders))
+            book = run_to_file_or_exit(f"out/{family}-{orders}.csv", "./make_family.py", family, orders)
+            run_and_record_default(figures, f"{family} {orders}", book)
 
 
 if __name__ == "__main__":

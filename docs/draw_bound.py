@@ -20,7 +20,7 @@ from lib.results import period, selection
 
 
 def read_sunny_day():
-    closed, _ = book.run_commands(journal.parse_journal((TOP / "examples/sunny-day.csv").read_bytes()))
+    closed, _ = book.book_and_refusals(journal.parse_journal((TOP / "examples/sunny-day.csv").read_bytes()))
     return selection.Problem(closed)
 
 
@@ -30,7 +30,7 @@ def middle(day, number):
 
 
 def prices_of(day):
-    return {number: period.clear(orders, middle(day, number)).price for number, orders in day.orders.items()}
+    return {number: period.clearing_or_none(orders, middle(day, number)).price for number, orders in day.orders.items()}
 
 
 class Bound(NamedTuple):
@@ -51,7 +51,7 @@ def bound_by(day, prices):
         for side, limit, volume in orders:
             gain = (limit - prices[number]) * volume
             base += max(gain if side == "buy" else -gain, 0)
-    return Bound(base, [selection.surplus(block.order, prices) for block in day.blocks])
+    return Bound(base, [selection.surplus_or_none(block.order, prices) for block in day.blocks])
 
 
 def order_of(day):
@@ -99,10 +99,10 @@ def is_forbidden(day, place, accept, taken, later):
 
 def result(day, bound, order):
     """The greatest welfare of an eligible selection, by a search by one bound that begins with the empty selection."""
-    best = selection.eligible_welfare(day, frozenset())
+    best = selection.eligible_welfare_or_none(day, frozenset())
     for node in nodes(day, bound, order, lambda: best):
         if len(node.decisions) == len(order) and not node.is_cut:
-            welfare = selection.eligible_welfare(day, node.taken)
+            welfare = selection.eligible_welfare_or_none(day, node.taken)
             best = best if welfare is None else max(best, welfare)
     return best
 

@@ -35,7 +35,7 @@ def shown_mw(volume):
 def figure():
     from lib.pictures import canvas
 
-    closed, _ = book.run_commands(journal.parse_journal(JOURNAL.read_bytes()))
+    closed, _ = book.book_and_refusals(journal.parse_journal(JOURNAL.read_bytes()))
     problem = selection.Problem(closed)
     cleared = selection.outcome(problem, frozenset()).cleared[HOUR]
     orders = sorted(zip(problem.hourly[HOUR], cleared.executed), key=lambda order: order[0].order.price)

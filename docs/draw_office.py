@@ -36,8 +36,8 @@ async def take(url, path):
     """A picture of the page in which GAS has filled in a block."""
     from shared import browser
 
-    async with browser.open_in_browser(url) as page:
-        await page.set_screen(WIDTH, "light", HEIGHT)
+    async with browser.running_browser_tab(url) as page:
+        await page.set_screen_size(WIDTH, "light", HEIGHT)
         await page.wait_until("document.querySelector('#demo-names button')")
         await page.evaluate("[...document.querySelectorAll('#demo-names button')].find((one) => one.textContent === 'GAS').click()")
         await page.wait_until("byId('order-form').checkVisibility()")

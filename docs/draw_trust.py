@@ -14,7 +14,7 @@ sys.dont_write_bytecode = True
 sys.path.insert(0, str(TOP / "tools"))
 
 from draw_bound import read_sunny_day
-from lib.audit import best
+from lib.audit import recursive_enumeration
 from lib.base import rules, text
 from lib.results import selection
 from lib.tool import command, modules
@@ -23,7 +23,7 @@ BLOCK = "COAL", "UNIT-7"
 LEFT = 0.6  # where the bars of the selections begin, so that one selection is seen
 
 
-class Counting(best.Search):
+class Counting(recursive_enumeration.Search):
     """Sorts the selections that links and groups admit by whether a block loses, each with its welfare."""
 
     def __init__(self, problem):
@@ -34,8 +34,8 @@ class Counting(best.Search):
         self.tried += 1
         if None in worth.values():
             return
-        prices = {number: rules.price_between(*curve.supporting_prices(net[number]))[0] for number, curve in self.curves.items()}
-        surpluses = [selection.surplus(block.order, prices) for block in self.problem.blocks]
+        prices = {number: rules.price_and_case(*curve.supporting_prices(net[number]))[0] for number, curve in self.curves.items()}
+        surpluses = [selection.surplus_or_none(block.order, prices) for block in self.problem.blocks]
         loses = selection.losses_of(self.problem, accepted, surpluses)
         (self.losing if loses else self.eligible).append((sum(worth.values()) + value, accepted))
 
@@ -114,8 +114,8 @@ def say_effect(day):
         yield f"price of hour {number:<4}" + "".join(f"{text.eur_per_mwh(price):>12}" for price in prices)
     yield f"{'their average':<18}" + "".join(f"{text.shown_price(average):>12}" for average in found.averages())
     yield f"{'its limit':<18}" + f"{text.eur_per_mwh(found.limit):>12}" * 2
-    yield f"{'its gain, EUR':<18}" + "".join(f"{day.euros(gain):>12}" for gain in found.gains)
-    yield f"the best permitted selection with {BLOCK[1]} has {day.euros(counts.less)} EUR less welfare"
+    yield f"{'its gain, EUR':<18}" + "".join(f"{day.euros_text(gain):>12}" for gain in found.gains)
+    yield f"the best permitted selection with {BLOCK[1]} has {day.euros_text(counts.less)} EUR less welfare"
 
 
 def say_selections(day):
@@ -124,7 +124,7 @@ def say_selections(day):
         yield f"{count:>5,}  {words}"
     yield f"{len(counts.above):>5,}  have more welfare, but in each an accepted block loses, with its descendants:"
     for words, more in counts.above:
-        yield f"       the published one {words}: {day.euros(more)} EUR more"
+        yield f"       the published one {words}: {day.euros_text(more)} EUR more"
 
 
 def draw_effect(day):

@@ -12,13 +12,17 @@ ENTRY = re.compile(r"^- `(\S+)`: (.*?)(?=^- |\Z)", re.MULTILINE | re.DOTALL)
 OF_CODE = re.compile(r"\b(?:fn|struct|enum|trait|mod)\s+(\w+)")
 
 
-class Definitions:
-    """The definitions of a clone, with their places in the site."""
+def capture_list(top, environment=None):
+    """The page of the notation with the list of the definitions below it, which no file of a clone has."""
+    line = [top / "tools" / "reading-list", "--definitions"]
+    return subprocess.run(line, stdout=subprocess.PIPE, env=environment, check=True).stdout.decode()
 
-    def __init__(self, top, repository):
+
+class Definitions:
+    """The definitions of a clone, with their places in the site. `listed` is their list, as `capture_list` returns it."""
+
+    def __init__(self, top, repository, listed):
         self.top, self.repository = top, repository
-        line = [top / "tools" / "reading-list", "--definitions"]
-        listed = subprocess.run(line, stdout=subprocess.PIPE, check=True).stdout.decode()
         self.notation, self.modules, self.pages = listed.partition("\n## `")[0] + "\n", {}, {}
         for crate, module, text in SECTION.findall(listed):
             first = ENTRY.search(text)
@@ -26,7 +30,7 @@ class Definitions:
             self.modules.setdefault(crate, {})[module] = " ".join(text[: first.start()].split()), entries
             self.pages.update({(crate, name): f"{navigation.DEFINITIONS}/{crate}.md" for name in entries})
 
-    def targets(self):
+    def read_pages_by_name(self):
         """The page of each name that means one definition, and looks like none of the code."""
         names = [name for _, name in self.pages]
         of_code = set()
@@ -36,26 +40,27 @@ class Definitions:
         return {name: page for (_, name), page in self.pages.items()
                 if names.count(name) == 1 and name not in of_code and not is_plain(name)}
 
-    def page(self, crate, naming):
+    def page_text(self, crate, naming):
         """The page of a crate. `naming` has, for a name, the pages that name it."""
         own = f"{navigation.DEFINITIONS}/{crate}.md"
         lines = [f"# The definitions of `{crate}`", "", f"[The notation](../{navigation.NOTATION.rpartition('/')[2]}#notation)", ""]
         for module, (subject, entries) in self.modules[crate].items():
             lines += [f"## {module}", "", f"{subject} (`crates/{crate}/specs/{module}.antt`)", ""]
             for name, sentence in entries.items():
-                text = self.repository.definitions(crate, module)[name].rstrip("\n") + "\n"
-                lines += [f"### `{name}` {{ #{name} }}", "", sentence, "", pages.block(text, own, self.used(crate, module, name)), ""]
+                text = self.repository.read_definitions(crate, module)[name].rstrip("\n") + "\n"
+                linked = pages.html_with_links(text, own, self.pages_of_used_names(crate, module, name))
+                lines += [f"### `{name}` {{ #{name} }}", "", sentence, "", linked, ""]
                 if naming.get(name):
-                    links = (f"[{title}]({pages.relative(own, page)})" for page, title in naming[name].items())
+                    links = (f"[{title}]({pages.relative_path(own, page)})" for page, title in naming[name].items())
                     lines += [f"Named in: {', '.join(links)}", ""]
         return "\n".join(lines)
 
-    def used(self, crate, module, name):
+    def pages_of_used_names(self, crate, module, name):
         """The page of each definition that a definition's text names."""
-        nodes = self.repository.below((crate, "specs", module, name))
+        nodes = self.repository.read_targets_below((crate, "specs", module, name))
         return {other: self.pages[home, other] for home, kind, _, other in nodes if kind == "specs" and (home, other) in self.pages}
 
-    def start(self):
+    def notation_page_text(self):
         """The page of the notation, with a list of the pages below it."""
         lines = ["## By crate", ""]
         for crate, modules in self.modules.items():

@@ -56,7 +56,7 @@ def is_other(page):
     return page.partition("/")[0] in OTHERS
 
 
-def differences(pages):
+def faults_of_pages(pages):
     """Why these pages can't be the site's: each that isn't in the table, and each of the table that is missing."""
     own = {page for page in pages if not is_other(page)}
     return [
@@ -65,14 +65,14 @@ def differences(pages):
     ]
 
 
-def titled(page):
+def title_of_other_page(page):
     """The title of a page that isn't in the table: its folder, and what it is if it isn't the folder's first one."""
     *folders, name = page.split("/")
     word = name.removesuffix(".md").lower()
     return folders[-1] if word == "readme" else f"{folders[-1]}: {word}"
 
 
-def tree(pages, crates_defined):
+def navigation_of(pages, crates_defined):
     """The navigation in the form of mkdocs. The second list has the crates that have a page of definitions."""
     found = []
     for reader, own in NAVIGATION.items():
@@ -81,6 +81,6 @@ def tree(pages, crates_defined):
             notation = listed.pop(list(own).index(NOTATION))
             listed.append({"Definitions": [notation, *({crate: f"{DEFINITIONS}/{crate}.md"} for crate in crates_defined)]})
         if reader == OF_OTHERS:
-            listed.append({"Crates and notes": [{titled(page): page} for page in sorted(filter(is_other, pages))]})
+            listed.append({"Crates and notes": [{title_of_other_page(page): page} for page in sorted(filter(is_other, pages))]})
         found.append({reader: listed})
     return found

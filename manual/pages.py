@@ -15,13 +15,13 @@ KEPT = re.compile(r"^#.*$|!?\[[^\]]*\]\([^)]*\)", re.MULTILINE)
 CODE = re.compile(r"(?<!`)`(\w+)`(?!`)")
 
 
-def held(text, page, files):
+def without_missing_links(text, page, files):
     """A page without the links to files that aren't among these: their words stay."""
     here = os.path.dirname(page)
     return LINK.sub(lambda link: link[0] if os.path.normpath(os.path.join(here, link[2])) in files else link[1], text)
 
 
-def indented(text):
+def with_lists_indented(text):
     """The lists of a text with each level indented by four spaces, and an empty line after an item of several paragraphs: Python's Markdown
     needs both, and other readers don't."""
     lines, open_items, is_fenced, has_parts = [], [], False, False
@@ -41,26 +41,26 @@ def indented(text):
     return "\n".join(lines)
 
 
-def relative(page, target):
+def relative_path(page, target):
     return os.path.relpath(target, os.path.dirname(page) or ".")
 
 
-def block(text, page, targets):
+def html_with_links(text, page, targets):
     """A text with the names of definitions as links. `targets` has the page of each name."""
     def linked(found):
         name = found[0]
         # mkdocs leaves the addresses of such a link as they are
-        path = relative(page, targets[name]).removesuffix(".md") if name in targets else None
+        path = relative_path(page, targets[name]).removesuffix(".md") if name in targets else None
         return f'<a href="{path}.html#{name}">{name}</a>' if path else name
 
     return "<pre><code>" + WORD.sub(linked, html.escape(text, quote=False)) + "</code></pre>"
 
 
-def named(text, page, targets):
+def with_linked_names(text, page, targets):
     """Sentences with the names of definitions as links."""
     def linked(found):
         name = found[1]
-        return f"[{found[0]}]({relative(page, targets[name])}#{name})" if name in targets else found[0]
+        return f"[{found[0]}]({relative_path(page, targets[name])}#{name})" if name in targets else found[0]
 
     parts, last = [], 0
     for kept in KEPT.finditer(text):
@@ -69,16 +69,17 @@ def named(text, page, targets):
     return "".join([*parts, CODE.sub(linked, text[last:])])
 
 
-def with_definitions(text, page, targets):
+def with_linked_definitions(text, page, targets):
     """A page with the names of definitions as links, in its sentences and in its blocks of text, but not in its headings."""
     parts, last = [], 0
     for fence in FENCED.finditer(text):
         is_named = fence[2] == "text" and not fence[1] and any(word in targets for word in WORD.findall(fence[3]))
-        parts += [named(text[last : fence.start()], page, targets), block(fence[3], page, targets) if is_named else fence[0]]
+        parts.append(with_linked_names(text[last : fence.start()], page, targets))
+        parts.append(html_with_links(fence[3], page, targets) if is_named else fence[0])
         last = fence.end()
-    return "".join([*parts, named(text[last:], page, targets)])
+    return "".join([*parts, with_linked_names(text[last:], page, targets)])
 
 
-def staged(text, page, files, targets):
+def text_for_site(text, page, files, targets):
     """A page as the site takes it."""
-    return with_definitions(indented(COMMENT.sub("", held(text, page, files))), page, targets)
+    return with_linked_definitions(with_lists_indented(COMMENT.sub("", without_missing_links(text, page, files))), page, targets)

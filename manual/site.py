@@ -12,7 +12,7 @@ from lib.crates.specs import Repository
 from lib.tool import command
 
 from . import navigation, pages
-from .definitions import Definitions
+from .definitions import Definitions, capture_list
 
 TOP = Path(__file__).resolve().parents[1]
 HERE = TOP / "manual"
@@ -27,14 +27,14 @@ MAPPED = re.compile(rb"\n?(?://|/\*)# sourceMappingURL=\S+?(?: \*/|\*/)?\s*\Z")
 INDEX = "search/search_index.json"
 
 
-def missing():
+def missing_packages():
     """The Debian packages that are missing."""
     return [package for name, package in NEEDED.items() if not (name.is_dir() if isinstance(name, Path) else shutil.which(name))]
 
 
-def refuse_lack():
+def require_packages():
     """Ends the tool if a package is missing."""
-    if lacking := missing():
+    if lacking := missing_packages():
         words = f"it needs {' and '.join(lacking)}, which Debian has: apt-get install {' '.join(lacking)}"
         raise command.Stop(words, command.FAILED)
 
@@ -44,7 +44,7 @@ def is_page(name):
     return bool(PAGE.fullmatch(name))
 
 
-def of_clone():
+def read_pages_and_list_pictures():
     """The pages of this clone, by name, and the pictures of docs/."""
     folders = ("", "docs/", "crates/*/", *(f"{name}/" for name in navigation.OTHERS))
     paths = (path for folder in folders for path in sorted(TOP.glob(f"{folder}*")))
@@ -53,32 +53,32 @@ def of_clone():
     return read, {name: path for name, path in found.items() if name.startswith("docs/") and name.endswith(PICTURES)}
 
 
-def write(path, text):
+def write_text(path, text):
     path.parent.mkdir(parents=True, exist_ok=True)
     path.write_text(text, encoding="utf-8")
 
 
 def write_staged_pages(own, drawn, folder):
     """Writes the pages as mkdocs takes them. Returns the navigation."""
-    if wrong := navigation.differences(own):
+    if wrong := navigation.faults_of_pages(own):
         raise command.Stop("; ".join(wrong))
-    known = Definitions(TOP, Repository(TOP))
-    own = {**own, navigation.NOTATION: known.start()}
+    known = Definitions(TOP, Repository(TOP), capture_list(TOP))
+    own = {**own, navigation.NOTATION: known.notation_page_text()}
     below = {f"{navigation.DEFINITIONS}/{crate}.md" for crate in known.modules}
-    files, targets, naming = {*own, *drawn, *below}, known.targets(), {}
+    files, targets, naming = {*own, *drawn, *below}, known.read_pages_by_name(), {}
     for page, text in own.items():
-        made = pages.staged(text, page, files, targets)
+        made = pages.text_for_site(text, page, files, targets)
         for name in sorted(set(re.findall(r"#(\w+)[)\"]", made)) & targets.keys()):
-            naming.setdefault(name, {})[page] = navigation.TITLES.get(page) or navigation.titled(page)
-        write(folder / page, made)
+            naming.setdefault(name, {})[page] = navigation.TITLES.get(page) or navigation.title_of_other_page(page)
+        write_text(folder / page, made)
     for crate in known.modules:
-        write(folder / navigation.DEFINITIONS / f"{crate}.md", known.page(crate, naming))
+        write_text(folder / navigation.DEFINITIONS / f"{crate}.md", known.page_text(crate, naming))
     for name, path in drawn.items():
         shutil.copy(path, folder / name)
-    return navigation.tree(own, known.modules)
+    return navigation.navigation_of(own, known.modules)
 
 
-def build(own, drawn, room):
+def run_mkdocs_and_write_site(own, drawn, room):
     """Makes the site of some pages and pictures in a folder of a room, which it returns."""
     source, made = room / "pages", room / "site"
     told = {"INHERIT": str(HERE / "mkdocs.yml"), "nav": write_staged_pages(own, drawn, source), "docs_dir": str(source), "site_dir": str(made)}
@@ -89,16 +89,16 @@ def build(own, drawn, room):
     ran = subprocess.run(line, env={**kept, "LC_ALL": "C.UTF-8", "TZ": "UTC", "SOURCE_DATE_EPOCH": "0"}, capture_output=True)
     if ran.returncode:
         raise command.Stop(f"mkdocs failed: {(ran.stderr + ran.stdout).decode(errors='replace').strip()}", command.FAILED)
-    settle(made)
+    write_index_and_remove_unneeded(made)
     return made
 
 
-def generator(made):
+def read_generator(made):
     """The versions of the programs that made a site."""
     return re.search(r'<meta name="generator" content="([^"]*)">', (made / "index.html").read_text(encoding="utf-8"))[1]
 
 
-def settle(made):
+def write_index_and_remove_unneeded(made):
     """Leaves out the files that no page needs, and makes the index of the search a script too, for pages that are opened as files."""
     (made / INDEX).with_name("index.js").write_bytes(b"__index(" + (made / INDEX).read_bytes() + b")\n")
     for pattern in LEFT_OUT:
@@ -108,15 +108,15 @@ def settle(made):
         path.write_bytes(MAPPED.sub(b"\n", path.read_bytes()))
 
 
-def refuse_others(folder):
+def refuse_other_files(folder):
     """Ends the tool if a folder has files, and they are no site of its own."""
     if folder.exists() and not (folder / INDEX).is_file() and (not folder.is_dir() or any(folder.iterdir())):
         raise command.Stop(f"{command.shown(folder)} has other files: name a folder that is empty or missing")
 
 
-def put(made, folder):
+def replace_folder(made, folder):
     """Puts a site into its place, in which an earlier one may be."""
-    refuse_others(folder)
+    refuse_other_files(folder)
     shutil.rmtree(folder, ignore_errors=True)
     try:
         folder.parent.mkdir(parents=True, exist_ok=True)

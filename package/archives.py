@@ -42,9 +42,9 @@ class Entry(NamedTuple):
         return f"a {self.kind} of mode {self.mode:o} and owner {self.owner[0]}:{self.owner[1]}"
 
 
-def run_for_output(line, folder=None, seconds=0):
+def capture_output(line, folder=None, seconds=0):
     """The output of a command."""
-    ran = subprocess.run(line, cwd=folder, env=made_of.environment(seconds), capture_output=True)
+    ran = subprocess.run(line, cwd=folder, env=made_of.environment_at(seconds), capture_output=True)
     if ran.returncode:
         raise command.Stop(f"{line[0]} failed: {ran.stderr.decode(errors='replace').strip()}", command.FAILED)
     return ran.stdout
@@ -72,20 +72,20 @@ fi
 }
 
 
-def debian_name(version):
+def debian_package_name(version):
     return f"dam_{version}_amd64.deb"
 
 
-def plain_name(version):
+def archive_name(version):
     return f"dam-{version}-x86_64-linux.tar.xz"
 
 
-def run_for_dependencies(root, room):
+def write_and_capture_dependencies(root, room):
     """The packages that the programs and the library need, by Debian's own tool: the C library, and since which version."""
     (room / "debian").mkdir()
     (room / "debian" / "control").write_text("Source: dam\n\nPackage: dam\nArchitecture: amd64\n", encoding="utf-8")
     line = ["dpkg-shlibdeps", "-O", *(f"-e{root / 'usr' / name}" for name in ("bin/dam", "bin/dam-desk", SHARED))]
-    shown = run_for_output(line, room).decode()
+    shown = capture_output(line, room).decode()
     return re.search(r"^shlibs:Depends=(.*)$", shown, re.MULTILINE)[1]
 
 
@@ -95,7 +95,7 @@ def write_control_files(root, clone, room):
     sums = "".join(f"{hashlib.md5(path.read_bytes()).hexdigest()}  {path.relative_to(root)}\n" for path in files)
     size = sum(-(-path.stat().st_size // 1024) for path in files)
     folder.mkdir(mode=0o755)
-    words = {"VERSION": clone.version, "SIZE": str(size), "DEPENDS": run_for_dependencies(root, room)}
+    words = {"VERSION": clone.version, "SIZE": str(size), "DEPENDS": write_and_capture_dependencies(root, room)}
     texts = {"md5sums": sums}
     for name, content in {"control": (HERE / "control").read_text(encoding="utf-8"), **SHORT}.items():
         texts[name] = re.sub("|".join(words), lambda found: words[found[0]], content) if name in ("control", "shlibs") else content
@@ -108,7 +108,7 @@ def write_control_files(root, clone, room):
         os.utime(path, (clone.seconds, clone.seconds))
 
 
-def make_debian_package(tree, clone, target):
+def write_debian_package(tree, clone, target):
     """Makes the Debian package of a tree, which goes to /usr."""
     room = tree.parent / "debian"
     root = room / "root"
@@ -116,16 +116,16 @@ def make_debian_package(tree, clone, target):
     shutil.copytree(tree, root / "usr", symlinks=True)
     write_control_files(root, clone, room)
     line = ["dpkg-deb", "--root-owner-group", "-Zxz", "-z9", "--threads-max=1", "--build", root, target]
-    run_for_output(line, seconds=clone.seconds)
+    capture_output(line, seconds=clone.seconds)
 
 
-def make_plain_archive(tree, clone, target):
+def write_plain_archive(tree, clone, target):
     """Makes the archive that runs in place."""
-    name = plain_name(clone.version).removesuffix(".tar.xz")
+    name = archive_name(clone.version).removesuffix(".tar.xz")
     how = ["--sort=name", "--format=gnu", "--owner=0", "--group=0", "--numeric-owner", f"--mtime=@{clone.seconds}"]
     # a link's target stays as it is
     how.append(f"--transform=flags=rSH;s,^\\.,{name},")
-    run_for_output(["tar", "--create", f"--file={target}", "--use-compress-program=xz -9 -T1", *how, "--directory", tree, "."])
+    capture_output(["tar", "--create", f"--file={target}", "--use-compress-program=xz -9 -T1", *how, "--directory", tree, "."])
 
 
 def refuse_large(path, size):
@@ -150,10 +150,10 @@ def decompress_or_refuse_large(path, data):
         return read_or_refuse_large(path, file)
 
 
-def run_for_debian_archive(path, way):
+def capture_debian_archive(path, way):
     """One of the two tar archives in a Debian package."""
     line = ["dpkg-deb", way, path.absolute()]
-    with subprocess.Popen(line, env=made_of.environment(), stdout=subprocess.PIPE, stderr=subprocess.DEVNULL) as process:
+    with subprocess.Popen(line, env=made_of.environment_at(), stdout=subprocess.PIPE, stderr=subprocess.DEVNULL) as process:
         data = read_or_refuse_large(path, process.stdout)
     if process.returncode:
         raise tarfile.TarError(f"dpkg-deb ended with status {process.returncode}")
@@ -170,7 +170,7 @@ def name_below(name, top):
     return name[len(top) + 1 :] if f"{name}/".startswith(f"{top}/") else f"/{name}"
 
 
-def number_if_found(name, found, times):
+def number_and_count_if_found(name, found, times):
     """The name, or if it is found already, the name with a number. How often each occurs is counted, so that many take little time."""
     own = name
     while own in found:
@@ -191,7 +191,7 @@ def parse_entries(path, data, top=None, prefix=""):
             kind = "file" if member.isfile() else KINDS.get(member.type, "device")
             name = member.name.removeprefix("./").rstrip("/").removesuffix(".")
             top = name.partition("/")[0] if top is None and name else top
-            name = number_if_found(prefix + name_below(name, top), found, times)
+            name = number_and_count_if_found(prefix + name_below(name, top), found, times)
             found[name] = Entry(kind, member.mode, (member.uid, member.gid), held)
     return found
 
@@ -201,7 +201,7 @@ def read_package_or_stop(path):
     data = file_io.read_bytes(path)
     try:
         if path.name.endswith(".deb"):
-            files, told = (run_for_debian_archive(path, way) for way in ("--fsys-tarfile", "--ctrl-tarfile"))
+            files, told = (capture_debian_archive(path, way) for way in ("--fsys-tarfile", "--ctrl-tarfile"))
             return {**parse_entries(path, told, "", CONTROL), **parse_entries(path, files, "usr")}
         return parse_entries(path, decompress_or_refuse_large(path, data))
     except (OSError, tarfile.TarError, EOFError, ValueError, lzma.LZMAError, zlib.error):
@@ -212,14 +212,14 @@ def parse_provenance_or_stop(path, files):
     """The provenance of a package."""
     try:
         found = json.loads(files[PROVENANCE].data)
-        if is_deep(found):
+        if is_nested_too_deep(found):
             raise ValueError
         return {**found, "commit": str(found["commit"]), "check": found["check"]}
     except (KeyError, ValueError, TypeError, RecursionError):
         raise command.Stop(f"{command.shown(path)} isn't a package of dam: it has no {PROVENANCE}") from None
 
 
-def is_deep(value):
+def is_nested_too_deep(value):
     """Whether a value of JSON has lists and objects in each other, deeper than a provenance."""
     level = [value]
     for _ in range(DEEPEST):

@@ -34,7 +34,7 @@ NEEDED = {
 }
 
 
-def environment(seconds=0):
+def environment_at(seconds=0):
     """The environment of the commands that make a package: nothing else may get into their output."""
     kept = {name: os.environ[name] for name in ("PATH", "HOME", "TMPDIR") if name in os.environ}
     return {**kept, "LC_ALL": "C.UTF-8", "TZ": "UTC", "COLUMNS": "100", "SOURCE_DATE_EPOCH": str(seconds)}
@@ -52,16 +52,16 @@ class Clone:
     """A clone without changes, whose programs and libraries were built of its sources."""
 
     def __init__(self):
-        refuse_missing_commands()
+        require_commands()
         self.version, self.commit = VERSION, run_git("rev-parse", "HEAD").strip()
         self.seconds = int(run_git("log", "-1", "--format=%ct"))
         self.date = datetime.datetime.fromtimestamp(self.seconds, datetime.timezone.utc).strftime("%Y-%m-%dT%H:%M:%SZ")
         self.tracked = [name for name in run_git("ls-files", "-z").split("\0") if name]
         refuse_changes()
-        refuse_old_builds()
-        self.records = {name: sources.read_record(TOP / name) for name in BUILT}
+        require_present_builds()
+        self.records = {name: sources.read_record_or_none(TOP / name) for name in BUILT}
 
-    def below(self, folder, *endings):
+    def tracked_below(self, folder, *endings):
         """The tracked files of a folder, and of those below it, with one of these endings."""
         return [name for name in self.tracked if name.startswith(f"{folder}/") and name.endswith(endings or ("",))]
 
@@ -75,10 +75,10 @@ def refuse_changes():
         raise command.Stop(f"the clone has changes: commit or remove {', '.join(changed[:SHOWN])}{more}")
 
 
-def refuse_old_builds():
+def require_present_builds():
     """Ends the tool if something that was built is missing, or not of the present sources."""
     for name, crate in BUILT.items():
-        fault = sources.read_stale_words(TOP / name, crate)
+        fault = sources.read_stale_words_or_none(TOP / name, crate)
         if fault:
             raise command.Stop(f"{fault}: run {MADE_BY[name]}")
 
@@ -100,16 +100,16 @@ def read_totals_or_stop(path, commit):
     raise command.Stop(f"{command.shown(path)} is of {'changed files' if of is None else f'commit {of}'}, and this clone of {commit}")
 
 
-def refuse_missing_commands():
+def require_commands():
     """Ends the tool if a command that it needs is missing."""
     for name, debian in NEEDED.items():
         if not shutil.which(name):
             words = f"it needs {name}, which Debian has in the package {debian}: apt-get install {debian}"
             raise command.Stop(words, command.FAILED)
-    site.refuse_lack()
+    site.require_packages()
 
 
-def run_for_versions():
+def capture_versions():
     """The versions of the programs that make the files of a package here; other ones may make others. git makes none, and go-md2man doesn't
     tell its version."""
-    return {name: sources.run_for_first_line([name, "--version"]) for name in NEEDED if name not in ("git", "go-md2man")}
+    return {name: sources.capture_first_line([name, "--version"]) for name in NEEDED if name not in ("git", "go-md2man")}

@@ -7,7 +7,7 @@ from lib.base.place import with_installed_commands
 from lib.tool import command
 from manual import pages
 
-from .clone import TOP, environment
+from .clone import TOP, environment_at
 
 # Each man page: the manual's page, its name in a few words, and the commands that it names at its end.
 PAGES = {
@@ -24,13 +24,13 @@ MANUAL = (
 WIDEST = 72  # columns of a table; a man page has 80, and its margin
 
 
-def cells(row):
+def cells_of_row(row):
     return [cell.strip() for cell in CELL.split(row.strip().strip("|"))]
 
 
-def listed(found):
+def as_list_if_wide(found):
     """A table that is too wide for a terminal as a list: each first cell, and below it the others, the third and later with their heads."""
-    heads, rows = cells(found[1]), [cells(row) for row in found[2].splitlines()]
+    heads, rows = cells_of_row(found[1]), [cells_of_row(row) for row in found[2].splitlines()]
     widths = (max(len(row[column].replace("`", "")) for row in [heads, *rows]) for column in range(len(heads)))
     if sum(width + 3 for width in widths) <= WIDEST:
         return found[0]
@@ -38,27 +38,27 @@ def listed(found):
     return "".join(f"{row[0]}\n: {told(row)}\n\n" for row in rows)
 
 
-def read_page_words(page):
+def read_page_for_man(page):
     """A page of the manual as go-md2man takes it: with installed commands, and without links."""
     text = pages.COMMENT.sub("", (TOP / page).read_text(encoding="utf-8")).partition("\n")[2]
     text = OF_CLONES.sub("", text)
-    text = TABLE.sub(listed, pages.indented(pages.LINK.sub(r"\1", with_installed_commands(text))))
+    text = TABLE.sub(as_list_if_wide, pages.with_lists_indented(pages.LINK.sub(r"\1", with_installed_commands(text))))
     text = re.sub(r"\[([^\]]*)\]\(#[^)\s]*\)", r"\1", text)
     return re.sub(r"^##(#*) (.*)$", lambda head: f"#{head[1]} {head[2] if head[1] else head[2].upper()}", text, flags=re.MULTILINE)
 
 
-def run_for_page(name, version):
+def capture_man_page(name, version):
     """A man page."""
     source, about, others = PAGES[name]
     see = ", ".join(f"**{other}**(1)" for other in others)
-    text = f"# {name}\n\n# NAME\n\n{name} - {about}\n\n# DESCRIPTION\n\n{read_page_words(source)}\n# SEE ALSO\n\n{see}\n\n{MANUAL}\n"
-    ran = subprocess.run(["go-md2man"], input=text.encode(), capture_output=True, env=environment())
+    text = f"# {name}\n\n# NAME\n\n{name} - {about}\n\n# DESCRIPTION\n\n{read_page_for_man(source)}\n# SEE ALSO\n\n{see}\n\n{MANUAL}\n"
+    ran = subprocess.run(["go-md2man"], input=text.encode(), capture_output=True, env=environment_at())
     if ran.returncode:
         raise command.Stop(f"go-md2man failed: {ran.stderr.decode(errors='replace')}", command.FAILED)
     head = f'.TH {name.upper()} 5 "" "dam {version}" "Formats of dam"'
     return re.sub(r"^\.TH .*$", lambda _: head, ran.stdout.decode(), count=1, flags=re.MULTILINE).encode()
 
 
-def run_for_pages(version):
+def capture_man_pages(version):
     """Each man page with its name."""
-    return {name: run_for_page(name, version) for name in PAGES}
+    return {name: capture_man_page(name, version) for name in PAGES}

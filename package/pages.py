@@ -9,7 +9,7 @@ from lib.tool import command
 from lib.base.place import TOOLS
 
 from . import formats, shells
-from .clone import TOP, environment
+from .clone import TOP, environment_at
 
 # The commands, each with those of its words that have help of their own. Those of `dam` are in its help.
 COMMANDS = {
@@ -44,15 +44,15 @@ WITH_EXAMPLES = (
 VERSION = ".PP\nThis is version {}.\n.B dam\\-audit \\-\\-version\nprints it; {} itself has no such option."
 
 
-def run_for_help(bin_folder, words):
+def capture_help(bin_folder, words):
     """The help of a command, which is given with its words."""
-    ran = subprocess.run([bin_folder / words[0], *words[1:], "--help"], capture_output=True, env=environment())
+    ran = subprocess.run([bin_folder / words[0], *words[1:], "--help"], capture_output=True, env=environment_at())
     if ran.returncode:
         raise command.Stop(f"{' '.join(words)} --help failed: {ran.stderr.decode(errors='replace')}", command.FAILED)
     return ran.stdout.decode()
 
 
-def usage(paragraph):
+def usage_text(paragraph):
     """The usage in the form that help2man knows: an alternative in each line."""
     words = re.sub(r"^usage: +", "", paragraph, flags=re.IGNORECASE)
     program = words.split()[0]
@@ -60,46 +60,46 @@ def usage(paragraph):
     return "Usage: " + "\n  or:  ".join(" ".join(one.split()) for one in alternatives)
 
 
-def roff(paragraph):
+def roff_of_paragraph(paragraph):
     """A paragraph of a page: one in which lines are indented stays in lines."""
-    lines = [roff_line(line) for line in paragraph.split("\n")]
+    lines = [roff_of_line(line) for line in paragraph.split("\n")]
     if all(line.startswith("  ") for line in lines):
         return "\n".join([".PP", ".nf", *lines, ".fi"])
     return "\n".join([".PP", *(line.strip() for line in lines)])
 
 
-def statuses(paragraph):
+def roff_of_statuses(paragraph):
     """The statuses, each with its meaning. A line that begins with an option is a paragraph of its own."""
     found = []
     for part in re.split(r"\n +(?=with --)", HEADS.sub("", paragraph)):
         for one in re.split(r"; (?=\d+ )", " ".join(part.split())):
             number, _, words = one.partition(" ")
-            found.append(f".TP\n.B {number}\n{roff_line(words)}" if number.isdigit() else roff(one))
+            found.append(f".TP\n.B {number}\n{roff_of_line(words)}" if number.isdigit() else roff_of_paragraph(one))
     return "\n".join(found)
 
 
-def read_statuses_of_program(words, text):
+def read_roff_of_program_statuses(words, text):
     """The statuses of the program, or of one of its commands, as the manual has them. A command whose help has no limit on nodes can't
     reach one."""
     without = {OF_THE_LAUNCHER, *([OF_A_LIMIT] if len(words) > 1 and "--nodes" not in text else [])}
     rows = STATUS.findall(STATUSES.search(FORMATS.read_text(encoding="utf-8"))[1])
-    kept = [f".TP\n.B {number}\n{roff_line(about.replace('`', ''))}" for number, about in rows if number not in without]
-    return "\n".join([*kept, roff(MORE)])
+    kept = [f".TP\n.B {number}\n{roff_of_line(about.replace('`', ''))}" for number, about in rows if number not in without]
+    return "\n".join([*kept, roff_of_paragraph(MORE)])
 
 
-def read_statuses_of_desk():
+def read_roff_of_desk_statuses():
     """The statuses of dam-desk, as the manual has them: why, and how to go on."""
     rows = DESK_STATUS.findall(DESK_STATUSES.search(DESK.read_text(encoding="utf-8"))[1])
-    kept = [f".TP\n.B {status}\n{roff_line(why)}\n.br\nDo: {roff_line(how)}" for status, why, how in rows]
-    return "\n".join([*kept, roff(MORE_OF_DESK)])
+    kept = [f".TP\n.B {status}\n{roff_of_line(why)}\n.br\nDo: {roff_of_line(how)}" for status, why, how in rows]
+    return "\n".join([*kept, roff_of_paragraph(MORE_OF_DESK)])
 
 
-def roff_line(line):
+def roff_of_line(line):
     line = line.replace("\\", "\\e").replace("-", "\\-")
     return f"\\&{line}" if line[:1] in (".", "'") else line
 
 
-def split(text):
+def parts_of_help(text):
     """A help as its usage, its name in a few words, the lists of options, and other paragraphs by the section of the page."""
     first, second, *rest = text.strip("\n").split("\n\n")
     paragraphs = [first, second, *rest] if first.lower().startswith("usage:") else [second, first, *rest]
@@ -108,19 +108,19 @@ def split(text):
         head = HEADS.match(one)
         title, _, rows = one.partition("\n")
         if title.lower() in LISTS:
-            lists.append(listed(LISTS[title.lower()], rows))
+            lists.append(list_with_title(LISTS[title.lower()], rows))
         elif OPTION.match(title):
-            lists.append(listed(LISTS["options:"], one))
+            lists.append(list_with_title(LISTS["options:"], one))
         elif head and head[1].lower() == "examples":
-            sections.setdefault("EXAMPLES", [roff(WITH_EXAMPLES)]).append(roff(one[len(head[0]) :].strip("\n")))
+            sections.setdefault("EXAMPLES", [roff_of_paragraph(WITH_EXAMPLES)]).append(roff_of_paragraph(one[len(head[0]) :].strip("\n")))
         elif head:
-            sections.setdefault("EXIT STATUS", []).append(statuses(one))
+            sections.setdefault("EXIT STATUS", []).append(roff_of_statuses(one))
         else:
-            sections["DESCRIPTION"].append(roff(one))
-    return usage(paragraphs[0]), summary(paragraphs[1]), lists, sections
+            sections["DESCRIPTION"].append(roff_of_paragraph(one))
+    return usage_text(paragraphs[0]), name_line_of(paragraphs[1]), lists, sections
 
 
-def listed(title, rows):
+def list_with_title(title, rows):
     """A list of arguments or options. One of commands stands below a row `COMMAND`."""
     head, _, below = rows.partition("\n")
     if head.strip() == "COMMAND":
@@ -128,54 +128,54 @@ def listed(title, rows):
     return f"{title}\n\n{rows}"
 
 
-def summary(paragraph):
+def name_line_of(paragraph):
     """The first sentence, as the line of a page's name."""
     words = re.split(r"(?<=\w[.;]) |\.\Z", " ".join(paragraph.split()))[0].rstrip(".;")
     return words[:1].lower() + words[1:]
 
 
-def run_for_page(words, helps, clone, room):
+def write_help_and_capture_man_page(words, helps, clone, room):
     """The page of a command, which is given with its words."""
     name, text = "-".join(words), helps[words]
-    told, about, lists, sections = split(text)
+    told, about, lists, sections = parts_of_help(text)
     (room / f"{name}.help").write_text("\n\n".join([told, *lists]) + "\n", encoding="utf-8")
     # help2man runs a command to see its help
     shown, more = room / name, room / f"{name}.more"
     shown.write_text(f"#!/bin/sh\nexec cat {name}.help\n", encoding="utf-8")
     shown.chmod(0o755)
     if words[0] == "dam":
-        sections["EXIT STATUS"] = [read_statuses_of_program(words, text)]
+        sections["EXIT STATUS"] = [read_roff_of_program_statuses(words, text)]
     if name == "dam-desk":
-        sections["EXIT STATUS"] = [read_statuses_of_desk()]
+        sections["EXIT STATUS"] = [read_roff_of_desk_statuses()]
     if name in ("dam", "dam-desk"):
-        sections["VERSION"] = [VERSION.format(clone.version, roff_line(name))]
+        sections["VERSION"] = [VERSION.format(clone.version, roff_of_line(name))]
     # in a section that help2man writes too, this comes first
     blocks = [f"[{title}]\n" + "\n".join(parts) for title, parts in sections.items() if parts]
-    more.write_text("\n\n".join([*blocks, "[SEE ALSO]\n" + see_also(words, helps)]) + "\n", encoding="utf-8")
+    more.write_text("\n\n".join([*blocks, "[SEE ALSO]\n" + see_also_text(words, helps)]) + "\n", encoding="utf-8")
     line = ["help2man", "--no-info", "--section=1", f"--version-string={clone.version}", f"--name={about}", f"--include={more.name}"]
-    ran = subprocess.run([*line, f"./{name}"], cwd=room, capture_output=True, env=environment(clone.seconds))
+    ran = subprocess.run([*line, f"./{name}"], cwd=room, capture_output=True, env=environment_at(clone.seconds))
     if ran.returncode:
         raise command.Stop(f"help2man failed: {ran.stderr.decode(errors='replace')}", command.FAILED)
     return ran.stdout
 
 
-def see_also(words, helps):
+def see_also_text(words, helps):
     """The other pages, and where the whole manual is."""
     others = sorted("-".join(other) for other in helps if other != words and (len(other) == 1 or other[0] == words[0]))
     listed = ",\n".join(f".BR {other} (1)" for other in others).replace(" (1),", " (1),")
     return f"{listed}\n.PP\n{formats.MANUAL}"
 
 
-def run_for_helps(bin_folder):
+def capture_helps(bin_folder):
     """The help of each command by its words."""
-    of_dam = tuple(shells.commands(run_for_help(bin_folder, ("dam",))))
+    of_dam = tuple(shells.commands_of_help(capture_help(bin_folder, ("dam",))))
     every = [(name, *rest) for name, words in {**COMMANDS, "dam": of_dam}.items() for rest in [(), *((word,) for word in words)]]
     with concurrent.futures.ThreadPoolExecutor() as pool:
-        return dict(zip(every, pool.map(lambda words: run_for_help(bin_folder, words), every)))
+        return dict(zip(every, pool.map(lambda words: capture_help(bin_folder, words), every)))
 
 
-def run_for_pages(found, clone, room):
+def write_helps_and_capture_man_pages(found, clone, room):
     """Each page with its name, from the helps."""
     with concurrent.futures.ThreadPoolExecutor() as pool:
-        made = pool.map(lambda words: run_for_page(words, found, clone, room), found)
+        made = pool.map(lambda words: write_help_and_capture_man_page(words, found, clone, room), found)
         return {"-".join(words): data for words, data in zip(found, made)}

@@ -55,62 +55,62 @@ class Option(NamedTuple):
     about: str
 
 
-def commands(text):
+def commands_of_help(text):
     """The commands of the help of `dam`, each with what it does."""
     return dict(COMMAND.findall(COMMANDS.search(text)[1]))
 
 
-def options(text):
+def options_of_help(text):
     """The options of a help."""
     return [Option(*found) for found in OPTION.findall(text)]
 
 
-def quoted(text):
+def quoted_for_shell(text):
     return "'" + text.replace("'", "'\\''") + "'"
 
 
-def words_of(found):
+def option_words(found):
     return " ".join(f"--{option.name}" for option in found)
 
 
-def bash(main, helps):
-    cases = "\n".join(f"            {name}) words='{words_of(options(text))}' ;;" for name, text in helps.items())
-    return BASH.format(words=f"{' '.join(helps)} {words_of(options(main))}", cases=cases)
+def bash_text(main, helps):
+    cases = "\n".join(f"            {name}) words='{option_words(options_of_help(text))}' ;;" for name, text in helps.items())
+    return BASH.format(words=f"{' '.join(helps)} {option_words(options_of_help(main))}", cases=cases)
 
 
-def zsh_option(option):
+def zsh_option_text(option):
     """An option in the form of `_arguments`."""
     about = re.sub(r"([\[\]:])", r"\\\1", option.about)
     if option.short:
-        return f"'(-{option.short} --{option.name})'{{-{option.short},--{option.name}}}" + quoted(f"[{about}]")
-    return quoted(f"--{option.name}[{about}]" + (f":{option.number}:" if option.number else ""))
+        return f"'(-{option.short} --{option.name})'{{-{option.short},--{option.name}}}" + quoted_for_shell(f"[{about}]")
+    return quoted_for_shell(f"--{option.name}[{about}]" + (f":{option.number}:" if option.number else ""))
 
 
-def zsh(main, helps):
-    of = lambda text, indent: " \\\n".join(f"{indent}{zsh_option(option)}" for option in options(text))
+def zsh_text(main, helps):
+    of = lambda text, indent: " \\\n".join(f"{indent}{zsh_option_text(option)}" for option in options_of_help(text))
     cases = "\n".join(f"        {name})\n            _arguments \\\n{of(text, ' ' * 16)} ;;" for name, text in helps.items())
-    about = commands(main)
-    rows = "\n".join("    " + quoted(f"{name}:{about[name]}") for name in helps)
+    about = commands_of_help(main)
+    rows = "\n".join("    " + quoted_for_shell(f"{name}:{about[name]}") for name in helps)
     return ZSH.format(commands=rows, options=of(main, " " * 4), cases=cases)
 
 
-def fish_option(condition, option):
+def fish_option_text(condition, option):
     words = ["complete -c dam", *(["-x"] if option.number else [])]
-    words += [f"-n {quoted(condition)}"] if condition else []
+    words += [f"-n {quoted_for_shell(condition)}"] if condition else []
     words += [f"-s {option.short}"] if option.short else []
-    return " ".join([*words, f"-l {option.name} -d {quoted(option.about)}"])
+    return " ".join([*words, f"-l {option.name} -d {quoted_for_shell(option.about)}"])
 
 
-def fish(main, helps):
-    about = commands(main)
+def fish_text(main, helps):
+    about = commands_of_help(main)
     lines = ["# Completions for fish: the commands and options of dam."]
-    lines += [fish_option("", option) for option in options(main)]
-    lines += [f"complete -c dam -f -n __fish_use_subcommand -a {name} -d {quoted(about[name])}" for name in helps]
-    of_all = options(main)
+    lines += [fish_option_text("", option) for option in options_of_help(main)]
+    lines += [f"complete -c dam -f -n __fish_use_subcommand -a {name} -d {quoted_for_shell(about[name])}" for name in helps]
+    of_all = options_of_help(main)
     lines += [
-        fish_option(f"__fish_seen_subcommand_from {name}", option)
+        fish_option_text(f"__fish_seen_subcommand_from {name}", option)
         for name, text in helps.items()
-        for option in options(text)
+        for option in options_of_help(text)
         if option not in of_all
     ]
     return "".join(f"{line}\n" for line in lines)
@@ -119,4 +119,5 @@ def fish(main, helps):
 def completions_by_place(helps):
     """The completions of `dam` by their place, from the helps of all commands by their words."""
     main, of_words = helps["dam",], {words[1]: text for words, text in helps.items() if words[0] == "dam" and len(words) == 2}
-    return {PLACES[shell].format("dam"): of(main, of_words).encode() for shell, of in (("bash", bash), ("zsh", zsh), ("fish", fish))}
+    texts = {"bash": bash_text(main, of_words), "zsh": zsh_text(main, of_words), "fish": fish_text(main, of_words)}
+    return {PLACES[shell].format("dam"): text.encode() for shell, text in texts.items()}

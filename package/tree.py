@@ -10,7 +10,8 @@ from lib.base.place import TOOLS, with_installed_commands
 from lib.crates.sources import read_file_sum
 
 from manual import site
-from manual.pages import held as with_held
+from manual.definitions import capture_list
+from manual.pages import without_missing_links
 
 from . import changelog, formats, pages, shells
 from . import clone as made_of
@@ -58,19 +59,19 @@ def sources_by_target(clone):
         ("bench/measured", f"{DOC}/bench/measured", ".csv"),
         ("crates", f"{DOC}/crates", "/README.md", "/NOTES.md"),
     ):
-        found.update({f"{target}/{os.path.relpath(name, folder)}": name for name in clone.below(folder, *endings)})
+        found.update({f"{target}/{os.path.relpath(name, folder)}": name for name in clone.tracked_below(folder, *endings)})
     return found
 
 
-def page(data, target, held):
+def page_for_package(data, target, held):
     """A page, with the words alone of each link to a file that the package doesn't have, and with installed commands."""
-    text = with_held(data.decode(), target, held)
+    text = without_missing_links(data.decode(), target, held)
     if os.path.basename(target) in WITH_COMMANDS:
         text = COMMANDS.sub(lambda block: with_installed_commands(block[0]), text)
     return text.encode()
 
 
-def read_metadata(version):
+def read_metadata_by_place(version):
     """The files by which pip knows the module: as of a wheel, but without a list of the files, which belong to the package."""
     text = (made_of.TOP / "pyproject.toml").read_text(encoding="utf-8")
     of = lambda key: re.search(rf'^{key} = (?:{{ text = )?"(.*?)"', text, re.MULTILINE)[1]
@@ -89,74 +90,68 @@ def write_file(path, data, mode=0o644):
     path.chmod(mode)
 
 
-def read_script(tool):
+def read_script_for_debian(tool):
     """A tool as a command of Debian's Python, which has the packages that it needs."""
     first, rest = (made_of.TOP / "tools" / tool).read_bytes().split(b"\n", 1)
     assert first == b"#!/usr/bin/env -S python3 -I -S", first
     return b"#!/usr/bin/python3 -IS\n" + rest  # Linux passes all options of this line as one argument
 
 
-def run_for_definitions():
-    """The page of definitions with its list, which no file of a clone has."""
-    wanted = [made_of.TOP / "tools" / "reading-list", "--definitions"]
-    return subprocess.run(wanted, stdout=subprocess.PIPE, env=made_of.environment(), check=True).stdout
-
-
-def write_manual(folder, files):
+def run_mkdocs_and_write_manual(folder, files):
     """Puts the site of the packaged pages into the package."""
     own = {name: (folder / target).read_text(encoding="utf-8") for target, name in files.items() if site.is_page(name)}
     drawn = {name: made_of.TOP / name for name in files.values() if name.endswith(site.PICTURES)}
     room = folder.parent / "manual"
     room.mkdir()
-    made = site.build(own, drawn, room)
+    made = site.run_mkdocs_and_write_site(own, drawn, room)
     for path in (path for path in made.rglob("*") if path.is_file()):
         write_file(folder / MANUAL / path.relative_to(made), path.read_bytes())
 
 
-def run_gzip(data):
-    return subprocess.run(["gzip", "-9n"], input=data, stdout=subprocess.PIPE, env=made_of.environment(), check=True).stdout
+def capture_gzip(data):
+    return subprocess.run(["gzip", "-9n"], input=data, stdout=subprocess.PIPE, env=made_of.environment_at(), check=True).stdout
 
 
-def make_tree(clone, folder, totals):
+def write_tree(clone, folder, totals):
     """Makes the files of the package in a folder. `totals` are those of the check, or None."""
     files = sources_by_target(clone)
     held = {*files, *LINKS}
     for target, name in files.items():
-        data = run_for_definitions() if name == DEFINITIONS else (made_of.TOP / name).read_bytes()
+        data = capture_list(made_of.TOP, made_of.environment_at()).encode() if name == DEFINITIONS else (made_of.TOP / name).read_bytes()
         mode = 0o755 if target in PROGRAMS or name.endswith(".sh") else 0o644
-        write_file(folder / target, page(data, target, held) if name.endswith(".md") else data, mode)
+        write_file(folder / target, page_for_package(data, target, held) if name.endswith(".md") else data, mode)
     for tool in TOOLS:
-        write_file(folder / PYTHON / tool, read_script(tool), 0o755)
+        write_file(folder / PYTHON / tool, read_script_for_debian(tool), 0o755)
     with_version = (made_of.TOP / HERE / "dam.pc").read_text(encoding="utf-8").replace("VERSION", clone.version)
     write_file(folder / LIBRARY / "pkgconfig" / "dam.pc", with_version.encode())
-    for name, data in read_metadata(clone.version).items():
+    for name, data in read_metadata_by_place(clone.version).items():
         write_file(folder / name, data)
-    subprocess.run(["strip", "--strip-unneeded", *(folder / name for name in STRIPPED)], env=made_of.environment(), check=True)
-    write_file(folder / DOC / "changelog.gz", run_gzip(changelog.read_changelog_text(clone.seconds).encode()))
+    subprocess.run(["strip", "--strip-unneeded", *(folder / name for name in STRIPPED)], env=made_of.environment_at(), check=True)
+    write_file(folder / DOC / "changelog.gz", capture_gzip(changelog.read_changelog_text(clone.seconds).encode()))
     for name, target in LINKS.items():
         (folder / name).parent.mkdir(parents=True, exist_ok=True)
         (folder / name).symlink_to(target)
     room = folder.parent / "pages"
     room.mkdir()
-    helps = pages.run_for_helps(folder / "bin")
+    helps = pages.capture_helps(folder / "bin")
     for target, data in shells.completions_by_place(helps).items():
         write_file(folder / target, data)
-    for name, data in pages.run_for_pages(helps, clone, room).items():
-        write_file(folder / "share/man/man1" / f"{name}.1.gz", run_gzip(data))
-    for name, data in formats.run_for_pages(clone.version).items():
-        write_file(folder / "share/man/man5" / f"{name}.5.gz", run_gzip(data))
-    write_manual(folder, files)
-    told = read_provenance(clone, folder, totals)
+    for name, data in pages.write_helps_and_capture_man_pages(helps, clone, room).items():
+        write_file(folder / "share/man/man1" / f"{name}.1.gz", capture_gzip(data))
+    for name, data in formats.capture_man_pages(clone.version).items():
+        write_file(folder / "share/man/man5" / f"{name}.5.gz", capture_gzip(data))
+    run_mkdocs_and_write_manual(folder, files)
+    told = read_and_capture_provenance(clone, folder, totals)
     write_file(folder / PROVENANCE, (json.dumps(told, indent=2) + "\n").encode())
     set_times_and_modes(folder, clone.seconds)
 
 
-def recorded_of(clone, name):
+def record_without_sources(clone, name):
     """The record of a file that was built, but for the sums of its sources."""
     return {key: it for key, it in clone.records[name].items() if key != "sources"}
 
 
-def read_provenance(clone, folder, totals):
+def read_and_capture_provenance(clone, folder, totals):
     """The sources of a package, and the sum of each of its files but this one."""
     files = sorted(path for path in folder.rglob("*") if path.is_file() and not path.is_symlink())
     return {
@@ -165,10 +160,10 @@ def read_provenance(clone, folder, totals):
         "commit": clone.commit,
         "date": clone.date,
         "stripped": list(STRIPPED),
-        "built": {target: recorded_of(clone, name) for target, name in TAKEN.items() if name in clone.records},
+        "built": {target: record_without_sources(clone, name) for target, name in TAKEN.items() if name in clone.records},
         "sources": {crate: it for told in clone.records.values() for crate, it in sorted(told["sources"].items())},
         "check": totals,
-        "made_with": {**made_of.run_for_versions(), "mkdocs": site.generator(folder / MANUAL)},
+        "made_with": {**made_of.capture_versions(), "mkdocs": site.read_generator(folder / MANUAL)},
         "sha256": {os.fspath(path.relative_to(folder)): read_file_sum(path) for path in files},
     }
 

@@ -29,7 +29,7 @@ class PlainOffice:
 
     async def enter_and_answer(self, request):
         record = (await request.text()).rstrip("\n")
-        reason = self.book.apply(heads.command_of(record))
+        reason = self.book.apply_or_return_refusal(heads.command_of_record_or_none(record))
         reply = f"refused,{reason}" if reason else heads.DONE
         row = request.match_info["who"], int(request.match_info["number"]), record, reply
         added = self.rows.execute("INSERT INTO entries (who, number, record, reply) VALUES (?, ?, ?, ?)", row)

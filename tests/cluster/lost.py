@@ -44,7 +44,7 @@ def running_process(words, **how):
         children.kill_group(running)
 
 
-def wait_for(found, what):
+def wait_for_value_or_raise(found, what):
     """What a call finds, as soon as that is something."""
     end = time.monotonic() + STARTED
     while not (value := found()):
@@ -60,7 +60,7 @@ def running_scheduler(folder):
     log = folder / "scheduler"
     words = [sys.executable, "-m", "distributed.cli.dask_scheduler", "--host", "127.0.0.1", "--port", "0", "--no-dashboard"]
     with log.open("wb") as file, running_process(words, stdout=file, stderr=file) as running:
-        at = wait_for(lambda: re.search(r"Scheduler at: *(tcp://\S+)", log.read_text()), "the scheduler")
+        at = wait_for_value_or_raise(lambda: re.search(r"Scheduler at: *(tcp://\S+)", log.read_text()), "the scheduler")
         yield running, at[1]
 
 
@@ -72,7 +72,7 @@ def write_slow_program(folder, program):
     return path
 
 
-def running_whatif(folder, address, program):
+def write_table_and_start_whatif(folder, address, program):
     """A run of many scenarios, which differ: a cluster clears equal ones once."""
     table = folder / "scenarios.csv"
     heads = "scenario,participant,order,kind,side,price_eur_mwh,periods,volume_mw\n"
@@ -94,19 +94,19 @@ def check_ended(counts, what, running, status, said, within):
     counts.check(found, (running.returncode, out) == (status, b"") and bool(re.fullmatch(said, err.decode(errors="replace"))))
 
 
-def stop_one(processes):
+def stop_one_worker(processes):
     """Stops one of both workers, which threads of their process have started."""
     started = [pid for task in Path(f"/proc/{processes.workers.pid}/task").glob("*/children") for pid in task.read_text().split()]
     worker = next(pid for pid in started if b"spawn_main" in Path(f"/proc/{pid}/cmdline").read_bytes())
     os.kill(int(worker), signal.SIGSTOP)
 
 
-def check_without_workers(counts, folder, program):
-    with running_scheduler(folder) as (_, address), running_whatif(folder, address, program) as running:
+def run_and_check_without_workers(counts, folder, program):
+    with running_scheduler(folder) as (_, address), write_table_and_start_whatif(folder, address, program) as running:
         check_ended(counts, "no workers", running, 3, f"whatif: the cluster {address} has no workers\n", SECONDS)
 
 
-def check_in_the_middle(counts, folder, program, what, deed, status, said, within):
+def run_and_check_in_the_middle(counts, folder, program, what, deed, status, said, within):
     """The run, after a deed in the middle of it."""
     words = [sys.executable, "-m", "distributed.cli.dask_worker", "--nworkers", "2", "--nthreads", "1", "--no-dashboard"]
     own = {**os.environ, "PYTHONPATH": str(TOP / "tools"), "DAM": str(write_slow_program(folder, program))}
@@ -114,13 +114,13 @@ def check_in_the_middle(counts, folder, program, what, deed, status, said, withi
     with running_scheduler(folder) as (ruling, address), open(os.devnull, "wb") as null:
         with running_process([*words, "--local-directory", folder, address], stdout=null, stderr=null, env=own) as working:
             (folder / "mark").unlink(missing_ok=True)
-            with running_whatif(folder, address, program) as running:
-                wait_for((folder / "mark").exists, "a scenario")
+            with write_table_and_start_whatif(folder, address, program) as running:
+                wait_for_value_or_raise((folder / "mark").exists, "a scenario")
                 deed(Processes(ruling, working, running))
                 check_ended(counts, what, running, status, said.format(address), within)
 
 
-def check_runs(counts, program):
+def run_and_check_whatif(counts, program):
     """Runs of tools/whatif on a cluster, each of which ends in time."""
     lost, without = "whatif: the cluster {} doesn't answer any more\n", "whatif: the cluster {} has no workers\n"
     hung = "whatif: the workers of the cluster {} don't answer any more\n"
@@ -134,14 +134,14 @@ def check_runs(counts, program):
 
     with tempfile.TemporaryDirectory() as room:
         folder = Path(room)
-        check_without_workers(counts, folder, program)
+        run_and_check_without_workers(counts, folder, program)
         for what, deed, status, said, within in (
             ("a scheduler that ends", lambda processes: processes.scheduler.terminate(), 3, lost, SECONDS),
             ("a scheduler that hangs", lambda processes: send_signal(processes.scheduler, signal.SIGSTOP), 3, lost, SECONDS),
             ("workers that end", lambda processes: send_signal(processes.workers, signal.SIGKILL), 3, without, SECONDS),
             ("workers that hang", lambda processes: send_signal(processes.workers, signal.SIGSTOP), 3, hung, SECONDS),
-            ("a worker that hangs", stop_one, 3, one, SECONDS),
+            ("a worker that hangs", stop_one_worker, 3, one, SECONDS),
             ("Ctrl-C", lambda processes: processes.tool.send_signal(signal.SIGINT), 130, "whatif: interrupted\n", SOON),
             ("Ctrl-C without a scheduler", stopped_and_interrupted, 130, "whatif: interrupted\n", SOON),
         ):
-            check_in_the_middle(counts, folder, program, what, deed, status, said, within)
+            run_and_check_in_the_middle(counts, folder, program, what, deed, status, said, within)

@@ -50,7 +50,7 @@ class FaultyScene(Exception):
     """A scene that doesn't fit its page."""
 
 
-def make_environment(home, more, root=Path("/")):
+def make_environment_with_browser(home, more, root=Path("/")):
     """The environment of a reader whose folder this is: with a port that is free, and a browser that ends what shows it a page."""
     browser = home.parent / "browser"
     browser.write_text(BROWSER)
@@ -66,14 +66,14 @@ def path_inside(path, root):
     return "/" / path.relative_to(root)
 
 
-def missing_needs(name, reader):
+def find_missing_needs(name, reader):
     """The programs, and modules of Python, that the commands of a page need, and that the reader lacks."""
-    return [need for need in PAGES[name].needs if not (has_module if need in modules.PACKAGES else has_program)(need, reader)]
+    return [need for need in PAGES[name].needs if not (run_and_see_module if need in modules.PACKAGES else has_program)(need, reader)]
 
 
-def has_module(name, reader):
+def run_and_see_module(name, reader):
     if reader.form == CLONE:
-        return modules.has_module(name) or modules.run_for_modules(name)
+        return modules.has_module(name) or modules.run_and_see_if_debian_has(name)
     find = [*modules.ISOLATED, "-c", f"import importlib.util, sys; sys.exit(importlib.util.find_spec({name!r}) is None)"]
     return subprocess.run([*reader.shell, *find], env=reader.environment).returncode == 0
 
@@ -90,17 +90,17 @@ def place_or_raise(found, name, text):
     return places[0]
 
 
-def kept_lines(commands, left_out):
+def text_of_kept_lines(commands, left_out):
     """The lines of a block but for those that are left out, each with those that go on it."""
     lines, is_out = [], False
     for line in commands.splitlines(keepends=True):
-        goes_on = lines_go_on(lines[-1]) if lines and not is_out else False
+        goes_on = is_continued(lines[-1]) if lines and not is_out else False
         is_out = not goes_on and any(line.startswith(words) for words in left_out)
         lines += [] if is_out else [line]
     return "".join(lines)
 
 
-def lines_go_on(line):
+def is_continued(line):
     return line.rstrip("\n").endswith("\\")
 
 
@@ -126,31 +126,31 @@ def steps_or_raise(name, text, form):
     )
     left_out = [line for line, out in scene.left_out.items() if form in out.forms]
     for at, block in enumerate(found):
-        about, commands = f"{form}: {name}: {block.commands.splitlines()[0]}", kept_lines(block.commands, left_out)
+        about, commands = f"{form}: {name}: {block.commands.splitlines()[0]}", text_of_kept_lines(block.commands, left_out)
         if not any(line.strip() and not line.startswith("#") for line in commands.splitlines()):
             continue
         if at in given:
             yield PageStep(f"{about}: what it takes as given", given[at])
-        made = edited_commands(runnable(block.kind, commands), scene.edits)
+        made = edited_commands(shell_text(block.kind, commands), scene.edits)
         yield PageStep(about, made, block.quoted, says.get(at, ""), commands == block.commands)
         if at in then:
             yield PageStep(f"{about}: what came of it", then[at])
     if scene.spans:
         yield PageStep(f"{form}: {name}: what its sentences and tables take as given", scene.for_spans)
     for command, span in scene.spans.items():
-        if kept_lines(command, left_out):
-            made = with_status_test(edited_commands(as_in(form, command), scene.edits), span.status)
+        if text_of_kept_lines(command, left_out):
+            made = with_status_test(edited_commands(command_in_form(form, command), scene.edits), span.status)
             yield PageStep(f"{form}: {name}: {command}", made, says=span.says)
 
 
-def runnable(kind, commands):
+def shell_text(kind, commands):
     """A block as commands of a shell: a script is written to the file that its second line names."""
     if kind == "python":
         return PYTHON.format(commands)
     return f"cat > {commands.splitlines()[1].split()[1]} <<'END'\n{commands}END\n" if commands.startswith("#!") else commands
 
 
-def as_in(form, command):
+def command_in_form(form, command):
     """A command of a sentence: of a clone, or with the installed names in place of these."""
     return with_installed_commands(command) if form == INSTALLED else command
 
@@ -171,12 +171,12 @@ def script_text(made, room):
 
 def is_as_quoted(printed, quoted, is_whole):
     """Whether an output is the one that a page quotes, or a part of it if lines were left out."""
-    lines, wanted = as_shown(printed).splitlines(), quoted.splitlines()
+    lines, wanted = without_spaces_at_ends(printed).splitlines(), quoted.splitlines()
     fits = [(len(wanted), 0)] if is_whole else [(len(lines), at) for at in range(len(wanted) - len(lines) + 1)]
     return bool(lines) and any(len(lines) == length and all(map(is_line, lines, wanted[at : at + length])) for length, at in fits)
 
 
-def as_shown(printed):
+def without_spaces_at_ends(printed):
     """An output without spaces at the end of a line."""
     return "".join(f"{line.rstrip()}\n" for line in printed.splitlines())
 
@@ -205,7 +205,8 @@ def run_and_check_commands(counts, name, reader, room):
             counts.check(f"{reader.form}: {name}: its commands take longer than {SECONDS} seconds", False)
         finally:
             children.kill_group(process)
-    printed = {step.quoted: check_step(counts, step, room / str(number), process.returncode) for number, step in enumerate(made)}
+    ended = process.returncode
+    printed = {step.quoted: check_step_and_return_output(counts, step, room / str(number), ended) for number, step in enumerate(made)}
     return {quoted: shown for quoted, shown in printed.items() if quoted and shown}
 
 
@@ -220,7 +221,7 @@ def exiting_at_signals():
             signal.signal(number, action)
 
 
-def check_step(counts, step, at, status):
+def check_step_and_return_output(counts, step, at, status):
     """Checks a step by its files, and returns its output."""
     if not Path(f"{at}.out").exists():
         counts.check(f"{step.about}: not run, since one before it failed", False)
@@ -231,4 +232,4 @@ def check_step(counts, step, at, status):
     is_right = is_done and is_noted and (step.quoted is None or is_as_quoted(printed, step.quoted, step.is_whole))
     end = "" if is_done else f" ends with status {status}"
     counts.check(f"{step.about}{end}: {said[-SHOWN:]}\n{printed[-SHOWN:]}", is_right)
-    return as_shown(printed)
+    return without_spaces_at_ends(printed)

@@ -45,7 +45,7 @@ class Crashes:
         self.wrong = []
         self.files = self.opened = self.second = self.killed = 0
 
-    def run_whole_input(self):
+    def run_and_check_whole_input(self):
         """Runs the desk on the whole input."""
         folder = self.desk.make_folder()
         ran = self.desk.run(folder / "day.desk", self.given.batches)
@@ -60,40 +60,40 @@ class Crashes:
     def allowed_counts(self, moment):
         return frozenset(count for count in self.given.borders if moment.safe <= count <= max(moment.given, moment.safe))
 
-    def crashed_files(self, ran):
+    def draw_crashed_files(self, ran):
         """The files that a crash may leave at each moment of the run."""
         for moment in images.moments_of_run(ran.events, given_by=self.given.given_by):
             allowed = self.allowed_counts(moment)
-            for image in images.files_at(moment, self.rng):
+            for image in images.draw_files_at(moment, self.rng):
                 yield CrashedFile(image, moment, allowed)
 
-    def count_of_records(self, image):
+    def count_of_records_or_none(self, image):
         """How many records of the journal the file holds; None if it holds others, or isn't a journal."""
         marked = parse_marked_lines(image)
         if marked is None:
             return None
         count = marked.count(b"\n")
-        return count if count <= len(self.journal) and marked == self.journal.marked(count) else None
+        return count if count <= len(self.journal) and marked == self.journal.marked_text(count) else None
 
     def note_fault(self, case, why):
-        held = self.count_of_records(case.image)
+        held = self.count_of_records_or_none(case.image)
         self.wrong.append(f"{self.about}: {why}: {held} records for {sorted(case.allowed)}, the end {case.image[-TAIL:]!r}")
 
     def check_file(self, case):
         """Compares a file with the records that it may hold."""
         self.files += 1
-        if self.count_of_records(case.image) not in case.allowed:
+        if self.count_of_records_or_none(case.image) not in case.allowed:
             self.note_fault(case, "a file that a crash leaves")
 
     def check_opened(self, case, ran, crash_again=True):
         """Compares the opening of a file with the reader's, and crashes it."""
-        count = self.count_of_records(case.image)
+        count = self.count_of_records_or_none(case.image)
         self.opened += 1
         if count is None:
             return
-        if (ran.status, ran.stderr) != (0, b"") or ran.stdout != self.journal.printed(count):
+        if (ran.status, ran.stderr) != (0, b"") or ran.stdout != self.journal.printed_text(count):
             self.note_fault(case, f"opened with status {ran.status}, {ran.stderr[:80]!r}, {ran.stdout[-TAIL:]!r}")
-        elif not is_at_rest(ran.file) or self.count_of_records(ran.file) != count:
+        elif not is_at_rest(ran.file) or self.count_of_records_or_none(ran.file) != count:
             self.note_fault(case, f"left as {ran.file[-TAIL:]!r} by the opening")
         elif crash_again:
             self.check_second_crash(case, ran, DiskMoment(case.image, (), 0, 0), frozenset([count]))
@@ -102,15 +102,15 @@ class Crashes:
         """Looks at the files that another crash leaves while the file is opened. The acknowledged records are also those that the opening
         printed."""
         others = [(other, image) for other in images.moments_of_run(ran.events, first.base, first.changes, first.safe)
-                  for image in images.files_at(other, self.rng, few=True)]
+                  for image in images.draw_files_at(other, self.rng, few=True)]
         for other, image in others if len(others) <= OTHER_FILES else self.rng.sample(others, OTHER_FILES):
             self.second += 1
-            count = self.count_of_records(image)
+            count = self.count_of_records_or_none(image)
             if count not in allowed or count < other.safe:
                 self.note_fault(case, f"a second crash left {image[-TAIL:]!r}, with {count} records and {other.safe} acknowledged")
                 return
 
-    def check_killed(self, ran):
+    def open_and_check_killed(self, ran):
         """Looks at the run as if the process was killed at each moment, and the system went on: the next opening sees all writes, and a
         crash may still take those that weren't synced."""
         found = [moment for moment in images.moments_of_run(ran.events, given_by=self.given.given_by) if moment.changes]
@@ -120,65 +120,65 @@ class Crashes:
             case = CrashedFile(moment.seen_file, moment, self.allowed_counts(moment))
             self.check_second_crash(case, ran_again, moment, case.allowed)
 
-    def check_printed_journal(self, cases):
+    def run_and_check_printed_journal(self, cases):
         """Compares the journals that are printed for files with the reader's, and the files afterwards."""
         for case, ran in zip(cases, self.desk.run_on_each([case.image for case in cases], ["--journal"])):
-            count = self.count_of_records(case.image)
+            count = self.count_of_records_or_none(case.image)
             if count is not None and (ran.status, ran.stdout, ran.stderr, ran.file) != (0, self.journal.text(count), b"", case.image):
                 self.note_fault(case, f"--journal with status {ran.status}, {ran.stderr[:80]!r}, {ran.stdout[-TAIL:]!r}")
 
-    def check_repaired(self):
+    def open_and_check_repaired(self):
         """Opens files with lines after the mark that doesn't count, or after another byte in its place; and opens again all files that a
         crash leaves meanwhile."""
         borders = sorted(self.given.borders)
         cases = []
         for count in [*borders[:2], *borders[-2:]]:
             for gap in (b"-", b"\n", b"?", b"-+", b"\0"):
-                image = HEAD + self.journal.marked(count) + gap + LEFT
+                image = HEAD + self.journal.marked_text(count) + gap + LEFT
                 cases.append(CrashedFile(image, DiskMoment(image, (), 0, count), frozenset([count])))
         left = []
         for case, ran in zip(cases, self.desk.run_on_each([case.image for case in cases])):
             self.check_opened(case, ran)
             for moment in images.moments_of_run(ran.events, case.image):
-                left += [CrashedFile(image, moment, case.allowed) for image in images.files_at(moment, self.rng, few=True)]
+                left += [CrashedFile(image, moment, case.allowed) for image in images.draw_files_at(moment, self.rng, few=True)]
         for case, ran in zip(left, self.desk.run_on_each([case.image for case in left])):
             self.check_file(case)
             self.check_opened(case, ran, crash_again=False)
 
-    def check_going_on(self, cases):
+    def run_and_check_rest(self, cases):
         """Opens files with the rest of the input, which has to end as the run did."""
         for case in cases:
-            count = self.count_of_records(case.image)
+            count = self.count_of_records_or_none(case.image)
             if count is None:
                 continue
             file = self.desk.make_folder() / "day.desk"
             file.write_bytes(case.image)
             rest = journals.draw_batches(self.rng, self.journal.records[count:], 9)
             ran = self.desk.run(file, rest)
-            if (ran.status, ran.stdout, ran.stderr) != (0, self.journal.printed(len(self.journal)), b""):
+            if (ran.status, ran.stdout, ran.stderr) != (0, self.journal.printed_text(len(self.journal)), b""):
                 self.note_fault(case, f"the rest of the input: status {ran.status}, {ran.stderr[:80]!r}, {ran.stdout[-TAIL:]!r}")
-            elif parse_marked_lines(file.read_bytes()) != self.journal.marked(len(self.journal)):
+            elif parse_marked_lines(file.read_bytes()) != self.journal.marked_text(len(self.journal)):
                 self.note_fault(case, "the rest of the input isn't in the file as given")
 
-    def check_moments(self, sample=None):
+    def try_moments(self, sample=None):
         """Opens a sample of the files by the program, or all, and looks at each of them. Returns the faults."""
-        ran = self.run_whole_input()
+        ran = self.run_and_check_whole_input()
         chosen, next_ones = [], []
-        for case in self.crashed_files(ran):
+        for case in self.draw_crashed_files(ran):
             self.check_file(case)
-            self.sample_case(chosen, case, sample or CHOSEN)
+            self.keep_drawn_case(chosen, case, sample or CHOSEN)
             if sample is None:
                 next_ones.append(case)
             if len(next_ones) == CHOSEN:
-                self.check_by_program(next_ones)
+                self.open_and_check_files(next_ones)
                 next_ones = []
-        self.check_by_program(chosen if sample else next_ones)
-        self.check_killed(ran)
-        self.check_printed_journal(chosen[: len(chosen) // 4])
-        self.check_going_on(self.rng.sample(chosen, min(len(chosen), 20)))
+        self.open_and_check_files(chosen if sample else next_ones)
+        self.open_and_check_killed(ran)
+        self.run_and_check_printed_journal(chosen[: len(chosen) // 4])
+        self.run_and_check_rest(self.rng.sample(chosen, min(len(chosen), 20)))
         return self.wrong
 
-    def sample_case(self, chosen, case, most):
+    def keep_drawn_case(self, chosen, case, most):
         """Keeps a sample of all files so far."""
         if len(chosen) < most:
             chosen.append(case)
@@ -187,13 +187,13 @@ class Crashes:
         if place < most:
             chosen[place] = case
 
-    def check_by_program(self, cases):
+    def open_and_check_files(self, cases):
         for case, opened in zip(cases, self.desk.run_on_each([case.image for case in cases])):
             self.check_opened(case, opened, crash_again=self.rng.random() < OPENED_TWICE / max(OPENED_TWICE, self.opened))
 
-    def check_moments_and_repairs(self, sample=None):
-        self.check_moments(sample)
-        self.check_repaired()
+    def try_moments_and_repairs(self, sample=None):
+        self.try_moments(sample)
+        self.open_and_check_repaired()
         return self.wrong
 
 
@@ -212,7 +212,7 @@ def check_crashes(counts, desk, dam, whole):
     files = opened = second = killed = 0
     for about, given in draw_inputs(dam, whole):
         crashes = Crashes(desk, about, given, about)
-        wrong = crashes.check_moments_and_repairs(None if whole else 2_000)
+        wrong = crashes.try_moments_and_repairs(None if whole else 2_000)
         counts.passed += crashes.opened - min(crashes.opened, len(wrong))
         counts.failed += len(wrong)
         print("".join(f"differs: {line}\n" for line in wrong[:SHOWN]), end="")

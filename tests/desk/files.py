@@ -1,6 +1,7 @@
 """Files that aren't a desk's, full journals, hostile lines, and lines that are cut: a named fault, and nothing is changed."""
 
 import contextlib
+import errno
 import itertools
 import os
 import random
@@ -167,9 +168,9 @@ class FileTests:
             make(path)
             mode = oct(path.lstat().st_mode) if os.path.lexists(path) else "no file"
             about = f"{sorted(it.name for it in folder.iterdir())}, {mode}"
-            before = list_folder(folder)
+            before = read_facts_by_name(folder)
             self.check_run(about, self.run_on_text([path]), status, b"", fault)
-            kept = {name: facts for name, facts in list_folder(folder).items() if name != "day.desk-wal" and name in before}
+            kept = {name: facts for name, facts in read_facts_by_name(folder).items() if name != "day.desk-wal" and name in before}
             self.counts.check(f"{about} stays as it is", kept == {name: facts for name, facts in before.items() if name != "day.desk-wal"})
             if may_print is False:
                 self.check_run(f"--journal of {about}", self.run_on_text(["--journal", path]), status, b"", fault)
@@ -246,13 +247,15 @@ class FileTests:
     def check_command_lines(self):
         """Command lines that aren't the desk's."""
         lines = [[], ["a", "b"], ["a", "--journal"], ["--journal"], ["--journal", "a", "b"], ["--journal"] * 3, ["--other"], ["-h"], ["-"],
-                 ["--help", "a"], [NO_TEXT], ["--journal", NO_TEXT]]  # fmt: skip
+                 ["--help", "a"], ["a", ""], ["", "a"], ["--journal", "a", ""], ["", "--help"], [NO_TEXT],
+                 ["--journal", NO_TEXT]]  # fmt: skip
         for words in lines:
             folder = self.desk.make_folder()
             got = self.run_on_text(words, cwd=folder)
             self.counts.check(f"the words {words}: {got!r:.200}", (got.status, got.stdout) == (2, b"") and got.stderr.startswith(USAGE))
             self.counts.check(f"the words {words} make no file", not list(folder.iterdir()))
-        self.counts.check("no file's name is empty", self.run_on_text([""]).status in (2, 4))
+        for words in ([""], ["--journal", ""]):
+            self.check_run(f"an empty name in {words}", self.run_on_text(words), 4, b"", fault_of_error(errno.ENOENT))
         got = self.run_on_text(["--help"])
         self.check_run("the help", got, 0, HELP, b"")
 
@@ -285,7 +288,7 @@ class FileTests:
         for length in range(len(text) + 1):
             file = self.desk.make_folder() / "day.desk"
             reader = streams.expected_of(text[:length])
-            right = b"".join(reader.run_dam_for_output(self.dam))
+            right = b"".join(reader.capture_output_of_dam(self.dam))
             self.check_run(f"an input of {length} bytes", self.run_on_text([file], text[:length]), 0, right, b"")
             marked = b"".join(b"+" + record for record in reader.records)
             self.counts.check(f"the file after {length} bytes", parse_marked_lines(file.read_bytes()) == marked)
@@ -365,15 +368,15 @@ class FileTests:
         fields = b"fault,%d,FieldCount\n"
         more = [full % (count + 1), fields % (count + 2), day, journal.answers[count],
                 full % (count + 5), fields % (count + 6), day, full % (count + 8)]  # fmt: skip
-        self.check_run(f"a full journal of {about}", got, 0, journal.printed(count) + b"".join(more), b"")
+        self.check_run(f"a full journal of {about}", got, 0, journal.printed_text(count) + b"".join(more), b"")
         before = file.read_bytes(), file.stat().st_mtime_ns
-        self.counts.check(f"the file of {about}", before[0] == HEAD + journal.marked(len(journal)) + b"-")
+        self.counts.check(f"the file of {about}", before[0] == HEAD + journal.marked_text(len(journal)) + b"-")
         got = self.run_on_text([file], CLOSE + extra[0])
-        self.check_run(f"a full journal of {about} is opened", got, 0, journal.printed(len(journal)) + full % 1 + full % 2, b"")
+        self.check_run(f"a full journal of {about} is opened", got, 0, journal.printed_text(len(journal)) + full % 1 + full % 2, b"")
         self.counts.check(f"a full journal of {about} stays as it is", before == (file.read_bytes(), file.stat().st_mtime_ns))
         shown = self.run_on_text(["--journal", file])
         self.check_run(f"the journal of {about}", shown, 0, journal.text(len(journal)), b"")
-        self.counts.check(f"the journal of {about} is replayed", self.dam.replay(shown.stdout).stdout == journal.printed(len(journal)))
+        self.counts.check(f"the journal of {about} is replayed", self.dam.capture_replay(shown.stdout).stdout == journal.printed_text(len(journal)))
 
     def check_half_a_line(self):
         """Whole lines are answered while the next one is still to come whole."""
@@ -458,13 +461,13 @@ class FileTests:
         full = file_of_records(DAY, *[CLOSE] * (rules.MOST_RECORDS - 1))
         after_day = [(word, file_of_records(DAY), line) for word, line in LINES_BY_FAULT.items()]
         for word, before, line in [("NotDay", b"", CLOSE), ("JournalFull", full, CLOSE), *after_day]:
-            few, many = (self.run_for_peak_of_fault(program, word, before, line * count) for count in (FEW_FAULTS, MANY_FAULTS))
+            few, many = (self.measure_peak_of_fault(program, word, before, line * count) for count in (FEW_FAULTS, MANY_FAULTS))
             about = f"{MANY_FAULTS:,} lines with the fault {word} hold {many:,} bytes, and {FEW_FAULTS:,} of them {few:,}"
             self.counts.check(about, many < few + BATCH)
 
-    def run_for_peak_of_fault(self, program, word, before, text):
+    def measure_peak_of_fault(self, program, word, before, text):
         """The most bytes that a desk holds while it answers lines with this fault."""
-        printed, peak, _ = program.run_for_peak([write_desk_file(self.desk.make_folder(), before)], text)
+        printed, peak, _ = program.measure_peak([write_desk_file(self.desk.make_folder(), before)], text)
         answered = len(re.findall(rb"^fault,\d+,%b$" % word.encode(), printed.stdout, re.MULTILINE))
         is_right = (printed.status, printed.stderr, answered) == (0, b"", text.count(b"\n"))
         self.counts.check(f"{answered:,} lines are answered with the fault {word}: {printed!r:.300}", is_right)
@@ -477,7 +480,7 @@ def write_desk_file(folder, bytes_=b"x"):
     return path
 
 
-def list_folder(folder):
+def read_facts_by_name(folder):
     """The names in a folder, each with its kind, length and time."""
     facts = {path.name: path.lstat() for path in folder.iterdir()}
     return {name: (it.st_mode, it.st_size, it.st_mtime_ns) for name, it in facts.items()}

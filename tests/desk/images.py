@@ -111,7 +111,7 @@ def moments_of_run(events, base=b"", changes=(), safe=0, given_by=lambda lines: 
     yield DiskMoment(base, tuple(changes), safe, begun)
 
 
-def torn_files(file, change, rng, few=False):
+def draw_torn_files(file, change, rng, few=False):
     """The files after a change that wasn't synced. Few: only some of them."""
     at, new = change
     yield file
@@ -149,16 +149,16 @@ def torn_files(file, change, rng, few=False):
         yield front + b"".join(rng.choice([new, full, noise])[cell : cell + 16] for cell in range(0, count, 16)) + tail
 
 
-def files_at(moment, rng, few=False):
+def draw_files_at(moment, rng, few=False):
     """The files that a crash may leave at a moment, each once."""
     seen = set()
-    for image in files_at_repeated(moment, rng, few):
+    for image in draw_files_at_repeated(moment, rng, few):
         if hash(image) not in seen:
             seen.add(hash(image))
             yield image
 
 
-def files_at_repeated(moment, rng, few):
+def draw_files_at_repeated(moment, rng, few):
     """The same, some of them several times: each change torn, with the others kept or lost."""
     if not moment.changes:
         yield moment.base
@@ -170,7 +170,7 @@ def files_at_repeated(moment, rng, few):
             before = moment.base
             for at in range(which):
                 before = with_change(before, moment.changes[at]) if is_kept[at] else before
-            for image in torn_files(before, moment.changes[which], rng, few or any(way)):
+            for image in draw_torn_files(before, moment.changes[which], rng, few or any(way)):
                 for at in range(which + 1, len(moment.changes)):
                     image = with_change(image, moment.changes[at]) if is_kept[at] else image
                 yield image

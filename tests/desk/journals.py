@@ -4,10 +4,9 @@ import itertools
 import random
 import subprocess
 
+from shared import days
 from shared.printed import Printed  # by which `lib` is found
 from lib.base import rules
-
-import days  # of tests/fuzz
 
 CLOSE = b"close,,,,,,,,\n"
 WIDE = b";".join(b"%d:%d" % (period, rules.GREATEST_VOLUME) for period in range(1, rules.GREATEST_PERIOD + 1))
@@ -23,7 +22,8 @@ class DamProgram:
     def __init__(self, path):
         self.path = str(path)
 
-    def replay(self, text):
+    def capture_replay(self, text):
+        """The status, the output and the standard error of `dam replay`."""
         ran = subprocess.run([self.path, "replay"], input=text, stdout=subprocess.PIPE, stderr=subprocess.PIPE)
         return Printed(ran.returncode, ran.stdout, ran.stderr)
 
@@ -33,7 +33,7 @@ class Journal:
 
     def __init__(self, records, dam):
         self.records = records
-        printed = dam.replay(b"".join(records)) if records else Printed(0, b"", b"")
+        printed = dam.capture_replay(b"".join(records)) if records else Printed(0, b"", b"")
         if printed.status or printed.stdout.count(b"\n") != len(records):
             raise ValueError(f"no journal: {printed.stderr!r}: {records[:3]}")
         self.answers = printed.stdout.splitlines(keepends=True)
@@ -43,14 +43,14 @@ class Journal:
     def __len__(self):
         return len(self.records)
 
-    def marked(self, count):
+    def marked_text(self, count):
         """The first records, as a file has them."""
         return self.all_marked[: self.lengths[count]]
 
     def text(self, count):
         return b"".join(self.records[:count])
 
-    def printed(self, count):
+    def printed_text(self, count):
         """The answers to the first records."""
         return b"".join(self.answers[:count])
 

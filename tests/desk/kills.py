@@ -48,9 +48,9 @@ class Kills:
         """How many records the file has; None if they aren't the first ones of the journal."""
         marked = parse_marked_lines(self.file.read_bytes()) if self.file.exists() else b""
         count = None if marked is None else marked.count(b"\n")
-        return count if count is not None and marked == self.journal.marked(count) else None
+        return count if count is not None and marked == self.journal.marked_text(count) else None
 
-    def write_records(self, process, count):
+    def write_records_to_process(self, process, count):
         """Gives the records from there on, as fast as the desk takes them, in batches of any length."""
         rng = random.Random(self.rng.random())
         try:
@@ -67,7 +67,7 @@ class Kills:
         surroundings = {**os.environ, **self.desk.environment_for(self.file, DESK_SLOW=self.rng.choice(SLOW))}
         process = subprocess.Popen([*self.words, str(self.file)], stdin=subprocess.PIPE, stdout=subprocess.PIPE, env=surroundings,
                                    start_new_session=True)
-        giver = threading.Thread(target=self.write_records, args=(process, held))
+        giver = threading.Thread(target=self.write_records_to_process, args=(process, held))
         giver.start()
         text = b"" if is_at_once else os.read(process.stdout.fileno(), 1 << 16)
         killer = threading.Timer(self.rng.uniform(0, LONGEST), os.killpg, (process.pid, signal.SIGKILL))
@@ -80,13 +80,13 @@ class Kills:
         process.stdout.close()
         return text
 
-    def check_round(self, may_be_at_once=True):
+    def run_kill_and_check(self, may_be_at_once=True):
         if self.file is None:
             self.file, self.files = self.desk.make_folder() / "day.desk", self.files + 1
         before = self.read_held() or 0
         text = self.run_and_kill(before, may_be_at_once and self.rng.random() < 0.3)
         count, safe = self.read_held(), images.count_acknowledged(text[: text.rfind(b"\n") + 1], 0)
-        whole = self.journal.printed(len(self.journal))
+        whole = self.journal.printed_text(len(self.journal))
         if count is None or count < max(before, safe) or not whole.startswith(text):
             self.wrong.append(f"{before} records, {safe} acknowledged, now {count}; the output ends with {text[-60:]!r}")
             self.file = None
@@ -98,35 +98,35 @@ class Kills:
         if count > ENOUGH * len(self.journal):
             self.file = None
 
-    def check_last_file(self):
+    def open_and_check_last_file(self):
         """The last file is opened and given the rest."""
         if self.file is None:
             return
         count = self.read_held() or 0
         rest = b"".join(self.journal.records[count:])
         ran = subprocess.run([*self.desk.words, str(self.file)], input=rest, stdout=subprocess.PIPE, stderr=subprocess.PIPE)
-        if (ran.returncode, ran.stdout, ran.stderr) != (0, self.journal.printed(len(self.journal)), b""):
+        if (ran.returncode, ran.stdout, ran.stderr) != (0, self.journal.printed_text(len(self.journal)), b""):
             self.wrong.append(f"opened after the last kill, and given the rest: status {ran.returncode}, {ran.stderr[:80]!r}")
 
 
-def run_dam_for_journal(dam):
+def capture_journal_of_dam(dam):
     return journals.Journal(list(draw_load(random.Random("load"), RECORDS)), dam)
 
 
 def write_planted_desk(desk, dam_journal, room):
     """The words of a desk that answers early."""
     replies = Path(room) / "replies"
-    replies.write_bytes(dam_journal.printed(len(dam_journal)))
+    replies.write_bytes(dam_journal.printed_text(len(dam_journal)))
     return [sys.executable, "-B", str(EARLY), str(replies), *desk.words]
 
 
 def check_kills(counts, desk, dam, whole):
-    given = run_dam_for_journal(dam)
+    given = capture_journal_of_dam(dam)
     begun, rounds = time.monotonic(), MANY if whole else ROUNDS
     kills = Kills(desk, desk.words, given, "kills")
     for _ in range(rounds):
-        kills.check_round()
-    kills.check_last_file()
+        kills.run_kill_and_check()
+    kills.open_and_check_last_file()
     counts.passed += rounds + 1 - min(rounds + 1, len(kills.wrong))
     counts.failed += len(kills.wrong)
     print("".join(f"differs: {line}\n" for line in kills.wrong[:5]), end="")
@@ -134,7 +134,7 @@ def check_kills(counts, desk, dam, whole):
     counts.check(f"{kills.unanswered} records were kept without an answer", not whole or kills.unanswered > 0)
     early = Kills(desk, write_planted_desk(desk, given, desk.room), given, "planted")
     for _ in range(PLANTED):
-        early.check_round(may_be_at_once=False)
+        early.run_kill_and_check(may_be_at_once=False)
     counts.check(f"answers before the desk's are found by {PLANTED} kills", bool(early.wrong))
     print(f"kills: {rounds} of {kills.files} files, {kills.acknowledged:,} records acknowledged, {kills.unanswered:,} others kept; "
           f"{len(early.wrong)} of {PLANTED} find the planted early answers; {time.monotonic() - begun:.1f} s", flush=True)

@@ -11,9 +11,9 @@ import time
 from concurrent.futures import ThreadPoolExecutor
 
 from shared import records
-from shared.instructions import DRAWN, TIMES, check_and_print_millions, run_for_instructions
+from shared.instructions import DRAWN, TIMES, check_and_print_millions, measure_instructions
 from shared.preload import HostileProgram, RefusedCalls  # by which `lib` is found
-from shared.records import journal_text, run_for_colliding_names, submits_of
+from shared.records import journal_text, capture_colliding_names, submits_of
 from lib.base import rules
 
 ABOUT = ["in a new file", "in a file that is opened again", "in a printed journal"]
@@ -27,7 +27,7 @@ def run_new_again_and_journal(program, desk, records, refusal, periods=24):
     """Yields the instructions of a desk with a new file that takes the records, with that file again, and for the file's journal."""
     file = desk.make_folder() / "day.desk"
     for words, data in [([file], journal_text(records, True, periods)), ([file], b""), (["--journal", file], b"")]:
-        yield run_for_instructions(program, words, data, refusal)
+        yield measure_instructions(program, words, data, refusal)
 
 
 def check_names(counts, desk, dam, whole):
@@ -36,7 +36,7 @@ def check_names(counts, desk, dam, whole):
         return
     begun = time.monotonic()
     program = HostileProgram(desk.words[0], desk.room)
-    others, colliding = submits_of(records.ordinary_names()), submits_of(run_for_colliding_names(desk.room))
+    others, colliding = submits_of(records.ordinary_names()), submits_of(capture_colliding_names(desk.room))
     tried = [run_new_again_and_journal(program, desk, others, DRAWN), run_new_again_and_journal(program, desk, colliding, DRAWN)]
     with ThreadPoolExecutor() as pool:
         fixed = pool.submit(next, run_new_again_and_journal(program, desk, colliding, FIXED))
@@ -47,13 +47,13 @@ def check_names(counts, desk, dam, whole):
         counts.check(took, taken < TIMES * by_others)
     for about, taken, millions in zip(ABOUT, usual, MILLIONS):
         check_and_print_millions(counts, f"other names {about} take", taken, millions)
-    some = submits_of(run_for_colliding_names(desk.room, SOME))
+    some = submits_of(capture_colliding_names(desk.room, SOME))
     for periods in set(rules.DAYS) - {24}:
         each = run_new_again_and_journal(program, desk, some, DRAWN, periods)
         for about, taken, by_others in zip(ABOUT, each, usual):
             took = f"{SOME:,} names that collide {about}, on {periods} periods, take {taken / by_others:.1f} times the instructions of"
             counts.check(f"{took} {records.ORDERS:,} others", taken < by_others)
-    full = run_for_instructions(program, [desk.make_folder() / "day.desk"], journal_text(records.full_journal()), DRAWN)
+    full = measure_instructions(program, [desk.make_folder() / "day.desk"], journal_text(records.full_journal()), DRAWN)
     check_and_print_millions(counts, "a full journal takes", full, FULL)
     took = f"with the fixed seed, they take {fixed.result() / usual[0]:.1f} times those"
     print(took, flush=True)

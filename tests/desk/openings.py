@@ -74,7 +74,7 @@ class OpeningTests:
         self.counts.check(f"{about}: {asked} bytes are asked for at a time", asked == {BATCH})
         entered = b"+" + CLOSE if marked else b""
         self.counts.check(f"{about}: the close", parse_marked_lines(file.read_bytes()) == marked + entered)
-        self.check_printed_and_unlink(about, file)
+        self.run_and_check_printed_and_remove(about, file)
 
     def check_same(self, about, found, right):
         self.counts.check(f"{about} the calls {found} in place of {right}", found == right)
@@ -83,7 +83,7 @@ class OpeningTests:
         made = sum(event.kind == OUTPUT for event in ran.events)
         self.counts.check(f"{about}: {made} calls print {len(ran.stdout):,} bytes", made == (ran.stdout != b""))
 
-    def check_printed_and_unlink(self, about, file):
+    def run_and_check_printed_and_remove(self, about, file):
         """Prints the journal of a file: each byte of it is read once, in order."""
         at, ran = 0, self.desk.run(file, words=["--journal"])
         self.check_printed_once(f"the journal of {about}", ran)
@@ -98,10 +98,10 @@ class OpeningTests:
         _, *commands = kills.draw_load(random.Random(f"openings {periods} {count}"), count)
         journal = Journal([b"day,%d,,,,,,,\n" % periods, *commands], self.dam)
         file = self.desk.make_folder() / "day.desk"
-        file.write_bytes(HEAD + journal.marked(len(journal)) + b"-")
+        file.write_bytes(HEAD + journal.marked_text(len(journal)) + b"-")
         ran = self.desk.run(file)
         about = f"a day of {periods} periods and {count:,} commands"
-        is_right = (ran.status, ran.stdout, ran.stderr) == (0, journal.printed(len(journal)), b"")
+        is_right = (ran.status, ran.stdout, ran.stderr) == (0, journal.printed_text(len(journal)), b"")
         self.counts.check(f"{about} is opened again: status {ran.status}, {ran.stderr[:80]!r}", is_right)
         shown = self.desk.run(file, words=["--journal"])
         is_right = (shown.status, shown.stdout, shown.stderr) == (0, journal.text(len(journal)), b"")

@@ -15,7 +15,8 @@ from concurrent.futures import ThreadPoolExecutor
 import crashes
 import images
 import journals
-from shared.preload import RefusedCalls, prepare_environment, read_counts
+from files import HELP
+from shared.preload import RefusedCalls, make_environment, read_counts
 from device import ADVICE, CUT, EVERY, INPUT, LOCK, OPEN, OUTPUT, READ, SECONDS, STAT, SYNC, WRITE, RefusedFileCalls
 
 MODE = "M"
@@ -71,7 +72,7 @@ class RunsWithRefusals(crashes.Crashes):
     def __init__(self, desk, about, given, start=None):
         super().__init__(desk, about, given, about)
         self.start, self.runs = start, 0
-        self.held = 0 if start is None else self.count_of_records(start)
+        self.held = 0 if start is None else self.count_of_records_or_none(start)
 
     def write_held_file(self):
         file = self.desk.make_folder() / "day.desk"
@@ -81,8 +82,8 @@ class RunsWithRefusals(crashes.Crashes):
 
     def is_front(self, text, is_whole):
         """Whether this was printed for whole batches, or for a beginning of them."""
-        fronts = [self.journal.printed(count) for count in {0, self.held} | self.given.borders]
-        return text in fronts if is_whole else self.journal.printed(len(self.journal)).startswith(text)
+        fronts = [self.journal.printed_text(count) for count in {0, self.held} | self.given.borders]
+        return text in fronts if is_whole else self.journal.printed_text(len(self.journal)).startswith(text)
 
     def given_by(self, lines):
         return max(self.held, self.given.given_by(lines))
@@ -93,21 +94,21 @@ class RunsWithRefusals(crashes.Crashes):
             self.wrong.append(f"{about}: a failed write or sync was followed by another one")
         for moment in images.moments_of_run(ran.events, self.start or b"", safe=self.held, given_by=self.given_by):
             allowed = [count for count in {self.held} | self.given.borders if moment.safe <= count <= max(moment.given, moment.safe)]
-            for image in images.files_at(moment, self.rng, few=True):
+            for image in images.draw_files_at(moment, self.rng, few=True):
                 self.files += 1
-                if self.count_of_records(image) not in allowed:
-                    self.wrong.append(f"{about}: a crash leaves {self.count_of_records(image)} records for {allowed}")
+                if self.count_of_records_or_none(image) not in allowed:
+                    self.wrong.append(f"{about}: a crash leaves {self.count_of_records_or_none(image)} records for {allowed}")
                     return
         again = self.desk.run(file)
         if not file.exists() or (again.status, again.stderr) != (0, b""):
             self.wrong.append(f"{about}: opened again with status {again.status}, {again.stderr[:80]!r}")
             return
-        count = self.count_of_records(file.read_bytes())
+        count = self.count_of_records_or_none(file.read_bytes())
         safe = images.count_acknowledged(ran.stdout, self.held)
-        if count is None or count < safe or again.stdout != self.journal.printed(count):
+        if count is None or count < safe or again.stdout != self.journal.printed_text(count):
             self.wrong.append(f"{about}: opened again with {count} records, and {safe} were acknowledged")
 
-    def run_refused(self, refusal, check=None):
+    def run_and_check_refused(self, refusal, check=None):
         """Runs the desk with a call refused."""
         file = self.write_held_file()
         ran = self.desk.run(file, self.given.batches, refusal)
@@ -126,7 +127,7 @@ class RunsWithRefusals(crashes.Crashes):
         return ran.status == MACHINE and is_line and self.is_front(ran.stdout, True)
 
     def is_whole(self, _, ran):
-        return (ran.status, ran.stderr, ran.stdout) == (0, b"", self.journal.printed(len(self.journal)))
+        return (ran.status, ran.stderr, ran.stdout) == (0, b"", self.journal.printed_text(len(self.journal)))
 
     def is_short(self, refusal, ran):
         """Whether the run wasn't disturbed by a short write. A write of nothing is a fault."""
@@ -158,21 +159,21 @@ class RunsWithRefusals(crashes.Crashes):
             self.wrong.append(f"{self.about}: no call refused: status {ran.status}, {ran.stderr[:80]!r}, calls {made}")
             return self.wrong
         with ThreadPoolExecutor(self.desk.jobs) as pool:
-            list(pool.map(lambda row: self.run_refused(*row), self.refusals_with_checks(made)))
+            list(pool.map(lambda row: self.run_and_check_refused(*row), self.refusals_with_checks(made)))
         return self.wrong
 
 
-def run_with_refused_calls(desk, file, batches, refusal):
+def run_with_refused_calls(desk, file, batches, refusal, words=()):
     """Runs the desk with calls refused by the library of refuse.c, and returns the run and the number of such calls."""
     counts = file.with_suffix(".calls")
-    more = prepare_environment(f"{desk.library}:{desk.room}/refuse.so", refusal, counts)
-    return desk.run(file, batches, more=more), read_counts(counts)[0]
+    more = make_environment(f"{desk.library}:{desk.room}/refuse.so", refusal, counts)
+    return desk.run(file, batches, words=words, more=more), read_counts(counts)[0]
 
 
 class RunsWithoutMemory(RunsWithRefusals):
     """The same with calls for memory refused."""
 
-    def run_refusing_memory(self, numbers):
+    def run_and_check_without_memory(self, numbers):
         first, last = numbers
         file = self.write_held_file()
         ran, made = run_with_refused_calls(self.desk, file, self.given.batches, RefusedCalls("memory", first, last))
@@ -184,24 +185,26 @@ class RunsWithoutMemory(RunsWithRefusals):
         return made
 
     def check_refusals(self):
-        made = self.run_refusing_memory((EVERY, EVERY))
+        made = self.run_and_check_without_memory((EVERY, EVERY))
         if made < 10:
             self.wrong.append(f"{self.about}: {made} growths are counted")
         rows = [(first, last) for first in range(1, made + 1) for last in (first, EVERY)]
         with ThreadPoolExecutor(self.desk.jobs) as pool:
-            list(pool.map(self.run_refusing_memory, rows))
+            list(pool.map(self.run_and_check_without_memory, rows))
         return self.wrong
+
+
+def limit_files(bytes_):
+    """Files of this process may not grow beyond this length."""
+    signal.signal(signal.SIGXFSZ, signal.SIG_IGN)
+    resource.setrlimit(resource.RLIMIT_FSIZE, (bytes_, bytes_))
 
 
 def run_with_file_limit(desk, given, bytes_, stdout=subprocess.PIPE):
     """A run whose files may not grow beyond this length, and the desk's file."""
-    def limit():
-        signal.signal(signal.SIGXFSZ, signal.SIG_IGN)
-        resource.setrlimit(resource.RLIMIT_FSIZE, (bytes_, bytes_))
-
     file = desk.make_folder() / "day.desk"
     ran = subprocess.run([*desk.words, str(file)], input=b"".join(given.batches), stdout=stdout, stderr=subprocess.PIPE,
-                         preexec_fn=limit, timeout=SECONDS)
+                         preexec_fn=lambda: limit_files(bytes_), timeout=SECONDS)
     return ran, file
 
 
@@ -221,11 +224,12 @@ def check_real_refusals(counts, desk, dam, given):
         line = f"file: the file can't be written: {os.strerror(errno.EFBIG)} (os error {errno.EFBIG})\n"
         counts.check(f"a file of at most {bytes_} bytes: {ran}", (ran.returncode, ran.stdout, ran.stderr.decode()) == (MACHINE, b"", line))
         again = desk.run(file, given.batches)
-        counts.check(f"a file of at most {bytes_} bytes, opened again", again.stdout.endswith(given.journal.printed(len(given.journal))))
-    whole = given.journal.printed(len(given.journal))
+        is_whole = again.stdout.endswith(given.journal.printed_text(len(given.journal)))
+        counts.check(f"a file of at most {bytes_} bytes, opened again", is_whole)
+    whole = given.journal.printed_text(len(given.journal))
     many = journals.draw_input(dam, "refused many", journals.draw_day, 9_000)
     for answered, bytes_ in [*[(given, it) for it in (0, 1, 7, len(whole) - 1)], *[(many, it) for it in (65_536, 65_537, 90_000)]]:
-        printed = answered.journal.printed(len(answered.journal))
+        printed = answered.journal.printed_text(len(answered.journal))
         ran, answers, file = run_with_full_output(desk, answered, bytes_)
         line = f"device: write after {bytes_} bytes\n"
         counts.check(f"answers cut off after {bytes_} bytes: {ran.returncode}, {ran.stderr}, {answers[-80:]}",
@@ -242,9 +246,69 @@ def check_real_refusals(counts, desk, dam, given):
     counts.check("a full device: the first batch is in the file", count in given.borders and count > 0)
 
 
+def write_desk_file_of(desk, given):
+    """The file of a desk that has entered the input."""
+    file = desk.make_folder() / "day.desk"
+    desk.run(file, given.batches)
+    return file
+
+
+def check_texts_cut_off(counts, desk, given):
+    """The journal and the help, printed to a full device, to a pipe that nobody reads, and to a file that has room for fewer bytes."""
+    file = write_desk_file_of(desk, given)
+    for words, text in [(["--journal", str(file)], given.journal.text(len(given.journal))), (["--help"], HELP)]:
+        def check_run(about, bytes_, stdout, **how):
+            how = {"stdin": subprocess.DEVNULL, "stdout": stdout, "stderr": subprocess.PIPE, "timeout": SECONDS, **how}
+            ran = subprocess.run([*desk.words, *words], **how)
+            line = b"device: write after %d bytes\n" % bytes_
+            counts.check(f"{words[0]} {about}: {ran}", (ran.returncode, ran.stderr) == (MACHINE, line))
+
+        with open("/dev/full", "wb") as full:
+            check_run("to a full device", 0, full)
+        ours, theirs = os.pipe()
+        os.close(ours)
+        check_run("to a pipe that nobody reads", 0, theirs, restore_signals=False)
+        os.close(theirs)
+        for bytes_ in (0, 1, 7, len(text) - 1):
+            with open(desk.make_folder() / "printed", "w+b") as printed:
+                check_run(f"cut off after {bytes_} bytes", bytes_, printed, preexec_fn=lambda: limit_files(bytes_))
+                printed.seek(0)
+                counts.check(f"{words[0]} cut off after {bytes_} bytes: the bytes before", printed.read() == text[:bytes_])
+
+
+def check_refused_journal(counts, desk, given):
+    """Each call of `--journal` refused in turn: of the file, of the output, and for memory. The file stays as it is. The kit's library makes
+    a read again that a signal interrupts."""
+    file, text, words = write_desk_file_of(desk, given), given.journal.text(len(given.journal)), ["--journal"]
+    before = file.read_bytes()
+    ran, made = run_with_refused_calls(desk, file, (), RefusedCalls("memory"), words)
+    kinds = {event.kind for event in ran.events}
+    counts.check(f"--journal with no call refused: {ran.stderr}, {kinds}, {made}",
+                 (ran.status, ran.stdout, ran.stderr) == (0, text, b"") and {OPEN, READ, OUTPUT} <= kinds and made > 1)
+    rows = [RefusedFileCalls(kind, number, number, getattr(errno, name)) for kind in kinds for name in ERRORS[kind].split()
+            for number in range(1, 1 + sum(event.kind == kind for event in ran.events))]  # fmt: skip
+
+    def check_row(row):
+        ran = desk.run(file, refusal=row, words=words)
+        own = b"device: write after %d bytes\n" % len(ran.stdout)
+        line = own if row.kind == OUTPUT else f"file: {os.strerror(row.error)} (os error {row.error})\n".encode()
+        is_read_again = (row.kind, row.error) == (READ, errno.EINTR)
+        right = (0, text, b"") if is_read_again else (MACHINE, text[: len(ran.stdout)] if row.kind == OUTPUT else b"", line)
+        counts.check(f"--journal: {row}: {ran}", (ran.status, ran.stdout, ran.stderr) == right)
+
+    with ThreadPoolExecutor(desk.jobs) as pool:
+        list(pool.map(check_row, rows))
+    for number in range(1, made + 1):
+        for last in (number, EVERY):
+            ran, _ = run_with_refused_calls(desk, file, (), RefusedCalls("memory", number, last), words)
+            is_right = (ran.status, ran.stderr, ran.stdout) in [(MACHINE, MEMORY, b""), (0, b"", text)]
+            counts.check(f"--journal: growth {number} to {last} refused: {ran}", is_right)
+    counts.check("--journal: the file is as it was", file.read_bytes() == before)
+
+
 def check_random_bytes(counts, desk, given):
     """Draws of random bytes refused: all, that of the library that opens a file, and that of the seed, which then is the fixed one."""
-    whole = given.journal.printed(len(given.journal))
+    whole = given.journal.printed_text(len(given.journal))
     for error in (errno.ENOSYS, errno.EPERM, errno.EOPNOTSUPP):
         own = f"{os.strerror(error)} (os error {error})\n".encode()
         for first, last, status, printed, line in [
@@ -265,7 +329,7 @@ def draw_inputs(dam, whole):
     yield "a new file", given, None
     held = sorted(given.borders)[1]
     rest = journals.DeskInput(given.journal, given.batches, [True] * len(given.journal))
-    broken = images.HEAD + given.journal.marked(held) + GARBAGE
+    broken = images.HEAD + given.journal.marked_text(held) + GARBAGE
     yield "a file after a crash", batches_after(rest, held), broken
     if whole:
         yield "the longest names", journals.draw_input(dam, "refused long", journals.draw_long_names, 12, most=5), None
@@ -293,5 +357,7 @@ def check_refused_calls(counts, desk, dam, whole):
             runs, files = runs + row.runs, files + row.files
     given = next(iter(draw_inputs(dam, False)))[1]
     check_real_refusals(counts, desk, dam, given)
+    check_texts_cut_off(counts, desk, given)
+    check_refused_journal(counts, desk, given)
     check_random_bytes(counts, desk, given)
     print(f"refusals: {runs:,} runs with a call refused, {files:,} files that a crash may leave after them", flush=True)

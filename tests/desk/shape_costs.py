@@ -1,6 +1,6 @@
-"""What a desk costs for journals of each shape, as `tests/hostile/shapes.py` has it for `dam`: with a new file, with that file opened
-again, for the journal of the file, and for the second half of the journal in a file that has the first. Files of more commands on each
-length of a day, of a full journal and with a torn end are only opened again; long lines come to a file that has only its day."""
+"""What a desk costs for journals of each shape, as `tests/hostile/costs_by_shape.py` has it for `dam`: with a new file, with that file
+opened again, for the journal of the file, and for the second half of the journal in a file that has the first. Files of more commands on
+each length of a day, of a full journal and with a torn end are only opened again; long lines come to a file that has only its day."""
 
 import itertools
 import shutil
@@ -11,7 +11,7 @@ import files
 from images import HEAD
 from shared import shapes
 from shared.cost_tables import Cost, check_costs, write_tables
-from shared.instructions import DRAWN, FIXED, run_for_counts, run_for_instructions
+from shared.instructions import DRAWN, FIXED, measure_counts, measure_instructions
 from shared.preload import HostileProgram, RefusedCalls  # by which `lib` is found
 from shared.records import full_journal, journal_text
 from streams import LONGEST
@@ -26,25 +26,25 @@ TORN = (20_000, 500_000, 10_000_000)  # bytes after the end of a file's lines
 DAY = b"day,24,,,,,,,\n"
 
 
-def journals_by_name():
+def named_journals():
     """Yields a journal of each shape, each command and each refusal."""
     for shape in (shapes.SHORT, shapes.LONG, *shapes.OTHERS):
-        first, kinds = list(shape.submits_of_book()), list(shapes.commands_by_name(shape))
+        first, kinds = list(shape.submits_of_book()), list(shapes.named_commands(shape))
         for about, records in kinds if shape is shapes.LONG else kinds[-1:]:
             yield f"{shape.periods}: {about}", journal_text([*first, *itertools.islice(records, shapes.COMMANDS)], True, shape.periods)
 
 
-def longer_journals_by_name():
+def named_longer_journals():
     """Yields a journal of each length of a day, and a full one."""
     for periods, count in COMMANDS.items():
         shape = shapes.Shape(periods, "BRAVO", "N-%d", False)
-        *_, (_, records) = shapes.commands_by_name(shape)
+        *_, (_, records) = shapes.named_commands(shape)
         first = list(shape.submits_of_book())
         yield f"{periods}: {count:,} commands", journal_text([*first, *itertools.islice(records, count - len(first))], False, periods)
     yield "24: all commands of a full journal", journal_text(full_journal())
 
 
-def run_for_count(program, words, data, refusal):
+def measure_count(program, words, data, refusal):
     """How many calls a run makes, or bytes it holds, which must end with status 0."""
     printed, count = program.run(words, data, refusal)
     if printed.status:
@@ -52,79 +52,79 @@ def run_for_count(program, words, data, refusal):
     return count
 
 
-def run_for_cost(program, words, data, others):
+def measure_cost(program, words, data, others):
     """What a run costs. It is made twice, and the second time with the other words: those of a file that is the same."""
-    found, growths = run_for_counts(program, words, data, JOURNAL_SEED if JOURNAL in words else SEED)
-    return Cost(found, run_for_count(program, others, data, RefusedCalls("peak")), growths)
+    found, growths = measure_counts(program, words, data, JOURNAL_SEED if JOURNAL in words else SEED)
+    return Cost(found, measure_count(program, others, data, RefusedCalls("peak")), growths)
 
 
-def run_for_costs_of_journal(program, desk, about, data):
+def measure_costs_of_journal(program, desk, about, data):
     """Yields the name of each run, and its cost."""
     file, copy = (desk.make_folder() / "day.desk" for _ in range(2))
-    yield f"new {about}", run_for_cost(program, [file], data, [copy])
-    yield f"again {about}", run_for_cost(program, [file], b"", [file])
-    yield f"journal {about}", run_for_cost(program, [JOURNAL, file], b"", [JOURNAL, file])
-    yield f"rest {about}", run_for_cost_of_rest(program, desk, data)
+    yield f"new {about}", measure_cost(program, [file], data, [copy])
+    yield f"again {about}", measure_cost(program, [file], b"", [file])
+    yield f"journal {about}", measure_cost(program, [JOURNAL, file], b"", [JOURNAL, file])
+    yield f"rest {about}", measure_cost_of_rest(program, desk, data)
 
 
-def run_for_costs_of_longer(program, desk, about, data):
+def measure_costs_of_longer(program, desk, about, data):
     """Yields what the file of a journal costs that is opened again."""
     file = desk.make_folder() / "day.desk"
-    run_for_count(program, [file], data, DRAWN)
-    yield f"again {about}", run_for_cost(program, [file], b"", [file])
+    measure_count(program, [file], data, DRAWN)
+    yield f"again {about}", measure_cost(program, [file], b"", [file])
 
 
-def run_for_cost_of_rest(program, desk, data):
+def measure_cost_of_rest(program, desk, data):
     """What the second half of a journal costs, whose first half a file has."""
     lines = data.splitlines(keepends=True)
     first, rest = (b"".join(part) for part in (lines[: len(lines) // 2], lines[len(lines) // 2 :]))
     file, copy = (desk.make_folder() / "day.desk" for _ in range(2))
     for path in (file, copy):
-        run_for_count(program, [path], first, DRAWN)
-    return run_for_cost(program, [file], rest, [copy])
+        measure_count(program, [path], first, DRAWN)
+    return measure_cost(program, [file], rest, [copy])
 
 
-def run_for_costs_of_torn(program, desk, count):
+def measure_costs_of_torn(program, desk, count):
     """Yields what the opening of a file costs that a crash left with line feeds after its lines: its end is repaired."""
     file, copy = (files.write_desk_file(desk.make_folder(), HEAD + b"+" + DAY + b"\n" * count) for _ in range(2))
-    yield f"again after {count:,} bytes torn", run_for_cost(program, [file], b"", [copy])
+    yield f"again after {count:,} bytes torn", measure_cost(program, [file], b"", [copy])
 
 
-def run_for_costs_of_lines(program, desk, length):
+def measure_costs_of_lines(program, desk, length):
     """Yields what lines cost whose first byte isn't ASCII: they are copied, but not read as records."""
     data = DAY + (b"\xff" + b"A" * (length - 1) + b"\n") * max(1, IN_ALL // length)
     file, copy = (desk.make_folder() / "day.desk" for _ in range(2))
-    yield f"new, lines of {length:,} bytes", run_for_cost(program, [file], data, [copy])
+    yield f"new, lines of {length:,} bytes", measure_cost(program, [file], data, [copy])
 
 
-def run_for_costs_of_small_reads(program, desk):
+def measure_costs_of_small_reads(program, desk):
     """Yields the runs of a desk that gets a few lines at a time, with a book of many orders after a cancel: it draws its own seeds."""
     shape = shapes.SHORT
-    amends = dict(shapes.commands_by_name(shape))["hourly orders amended"]
+    amends = dict(shapes.named_commands(shape))["hourly orders amended"]
     records = [*shape.submits_of_book(HELD), shape.cancel_of(shape.name_of(1)), *itertools.islice(amends, shapes.COMMANDS)]
     data, file = journal_text(records, True, shape.periods), desk.make_folder() / "day.desk"
-    found = run_for_instructions(program, [file], data, RefusedCalls("read", most=AT_ONCE))
+    found = measure_instructions(program, [file], data, RefusedCalls("read", most=AT_ONCE))
     yield f"new, {AT_ONCE} bytes a read", Cost(found)
 
 
-def run_for_costs(desk):
+def measure_costs(desk):
     program = HostileProgram(desk.words[0], desk.room)
-    tried = [(run_for_costs_of_journal, it) for it in journals_by_name()]
-    tried += [(run_for_costs_of_longer, it) for it in longer_journals_by_name()]
-    tried += [(run_for_costs_of_torn, [count]) for count in TORN]
-    tried += [(run_for_costs_of_lines, [length]) for length in LINES]
-    tried.append((run_for_costs_of_small_reads, []))
+    tried = [(measure_costs_of_journal, it) for it in named_journals()]
+    tried += [(measure_costs_of_longer, it) for it in named_longer_journals()]
+    tried += [(measure_costs_of_torn, [count]) for count in TORN]
+    tried += [(measure_costs_of_lines, [length]) for length in LINES]
+    tried.append((measure_costs_of_small_reads, []))
     with ThreadPoolExecutor() as pool:
         found = pool.map(lambda it: list(it[0](program, desk, *it[1])), tried)
         return list(itertools.chain.from_iterable(found))
 
 
-def run_and_write_tables(desk):
-    write_tables(HERE, run_for_costs(desk))
+def run_and_write_cost_tables(desk):
+    write_tables(HERE, measure_costs(desk))
 
 
 def check_shape_costs(counts, desk, dam, whole):
     if shutil.which("valgrind"):
-        check_costs(counts, HERE, run_for_costs(desk))
+        check_costs(counts, HERE, measure_costs(desk))
     else:
         counts.leave_out("what a desk costs for each shape of a journal: valgrind, which counts instructions, is missing", 1)

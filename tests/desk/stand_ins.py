@@ -17,38 +17,38 @@ KILLS, MOST_KILLS = 10, 200  # of a desk without a fault, and of one with a faul
 IN_USE = b"file: another process has it\n"
 
 
-def find_by_crashes(desk, given):
+def try_crashes(desk, given):
     """The files that a crash leaves, opened and crashed again."""
-    return crashes.Crashes(desk, "crashes", given, "stand-ins").check_moments(OPENED)
+    return crashes.Crashes(desk, "crashes", given, "stand-ins").try_moments(OPENED)
 
 
-def find_by_refused_syncs(desk, given):
+def try_refused_syncs(desk, given):
     """Each sync refused in turn."""
     row = refused.RunsWithRefusals(desk, "syncs", given)
     ran = desk.run(row.write_held_file(), given.batches)
     for number in range(1, 1 + sum(event.kind == SYNC for event in ran.events)):
-        row.run_refused(RefusedFileCalls(SYNC, number, number, errno.EIO), lambda refusal, found: True)
+        row.run_and_check_refused(RefusedFileCalls(SYNC, number, number, errno.EIO), lambda refusal, found: True)
     return row.wrong
 
 
-def find_by_repair(desk, given):
+def try_repair(desk, given):
     """Files whose end a crash left torn, opened and crashed again."""
     row = crashes.Crashes(desk, "repair", given, "stand-ins")
-    row.check_repaired()
+    row.open_and_check_repaired()
     return row.wrong
 
 
-def find_by_kills(desk, given):
+def try_kills(desk, given):
     """Kills at random moments. Whether one finds a fault depends on the load of the machine, so it may take several."""
     row = kills.Kills(desk, desk.words, given.journal, "stand-ins")
     for _ in range(MOST_KILLS if desk.surroundings["STAND_IN"] else KILLS):
-        row.check_round(may_be_at_once=False)
+        row.run_kill_and_check(may_be_at_once=False)
         if row.wrong:
             break
     return row.wrong
 
 
-def find_by_second_desk(desk, given):
+def try_second_desk(desk, given):
     """A second desk is started while the first one runs."""
     file = desk.make_folder() / "day.desk"
     pipes = {"stdin": subprocess.PIPE, "stdout": subprocess.PIPE, "stderr": subprocess.PIPE}
@@ -66,22 +66,22 @@ def find_by_second_desk(desk, given):
 
 # Each fault of stand_in.c, and the test that has to find it.
 FAULTS = [
-    ("early", find_by_kills, "answers before the write"),
-    ("early", find_by_crashes, "answers before the write"),
-    ("answer before sync", find_by_crashes, "answers before the last sync"),
-    ("one sync", find_by_crashes, "syncs both writes at once"),
-    ("mark first", find_by_crashes, "opens the mark before the lines are there"),
-    ("torn line", find_by_repair, "takes a line without its end"),
-    ("takes all", find_by_crashes, "takes lines after the mark that doesn't count"),
-    ("drops last", find_by_crashes, "drops the last acknowledged record"),
-    ("no first sync", find_by_crashes, "prints records that it found and didn't sync"),
-    ("no folder", find_by_crashes, "doesn't sync the folder of a new file"),
-    ("unsynced repair", find_by_crashes, "doesn't sync its repair of a file"),
-    ("mark before blanks", find_by_repair, "writes the mark before the lines after it are gone"),
-    ("retry", find_by_refused_syncs, "goes on after a sync that failed"),
-    ("book after", find_by_crashes, "answers with the book after the record"),
-    ("twice", find_by_crashes, "enters a record twice after it was opened again"),
-    ("second desk", find_by_second_desk, "lets a second desk in"),
+    ("early", try_kills, "answers before the write"),
+    ("early", try_crashes, "answers before the write"),
+    ("answer before sync", try_crashes, "answers before the last sync"),
+    ("one sync", try_crashes, "syncs both writes at once"),
+    ("mark first", try_crashes, "opens the mark before the lines are there"),
+    ("torn line", try_repair, "takes a line without its end"),
+    ("takes all", try_crashes, "takes lines after the mark that doesn't count"),
+    ("drops last", try_crashes, "drops the last acknowledged record"),
+    ("no first sync", try_crashes, "prints records that it found and didn't sync"),
+    ("no folder", try_crashes, "doesn't sync the folder of a new file"),
+    ("unsynced repair", try_crashes, "doesn't sync its repair of a file"),
+    ("mark before blanks", try_repair, "writes the mark before the lines after it are gone"),
+    ("retry", try_refused_syncs, "goes on after a sync that failed"),
+    ("book after", try_crashes, "answers with the book after the record"),
+    ("twice", try_crashes, "enters a record twice after it was opened again"),
+    ("second desk", try_second_desk, "lets a second desk in"),
 ]
 
 
@@ -98,13 +98,19 @@ def check_stand_ins(counts, desk, dam, _):
     short, long = draw_inputs(dam)
 
     def run_test(fault, test):
-        given = long if test is find_by_kills else short
+        given = long if test is try_kills else short
         replies = desk.room / f"replies-{len(given.journal)}"
-        replies.write_bytes(given.journal.printed(len(given.journal)))
+        replies.write_bytes(given.journal.printed_text(len(given.journal)))
         wrong_desk = DeskProgram([desk.room / "stand_in"], desk.room, {"STAND_IN": fault, "STAND_IN_REPLIES": str(replies)}, desk.jobs)
         return test(wrong_desk, given)
 
-    for test in (find_by_crashes, find_by_refused_syncs, find_by_repair, find_by_kills, find_by_second_desk):
+    for test in (
+        try_crashes,
+        try_refused_syncs,
+        try_repair,
+        try_kills,
+        try_second_desk,
+    ):
         wrong = run_test("", test)
         counts.check(f"a desk without a fault, {test.__name__}: {wrong[:2]}", not wrong)
     for fault, test, about in FAULTS:

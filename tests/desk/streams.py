@@ -15,16 +15,16 @@ import images
 import journals
 from device import INPUT, SYNC
 from journals import CLOSE, rules
-
-import hostile  # of tests/fuzz
+from shared import broken_texts
 from lib.journal import journal as format_of
 
 IN_USE = b"file: another process has it\n"
 LONGEST = 65_536  # bytes of a line
 FEW, MANY = 300, 1_000
 MUTATIONS = [
-    hostile.draw_front, hostile.draw_rest, hostile.with_insertion, hostile.with_gap, hostile.with_changed_byte, hostile.with_number,
-    hostile.on_fields(hostile.in_quotes), hostile.on_fields(hostile.with_odd_quotes),
+    broken_texts.draw_front, broken_texts.draw_rest, broken_texts.with_insertion, broken_texts.with_gap,
+    broken_texts.with_changed_byte, broken_texts.with_number,
+    broken_texts.on_fields(broken_texts.in_quotes), broken_texts.on_fields(broken_texts.with_odd_quotes),
 ]  # fmt: skip
 
 
@@ -70,7 +70,7 @@ class ExpectedDesk:
         most = rules.MOST_RECORDS - 1 if command == format_of.Close() else rules.MOST_RECORDS - 2
         if self.entries >= most:
             raise LineFault("JournalFull")
-        self.records.append(f"{format_of.command_record(command)}\n".encode())
+        self.records.append(f"{format_of.command_record_text(command)}\n".encode())
         return self.entries
 
     def enter_day_or_raise(self, line):
@@ -104,9 +104,9 @@ class ExpectedDesk:
             self.line += 1
             self.answers.append(f"fault,{self.line},CutShort\n".encode())
 
-    def run_dam_for_output(self, dam):
+    def capture_output_of_dam(self, dam):
         """The right output, by lines."""
-        replies = dam.replay(b"".join(self.records)).stdout.splitlines(keepends=True) if self.records else []
+        replies = dam.capture_replay(b"".join(self.records)).stdout.splitlines(keepends=True) if self.records else []
         return [answer if isinstance(answer, bytes) else replies[answer] for answer in self.answers]
 
 
@@ -123,7 +123,7 @@ def draw_other_form(rng, record):
     """The record with fields in quotes, or another line end: it means the same."""
     fields = record[:-1].split(b",")
     if rng.random() < 0.5:
-        fields = [hostile.in_quotes(rng, field) if rng.random() < 0.4 else field for field in fields]
+        fields = [broken_texts.in_quotes(rng, field) if rng.random() < 0.4 else field for field in fields]
     return b",".join(fields) + rng.choice([b"\n", b"\r\n", b"\r\n"])
 
 
@@ -161,26 +161,26 @@ class RandomStreams:
         self.desk, self.dam = desk, dam
         self.lines = self.entries = self.faults = 0
 
-    def run_for_faults(self, seed):
+    def try_stream(self, seed):
         """The faults of one random input."""
         rng = random.Random(f"stream {seed}")
         text = draw_stream(rng)
         reader = expected_of(text)
-        expected = reader.run_dam_for_output(self.dam)
+        expected = reader.capture_output_of_dam(self.dam)
         self.lines, self.entries = self.lines + len(expected), self.entries + reader.entries
         self.faults += sum(line.startswith(b"fault,") for line in expected)
-        yield from self.run_for_faults_of_whole(rng, text, reader, expected)
-        yield from self.run_for_faults_of_halves(rng, text, reader, expected)
+        yield from self.try_whole(rng, text, reader, expected)
+        yield from self.try_halves(rng, text, reader, expected)
 
-    def run_for_faults_of_whole(self, rng, text, reader, expected):
+    def try_whole(self, rng, text, reader, expected):
         file = self.desk.make_folder() / "day.desk"
         ran = self.desk.run(file, draw_cuts(rng, text))
         if (ran.status, ran.stdout, ran.stderr) != (0, b"".join(expected), b""):
             yield f"status {ran.status}, {ran.stderr[:80]!r}, {first_difference(ran.stdout, expected)}"
-        yield from self.run_for_kept_faults(file, reader)
+        yield from self.try_kept_records(file, reader)
         yield from faults_of_syncs(ran.events)
 
-    def run_for_kept_faults(self, file, reader):
+    def try_kept_records(self, file, reader):
         """The differences of the file and its journal from the entered records."""
         marked = b"".join(b"+" + record for record in reader.records)
         bytes_ = file.read_bytes()
@@ -190,7 +190,7 @@ class RandomStreams:
         if (printed.returncode, printed.stdout, printed.stderr) != (0, b"".join(reader.records), b""):
             yield f"--journal: status {printed.returncode}, {printed.stderr[:80]!r}, {printed.stdout[-80:]!r}"
 
-    def run_for_faults_of_halves(self, rng, text, reader, expected):
+    def try_halves(self, rng, text, reader, expected):
         """The same input in two runs, which both number their lines from 1."""
         lines = text.split(b"\n")
         half = rng.randrange(len(lines))
@@ -199,11 +199,11 @@ class RandomStreams:
         file = self.desk.make_folder() / "day.desk"
         begun = self.desk.run(file, draw_cuts(rng, front))
         ended = self.desk.run(file, draw_cuts(rng, text[len(front) :]))
-        held = [] if not first.records else self.dam.replay(b"".join(first.records)).stdout.splitlines(keepends=True)
+        held = [] if not first.records else self.dam.capture_replay(b"".join(first.records)).stdout.splitlines(keepends=True)
         rest = [renumbered(line, half) for line in expected[half:]]
         if (begun.status, begun.stdout) != (0, b"".join(expected[:half])) or (ended.status, ended.stdout) != (0, b"".join([*held, *rest])):
             yield f"in two runs: statuses {begun.status} and {ended.status}, {first_difference(ended.stdout, [*held, *rest])}"
-        yield from self.run_for_kept_faults(file, reader)
+        yield from self.try_kept_records(file, reader)
 
 
 def renumbered(line, before):
@@ -285,7 +285,7 @@ def check_journal_in_mid_load(counts, desk, dam):
             seen.add(count)
         answered += process.stdout.read() or b""
     feeder.join()
-    counts.check("in mid-load: the answers", bytes(answered) == given.journal.printed(len(given.journal)))
+    counts.check("in mid-load: the answers", bytes(answered) == given.journal.printed_text(len(given.journal)))
     counts.check(f"in mid-load: {len(seen)} journals were seen", len(seen) > 3)
 
 
@@ -300,7 +300,7 @@ def check_many_starts(counts, desk, given):
         time.sleep(0.01)
     printed = [process.communicate(b"".join(given.batches)) for process in started]
     ends = sorted((process.returncode, *texts) for process, texts in zip(started, printed))
-    right = [(0, given.journal.printed(len(given.journal)), b""), *[(4, b"", IN_USE)] * 7]
+    right = [(0, given.journal.printed_text(len(given.journal)), b""), *[(4, b"", IN_USE)] * 7]
     counts.check(f"eight desks at once: statuses {[it[0] for it in ends]}", ends == right)
 
 
@@ -308,7 +308,7 @@ def check_streams(counts, desk, dam, whole):
     begun, streams = time.monotonic(), RandomStreams(desk, dam)
     count = MANY if whole else FEW
     with ThreadPoolExecutor(desk.jobs) as pool:
-        for seed, found in enumerate(pool.map(lambda seed: list(streams.run_for_faults(seed)), range(count))):
+        for seed, found in enumerate(pool.map(lambda seed: list(streams.try_stream(seed)), range(count))):
             counts.check(f"stream {seed}: {'; '.join(found)}", not found)
     check_second_desk(counts, desk, dam)
     check_journal_in_mid_load(counts, desk, dam)

@@ -183,31 +183,31 @@ def add_document_type(drawn):
     return "document type"
 
 
-def leave_out_part(drawn):
+def draw_archive_without_part(drawn):
     name = drawn.rng.choice(["_rels/.rels", "xl/workbook.xml", "xl/_rels/workbook.xml.rels", SHEET, "xl/styles.xml"])
     return archive_bytes({each: content for each, content in drawn.draw_parts().items() if each != name})
 
 
-def repeat_part(drawn):
+def draw_archive_with_repeated_part(drawn):
     parts = drawn.draw_parts()
     name = drawn.rng.choice(list(parts))
     return archive_bytes({**parts, name.swapcase(): parts[name]})
 
 
-def cut_part(drawn):
+def draw_archive_with_cut_part(drawn):
     parts = drawn.draw_parts()
     name = drawn.rng.choice([each for each in parts if each.startswith("xl/w")][:2])
     return archive_bytes({**parts, name: parts[name].rstrip()[:-1]})
 
 
-def change_byte_of_part(drawn):
+def draw_archive_with_changed_byte(drawn):
     """Changes one byte of a part, which isn't compressed."""
     data = bytearray(archive_bytes(drawn.draw_parts(), zipfile.ZIP_STORED))
     data[data.index(SHEET.encode()) + len(SHEET) + 200] ^= 1
     return bytes(data)
 
 
-def change_size(drawn):
+def draw_archive_with_changed_size(drawn):
     """Lets the directory state another size of a part."""
     data = bytearray(drawn.draw_bytes())
     at = data.rindex(SHEET.encode()) - 46
@@ -215,11 +215,11 @@ def change_size(drawn):
     return bytes(data)
 
 
-def compress_otherwise(drawn):
+def draw_recompressed_archive(drawn):
     return archive_bytes(drawn.draw_parts(), drawn.rng.choice([zipfile.ZIP_BZIP2, zipfile.ZIP_LZMA]))
 
 
-def cut_archive(drawn):
+def draw_cut_archive(drawn):
     data = drawn.draw_bytes()
     return data[: drawn.rng.randrange(4, len(data) - 22)]
 
@@ -241,11 +241,11 @@ BREAKS = [
     place_cell_in_another_row,
     add_cell_of_another_namespace,
     add_document_type,
-    leave_out_part,
-    repeat_part,
-    cut_part,
-    change_byte_of_part,
-    change_size,
-    compress_otherwise,
-    cut_archive,
+    draw_archive_without_part,
+    draw_archive_with_repeated_part,
+    draw_archive_with_cut_part,
+    draw_archive_with_changed_byte,
+    draw_archive_with_changed_size,
+    draw_recompressed_archive,
+    draw_cut_archive,
 ]

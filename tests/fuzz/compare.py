@@ -12,7 +12,7 @@ if sys.version_info < (3, 10):
 sys.path.insert(0, str(Path(__file__).resolve().parents[1]))
 
 from shared.printed import Printed, faults_of_journal
-from lib.audit import best
+from lib.audit import recursive_enumeration
 from lib.base import rules
 from lib.journal import book, journal
 from lib.results import check, results, selection
@@ -32,7 +32,7 @@ class TimedProgram:
         self.path, self.seconds = path, seconds
         self.environment = dict(os.environb)  # which `os.environ` would encode for each run
 
-    def run_for_output(self, words, data):
+    def capture_output(self, words, data):
         """Its output for an input. Its streams are files in memory: pipes would have to be served while it runs, which takes longer
         than most runs."""
         with open_in_memory(data) as stdin, open_in_memory() as stdout, open_in_memory() as stderr:
@@ -48,9 +48,9 @@ class TimedProgram:
                 return Printed(ENDED, b"", f"{LATE}\n".encode())
             return Printed(status, read_contents(stdout), read_contents(stderr))
 
-    def runs_command(self, words):
+    def is_command_of_program(self, words):
         """Whether it has such a command: it then finds a fault in the empty input, and none in the command line."""
-        return self.run_for_output(words, b"").status != COMMAND_LINE
+        return self.capture_output(words, b"").status != COMMAND_LINE
 
 
 def open_in_memory(data=b""):
@@ -94,7 +94,7 @@ def find_right_output(command, words, data, like=None):
     """The output that a command must print for an input, by another program or else by the rules; None if that takes too long."""
     if like is None:
         return right_output(command, data)
-    answer = like.run_for_output([command, *words], data)
+    answer = like.capture_output([command, *words], data)
     return None if answer.status == ENDED else answer
 
 
@@ -112,13 +112,13 @@ def right_replies(read):
 
 
 def right_results(read):
-    closed, _ = book.run_commands(read)
+    closed, _ = book.book_and_refusals(read)
     if not closed.closed:
         return refused_output("input: StillOpen")
     problem = selection.Problem(closed)
     if len(problem.blocks) > MOST_BLOCKS:
         return None
-    found, _ = best.enumerate_all(problem)
+    found, _ = recursive_enumeration.find_best_and_how(problem)
     text = results.results_text(problem, found.accepted, selection.outcome(problem, found.accepted)).encode()
     _, wrong = check.results_and_faults(problem, text)
     if wrong:
@@ -152,7 +152,7 @@ def day_differences(data, got):
         given, fault = None, found
     if fault:
         return [] if got == refused_output(fault) else [f"the fault is {fault}"]
-    texts = results.split_day(got.stdout)
+    texts = results.journal_and_results_or_none(got.stdout)
     if got.status or got.stderr or texts is None:
         return ["there is no text of a day"]
     written, published = texts
@@ -163,22 +163,22 @@ def day_differences(data, got):
     return wrong
 
 
-def run_for_differences(program, command, words, data, like=None):
+def try_command(program, command, words, data, like=None):
     """The faults of a command's output for an input, by another program or else by the rules: nothing if all is right, only LATE
     if it took too long. A failure of the tool is a difference too."""
     try:
-        return run_for_known_differences(program, command, words, data, like)
+        return try_command_or_raise(program, command, words, data, like)
     except Exception as fault:
         return [f"the tool fails: {fault!r}"]
 
 
-def run_for_known_differences(program, command, words, data, like):
+def try_command_or_raise(program, command, words, data, like):
     if command == "day":
-        return day_differences(data, program.run_for_output([command, *words], data))
+        return day_differences(data, program.capture_output([command, *words], data))
     right = find_right_output(command, words, data, like)
     if right is None:
         return []
-    got = program.run_for_output([command, *words], data)
+    got = program.capture_output([command, *words], data)
     if got.status == ENDED:
         return [LATE]
     return [f"{part} differs" for part, one, other in zip(Printed._fields, right, got) if one != other]

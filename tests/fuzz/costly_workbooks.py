@@ -5,6 +5,7 @@ from lib.sheets import order_table
 
 TEXT = ";".join(order_table.ORDER).encode() + b"\n"
 WIDE = "\U0001f600".encode()
+FRACTION = b"# ?/" + b"?" * 240
 LONG_NAME = "the name of an element has more than"
 
 
@@ -47,6 +48,12 @@ def rows_of_numbers(style, count=299_000):
     return (b"<row>%s</row>" % b"".join(cell % (style(at), 10**10 + at) for at in range(row, row + 30)) for row in range(0, count, 30))
 
 
+def rows_of_small_numbers(count):
+    """Rows of numbers below 1 of 15 digits, with the first style."""
+    cell = b"<c s='0'><v>%d.23456789012345E-%d</v></c>"
+    return (b"<row>%s</row>" % b"".join(cell % (at % 9 + 1, row % 15 + 1) for at in range(row, row + 30)) for row in range(0, count, 30))
+
+
 def spelled_style(at):
     """The number of one of 30,000 formats, with zeros before it: no two are alike."""
     return b"%s%05d" % (b"0" * (at // 30_000), at % 30_000)
@@ -62,20 +69,24 @@ def workbook_of_long_names(form):
     return workbook_of_sheet(ROOT, b"<cols>", elements, CLOSE)
 
 
-def workbook_of_sheets(sheets):
-    """A workbook whose sheets have these rows, none of which is named as the one that is preferred; the last one is a table of orders."""
+def workbook_of_sheets(sheets, styles=b""):
+    """A workbook whose sheets have these rows, none of which is named as the one that is preferred; the last one is a table of orders. It
+    has styles if they are given."""
     sheets = [*sheets, [b"<row>", HEADS, b"</row>", order_row(1)]]
     relation = '<Relationship Id="r{0}" Type="{1}/worksheet" Target="worksheets/{0}.xml"/>'
     listed = "".join(f'<sheet name="S{at}" sheetId="{at + 1}" r:id="r{at}"/>' for at in range(len(sheets)))
     rels = f'<Relationships xmlns="{RELATIONS}">{{}}</Relationships>'
-    told = rels.format("".join(relation.format(at, OFFICE[0]) for at in range(len(sheets))))
+    relations = [relation.format(at, OFFICE[0]) for at in range(len(sheets))]
+    if styles:
+        relations.append(f'<Relationship Id="styles" Type="{OFFICE[0]}/styles" Target="styles.xml"/>')
     texts = {
         "_rels/.rels": rels.format(f'<Relationship Id="r1" Type="{OFFICE[0]}/officeDocument" Target="xl/workbook.xml"/>'),
         "xl/workbook.xml": f'<workbook xmlns="{MAIN[0]}" xmlns:r="{OFFICE[0]}"><sheets>{listed}</sheets></workbook>',
-        "xl/_rels/workbook.xml.rels": told,
+        "xl/_rels/workbook.xml.rels": rels.format("".join(relations)),
     }
     cells = {f"xl/worksheets/{at}.xml": [ROOT, b"<sheetData>", *rows, CLOSE] for at, rows in enumerate(sheets)}
-    return archive_bytes({**{name: content.encode() for name, content in texts.items()}, **cells})
+    made = {**{name: content.encode() for name, content in texts.items()}, **cells}
+    return archive_bytes({**made, STYLES: styles} if styles else made)
 
 
 # The few, and all: each with the words of its fault, None for a table that is read, and "" for either.
@@ -127,6 +138,11 @@ LARGE = {
     "formatted cells": ("", lambda: table_workbook((
         b"<row>%s</row>" % b"".join(b"<c s='3'><v>%d.%d</v></c>" % (row, at) for at in range(30)) for row in range(9_990)))),
     "numbers with one format": ("", lambda: table_workbook(rows_of_numbers(lambda at: b"0"), **{STYLES: styles_of_one_format(1)})),
+    "fractions": ("", lambda: table_workbook(rows_of_small_numbers(299_000), **{STYLES: b"".join(styles_of_formats(1, FRACTION))})),
+    "fractions in first rows": (None, lambda: workbook_of_sheets(
+        [[b"<row>", b"<c s='0'><v>1.23456789012345E-300</v></c>" * 2**14, b"</row>"]] * 45, b"".join(styles_of_formats(1, FRACTION)))),
+    "long formulas": ("", lambda: table_workbook(
+        (b"<row><c><f>%s</f><v>1</v></c></row>" % part * 3_000 for part in (b'"",' * 10_000, b"RAND " * 200)))),
     "formats in many spellings": ("", lambda: table_workbook(rows_of_numbers(spelled_style), **{STYLES: styles_of_one_format(30_000)})),
     "these, and many parts": ("", lambda: table_workbook(
         rows_of_numbers(spelled_style), **{STYLES: styles_of_one_format(30_000), **{str(at): b"" for at in range(1_980)}})),

@@ -27,12 +27,12 @@ from pathlib import Path
 sys.dont_write_bytecode = True
 
 import compare
-import days
-from lib.audit import best, verdict
+from lib.audit import recursive_enumeration, verdict
 from lib.journal import book, journal
 from lib.results import results, selection
 from lib.sheets import kinds
 from lib.tool import command
+from shared import days
 from shared.arguments import parser_of_cases
 from shared.counts import Counts
 
@@ -55,33 +55,33 @@ class Pairs:
         self.program = compare.TimedProgram(program)
         self.other = (b"day,24,,,,,,,\nclose,,,,,,,,\n", b"")
 
-    def draw_cleared(self, rng):
+    def draw_and_capture_results(self, rng):
         """A closed journal that the program clears, and the results."""
         while True:
             data = days.draw_text(rng, MOST_BLOCKS)
-            ran = self.program.run_for_output(["clear"], data)
+            ran = self.program.capture_output(["clear"], data)
             if ran.status == 0 and len(data) < 100_000:
                 return data, ran.stdout
 
-    def run_for_results(self, data):
+    def capture_results(self, data):
         """The results that the program prints for a journal, or None if it refuses it."""
-        ran = self.program.run_for_output(["clear"], data)
+        ran = self.program.capture_output(["clear"], data)
         return ran.stdout if ran.status == 0 else None
 
 
 def is_open(data):
     """Whether a text is a journal that no command closes."""
     try:
-        return not book.run_commands(journal.parse_journal(data))[0].closed
+        return not book.book_and_refusals(journal.parse_journal(data))[0].closed
     except journal.Fault:
         return False
 
 
-def run_for_right_status(pairs, data, text):
+def capture_right_status(pairs, data, text):
     """The status that the audit of a pair must have, by the program."""
-    if kinds.kind_of(data) not in (None, kinds.JOURNAL) or kinds.kind_of(text) not in (None, kinds.RESULTS):
+    if kinds.kind_or_none(data) not in (None, kinds.JOURNAL) or kinds.kind_or_none(text) not in (None, kinds.RESULTS):
         return UNREAD
-    right = pairs.run_for_results(data)
+    right = pairs.capture_results(data)
     if right is None:
         return WRONG if is_open(data) else UNREAD
     if text == right:
@@ -196,11 +196,11 @@ def decoded_or_none(data):
 
 def draw_worse_results(rng, data):
     """The results of another selection of a day's blocks, eligible or not; None if it has no other whose periods balance."""
-    problem = selection.Problem(book.run_commands(journal.parse_journal(data))[0])
+    problem = selection.Problem(book.book_and_refusals(journal.parse_journal(data))[0])
     for _ in range(8):
         accepted = frozenset(place for place in range(len(problem.blocks)) if rng.random() < 0.5)
         outcome = selection.outcome(problem, accepted)
-        if outcome.welfare is not None and accepted != best.enumerate_all(problem)[0].accepted:
+        if outcome.welfare is not None and accepted != recursive_enumeration.find_best_and_how(problem)[0].accepted:
             return results.results_text(problem, accepted, outcome).encode()
     return None
 
@@ -226,9 +226,9 @@ def draw_changed_pair(rng, pairs, data, text):
     return data, other, f"{words} of the results"
 
 
-def run_for_fault_of_audit(folder, pairs, data, text):
+def try_audit(folder, pairs, data, text):
     """The fault of the audit of a pair; nothing if all is right."""
-    right = run_for_right_status(pairs, data, text)
+    right = capture_right_status(pairs, data, text)
     try:
         status, record = write_and_audit(folder, data, text)
         json.dumps(record)
@@ -247,10 +247,10 @@ def main():
     with tempfile.TemporaryDirectory() as folder:
         for number in range(args.first, args.first + args.count):
             rng = random.Random(f"doctored {args.seed} {number}")
-            pairs.other = pairs.draw_cleared(random.Random(f"other {args.seed} {number}"))
-            pair = pairs.draw_cleared(rng)
+            pairs.other = pairs.draw_and_capture_results(random.Random(f"other {args.seed} {number}"))
+            pair = pairs.draw_and_capture_results(rng)
             data, text, words = draw_changed_pair(rng, pairs, *pair)
-            status, wrong = run_for_fault_of_audit(folder, pairs, data, text)
+            status, wrong = try_audit(folder, pairs, data, text)
             seen[status] += 1
             if wrong:
                 failed += 1
@@ -260,7 +260,7 @@ def main():
                     for name, content in (("csv", data), ("txt", text)):
                         Path(args.keep, f"{re.sub('[^A-Za-z0-9]', '-', args.seed)}-{number}.{name}").write_bytes(content)
     print(f"by status: {', '.join(f'{seen[status]} with {status}' for status in sorted(seen))}")
-    return Counts(args.count - failed, failed).print_totals()
+    return Counts(args.count - failed, failed).print_totals_and_return_status()
 
 
 if __name__ == "__main__":

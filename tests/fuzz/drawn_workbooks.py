@@ -6,17 +6,20 @@ import zipfile
 from typing import NamedTuple
 
 from lib.sheets import order_table
+from lib.workbooks.cells import Changed
 
 TYPES = "http://schemas.openxmlformats.org/package/2006/content-types"
 RELATIONS = "http://schemas.openxmlformats.org/package/2006/relationships"
 MAIN = "http://schemas.openxmlformats.org/spreadsheetml/2006/main", "http://purl.oclc.org/ooxml/spreadsheetml/main"
 OFFICE = "http://schemas.openxmlformats.org/officeDocument/2006/relationships", "http://purl.oclc.org/ooxml/officeDocument/relationships"
 STYLE_SHEET = (
-    '<styleSheet xmlns="{}"><numFmts count="2"><numFmt numFmtId="164" formatCode="[$-407]d\\.\\ mmm&quot;h&quot;"/>'
-    '<numFmt numFmtId="165" formatCode="&quot;days&quot; 0.0\\h;[Red]-0"/></numFmts>'
+    '<styleSheet xmlns="{}"><numFmts count="5"><numFmt numFmtId="164" formatCode="[$-407]d\\.\\ mmm&quot;h&quot;"/>'
+    '<numFmt numFmtId="165" formatCode="&quot;days&quot; 0.0\\h;[Red]-0"/><numFmt numFmtId="166" formatCode="0 0"/>'
+    '<numFmt numFmtId="167" formatCode="#\\ ##0"/><numFmt numFmtId="168" formatCode="[White]0"/></numFmts>'
     '<fonts><font/><font><strike val="0"/><vertAlign val="superscript"/><sz val="8"/></font></fonts>'
     '<cellStyleXfs><xf numFmtId="14"/></cellStyleXfs><cellXfs><xf/><xf numFmtId="164"/><xf numFmtId="20"/>'
-    '<xf numFmtId="165" fontId="1"/></cellXfs></styleSheet>'
+    '<xf numFmtId="165" fontId="1"/><xf numFmtId="166"/><xf numFmtId="167"/><xf numFmtId="168"/>'
+    '<xf><alignment readingOrder="2"/></xf></cellXfs></styleSheet>'
 )
 WORDS = ["A", "H1", "hour", "Straße", "\U0001f600", "a  b", "1", "1;2,5", "&lt;v>5&lt;/v>", "&#65;B", "<![CDATA[<row>]]>"]
 READ = {"&lt;v>5&lt;/v>": "<v>5</v>", "&#65;B": "AB", "<![CDATA[<row>]]>": "<row>"}
@@ -28,10 +31,20 @@ OTHERS = [  # cells that aren't of words, and the text of each
     ('s="1"', "<v>46254</v>", "2026-08-20"),
     ('s="1"', "<v>59</v>", "1900-02-28"),
     ('s="2"', "<v>0.29166666666666669</v>", "07:00"),
-    ('s="3"', "<v>4</v>", "4 days"),
-    ("", "<f>B2*2</f>", "=B2*2"),
-    ("", "<f>B2*2</f><v/>", "=B2*2"),
     ('t="str"', '<f t="shared" si="0"/><v>A</v>', "A"),
+    ('s="5"', "<v>1234</v>", "1234"),
+    ('s="7"', "<v>12</v>", "12"),
+    ('s="7" t="str"', "<v>K1</v>", "K1"),
+    # cells that no column of orders may have
+    ('s="3"', "<v>4</v>", Changed("4 days")),
+    ('s="4"', "<v>12</v>", Changed("12")),
+    ('s="6"', "<v>12</v>", Changed("12")),
+    ('s="7"', "<v>-12</v>", Changed("-12")),
+    ('s="7" t="str"', "<v>1;2</v>", Changed("1;2")),
+    ("", "<f>B2*2</f>", Changed("=B2*2")),
+    ("", "<f>B2*2</f><v/>", Changed("=B2*2")),
+    ("", "<f>RAND()</f><v>5</v>", Changed("=RAND()")),
+    ('t="str"', '<f ca="1">B2</f><v>A</v>', Changed("=B2")),
 ]
 HABITS = ["", ' hidden="1"', ' spans="1:2"']
 EMPTY = [("", ""), ('s="3"', ""), ('t="s"', ""), ("", "<v/>"), ('t="str"', "<f>A1</f><v></v>"), ('t="inlineStr"', "<is><t/></is>")]

@@ -1,5 +1,5 @@
 #!/usr/bin/env python3
-"""Runs the program on random days of up to 24 blocks, and tries every selection of each by `tools/lib/audit/enumeration.py`.
+"""Runs the program on random days of up to 24 blocks, and tries every selection of each by `tools/lib/audit/numpy_enumeration.py`.
 
 The results that the program prints must be as the rules say, and no selection may be better. Then they are altered to those of an eligible
 selection that ranks below, the best one that differs in one block and what hangs on it; and the enumeration must find the program's
@@ -18,7 +18,7 @@ sys.dont_write_bytecode = True
 sys.path.insert(0, str(Path(__file__).resolve().parent))  # an isolated Python leaves it out
 
 import compare
-import days
+from shared import days
 from shared.arguments import parser_of_cases
 from shared.counts import Counts
 from lib.audit import better
@@ -78,7 +78,7 @@ def draw_day(rng, args):
     return days.text_of_lines([*draft.lines, "close,,,,,,,,"])
 
 
-def lower_selection(problem, accepted, welfare):
+def find_lower_selection(problem, accepted, welfare):
     """The best eligible selection below this one, and its welfare, of those that take one block in or out; a block that is out
     takes its descendants along, and one that is in takes its ancestors along and its rivals away. None if there is none."""
     found = []
@@ -90,7 +90,7 @@ def lower_selection(problem, accepted, welfare):
             away = {rival for group in problem.groups().values() if line & set(group) for rival in set(group) - line}
             away |= {below for rival in away for below in problem.rescuers[rival]}
             other = (accepted | line) - away
-        value = selection.eligible_welfare(problem, other)
+        value = selection.eligible_welfare_or_none(problem, other)
         if value is not None and selection.ranks_above(len(problem.blocks), welfare, accepted, value, other):
             found.append((value, [block in other for block in range(len(problem.blocks))], other))
     if not found:
@@ -99,26 +99,26 @@ def lower_selection(problem, accepted, welfare):
     return other, value
 
 
-def best_above(problem, said, jobs):
+def find_best_above(problem, said, jobs):
     """The selection that ranks above these results, as a set and its welfare; None if none does."""
-    found, _ = better.search_all(problem, said, Progress("fuzz", 600, quiet=True), jobs, few=0)
+    found, _ = better.find_better_and_how_by_enumeration(problem, said, Progress("fuzz", 600, quiet=True), jobs, few=0)
     return found and (found.accepted, found.welfare)
 
 
-def run_for_faults(program, data, jobs):
+def try_day(program, data, jobs):
     """The faults of a day, in words; and the altered results, None if they couldn't be."""
-    problem = selection.Problem(book.run_commands(journal.parse_journal(data))[0])
-    got = program.run_for_output(["clear"], data)
+    problem = selection.Problem(book.book_and_refusals(journal.parse_journal(data))[0])
+    got = program.capture_output(["clear"], data)
     if got.status:
         return f"the program ends with {got.stderr.decode().strip() or f'status {got.status}'}", None
     said, wrong = check.results_and_faults(problem, got.stdout)
     if wrong:
         return wrong[0], None
-    above = best_above(problem, said, jobs)
+    above = find_best_above(problem, said, jobs)
     if above:
         return f"the selection {sorted(above[0])} is better, with {above[1]}", None
     accepted = frozenset(said.accepted)
-    altered = lower_selection(problem, accepted, said.welfare)
+    altered = find_lower_selection(problem, accepted, said.welfare)
     if altered is None:
         return None, None
     kind = "of less welfare" if altered[1] < said.welfare else "of the same welfare"
@@ -126,7 +126,7 @@ def run_for_faults(program, data, jobs):
     published, wrong = check.results_and_faults(problem, text)
     if wrong:
         return f"altered to {sorted(altered[0])} it isn't as the rules say: {wrong[0]}", kind
-    above = best_above(problem, published, jobs)
+    above = find_best_above(problem, published, jobs)
     if above != (accepted, said.welfare):
         return f"altered to {sorted(altered[0])} it finds {above}, and not the program's selection", kind
     return None, kind
@@ -140,12 +140,12 @@ def main():
     args.most_blocks = MOST_BLOCKS if modules.has_module("numpy") else FEW_BLOCKS
     program, counts, altered = compare.TimedProgram(args.program, args.wait), Counts(), {}
     for name, data in draw_inputs(args):
-        wrong, kind = run_for_faults(program, data, args.jobs)
+        wrong, kind = try_day(program, data, args.jobs)
         altered[kind] = altered.get(kind, 0) + 1
         counts.check(f"{name}: {wrong}", wrong is None)
     for kind in sorted(kind for kind in altered if kind):
         print(f"{altered[kind]} altered to an eligible selection {kind}")
-    return counts.print_totals()
+    return counts.print_totals_and_return_status()
 
 
 command.run_and_exit("fuzz", main)

@@ -36,7 +36,7 @@ def with_quotes(text):
     return b"".join(b'"%b"\r\n\r\n' % record.replace(b",", b'","') for record in text.splitlines())
 
 
-def fronts(text):
+def fronts_of(text):
     return [text[:count] for count in range(len(text) + 1)]
 
 
@@ -56,10 +56,10 @@ def long_day():
 def inputs_with_commands():
     """The commands, words and texts."""
     for spelled in (bytes, with_quotes):
-        for front in fronts(spelled(EMPTY)) + fronts(spelled(CLOSED)):
+        for front in fronts_of(spelled(EMPTY)) + fronts_of(spelled(CLOSED)):
             yield "replay", [], front
             yield "clear", [], front
-        for front in fronts(spelled(OPEN)):
+        for front in fronts_of(spelled(OPEN)):
             yield "day", [], front
     for command in ("replay", "clear", "day"):
         for end in (b"\n", b"A"):
@@ -83,9 +83,9 @@ def main():
     parser.add_argument("program", metavar="PROGRAM", help="the built program, crates/dam_cli/out/dam_cli")
     program, counts = compare.TimedProgram(parser.parse_args().program), Counts()
     for command, words, text in inputs_with_commands():
-        wrong = compare.run_for_differences(program, command, words, text)
+        wrong = compare.try_command(program, command, words, text)
         counts.check(f"{' '.join([command, *words])} of {len(text)} bytes that end with {text[-20:]!r}: {''.join(wrong[:1])}", not wrong)
-    return counts.print_totals()
+    return counts.print_totals_and_return_status()
 
 
 sys.exit(main())

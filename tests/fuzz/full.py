@@ -19,7 +19,7 @@ from typing import NamedTuple
 sys.dont_write_bytecode = True
 
 import compare
-import days
+from shared import days
 from shared.counts import Counts
 from lib.base import rules
 from lib.journal import book
@@ -184,19 +184,19 @@ def faults_of_sizes(case, held, size):
         yield f"the journal has {len(case.data.splitlines())} records"
 
 
-def run_for_faults_of_results(program, data, held, least):
+def try_results(program, data, held, least):
     """The faults of the results, in words."""
-    printed = [program.run_for_output(["clear", *plan], data) for plan in PLANS]
+    printed = [program.capture_output(["clear", *plan], data) for plan in PLANS]
     for plan, got in zip(PLANS, printed):
         words = " ".join(["clear", *plan])
         if got.status:
             yield f"{words}: {got.stderr.decode().strip() or f'status {got.status}'}"
         elif got != printed[0]:
             yield f"{words}: other results than without a plan"
-    limited = program.run_for_output(["clear", *LIMITED], data)
+    limited = program.capture_output(["clear", *LIMITED], data)
     if limited != printed[0] and (limited.status, limited.stdout, bool(UNFINISHED.fullmatch(limited.stderr))) != (3, b"", True):
         yield f"clear {' '.join(LIMITED)}: {limited.stderr.decode().strip() or f'status {limited.status}'}"
-    ended = None if least is None else program.run_for_output(["clear", *ONE_NODE], data)
+    ended = None if least is None else program.capture_output(["clear", *ONE_NODE], data)
     if ended and (ended.status, ended.stdout, ended.stderr) != (3, b"", b"unfinished: piece %d after 1 nodes\n" % least):
         yield f"clear {' '.join(ONE_NODE)}: {ended.stderr.decode().strip() or f'status {ended.status}'}"
     if not printed[0].status:
@@ -204,12 +204,12 @@ def run_for_faults_of_results(program, data, held, least):
         yield from wrong[:1]
 
 
-def run_for_faults(program, case, size):
+def try_case(program, case, size):
     """The faults of a case."""
-    held, _ = book.run_commands(compare.journal_or_fault(case.data))
-    wrong = [*faults_of_sizes(case, held, size), *run_for_faults_of_results(program, case.data, held, case.least)]
+    held, _ = book.book_and_refusals(compare.journal_or_fault(case.data))
+    wrong = [*faults_of_sizes(case, held, size), *try_results(program, case.data, held, case.least)]
     if case.is_long:
-        wrong += compare.run_for_differences(program, "replay", [], case.data)
+        wrong += compare.try_command(program, "replay", [], case.data)
     return wrong
 
 
@@ -229,9 +229,9 @@ def main():
     size = Size(args.hourly, args.blocks, args.commands)
     program, counts = compare.TimedProgram(args.program), Counts()
     for case in draw_cases(size):
-        wrong = run_for_faults(program, case, size)
+        wrong = try_case(program, case, size)
         counts.check(f"{case.name}: {'; '.join(map(str, wrong))}", not wrong)
-    return counts.print_totals()
+    return counts.print_totals_and_return_status()
 
 
 if __name__ == "__main__":

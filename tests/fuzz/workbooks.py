@@ -1,6 +1,7 @@
 #!/usr/bin/env python3
 """Reads random Excel workbooks as the tools do. Each case is a table of cells, written in one of the many ways that Excel allows. The
-reader must return exactly these cells. Half of the workbooks are then broken in one place: there the reader must report a fault.
+reader must return exactly these cells, and mark those that Excel shows in another way. Half of the workbooks are then broken in one place:
+there the reader must report a fault.
 
 With --large it also reads workbooks and texts of at most 5 MB that are made to take memory and time. Each read must end within 10 seconds
 of a processor, and take at most 42 MiB more memory than the tools themselves, which have some 22. Otherwise it reads only a few of these.
@@ -17,7 +18,7 @@ from pathlib import Path
 sys.dont_write_bytecode = True
 sys.path[:0] = [str(Path(__file__).resolve().parents[2] / folder) for folder in ("tools", "tests")]
 
-from lib.sheets import order_table, sheets
+from lib.sheets import cell_values, order_table, sheets
 from shared.arguments import parser_of_cases
 from shared.counts import Counts
 
@@ -28,14 +29,14 @@ from drawn_workbooks import RandomWorkbook, trimmed
 MOST_SECONDS, MOST_MEMORY, MOST_BYTES = 10, 42 * 2**20, 5 * 10**6
 
 
-def draw_and_find_fault(rng):
+def try_random_workbook(rng):
     """What is wrong with the reader on a random workbook; None if nothing is."""
     drawn = RandomWorkbook(rng)
     broken = rng.choice(BREAKS) if rng.random() < 0.5 else None
     words = broken(drawn) if broken else None
     data = words if isinstance(words, bytes) else drawn.draw_bytes()
     try:
-        found = [(number, trimmed(cells)) for number, cells in sheets.parse_rows(data)[0]]
+        found = [(number, trimmed(cells)) for number, cells in sheets.parse_rows_and_add_notes(data)[0]]
     except sheets.BadTable as fault:
         if broken is None:
             return f"it is right, and refused: {fault}"
@@ -44,17 +45,31 @@ def draw_and_find_fault(rng):
         return f"{broken and broken.__name__}: the reader fails: {fault!r}"
     if broken:
         return f"{broken.__name__}: no fault"
-    return None if [row for row in found if row[1]] == drawn.expected_rows() else f"it has {found} instead of {drawn.expected_rows()}"
+    found, wanted = ([(number, marked_cells(cells)) for number, cells in rows if cells] for rows in (found, drawn.expected_rows()))
+    return None if found == wanted else f"it has {found} instead of {wanted}"
 
 
-def fork_for_fault(data, words):
+def marked_cells(cells):
+    """The text of each cell, and whether every column refuses it."""
+    return [(str(cell), is_refused(cell)) for cell in cells]
+
+
+def is_refused(cell):
+    try:
+        cell_values.refuse_unlike(cell, False)
+        return False
+    except order_table.BadOrders:
+        return True
+
+
+def try_in_fork(data, words):
     """What is wrong with a read, in a process of its own that may take as much time and memory as is allowed."""
     reading, writing = os.pipe()
     child = os.fork()
     if child == 0:
         try:
             os.close(reading)
-            os.write(writing, limit_and_read_for_fault(data, words).encode()[:2_000])
+            os.write(writing, try_within_limits(data, words).encode()[:2_000])
         finally:
             os._exit(0)
     os.close(writing)
@@ -64,7 +79,7 @@ def fork_for_fault(data, words):
     return f"it ends with {os.waitstatus_to_exitcode(status)}" if status else found
 
 
-def limit_and_read_for_fault(data, words):
+def try_within_limits(data, words):
     """Limits this process, and returns the fault of a read in it."""
     pages = int(Path("/proc/self/statm").read_text().split()[0])
     resource.setrlimit(resource.RLIMIT_AS, (pages * resource.getpagesize() + MOST_MEMORY,) * 2)
@@ -88,15 +103,15 @@ def main():
     args = parser.parse_args()
     counts = Counts()
     for number in range(args.first, args.first + args.count):
-        wrong = draw_and_find_fault(random.Random(f"workbooks {args.seed} {number}"))
+        wrong = try_random_workbook(random.Random(f"workbooks {args.seed} {number}"))
         counts.check(f"case {number} of seed {args.seed}: {wrong}", wrong is None)
     for name, (words, make) in {**FEW, **(LARGE if args.large else {})}.items():
         data = make()
         began = sum(resource.getrusage(resource.RUSAGE_CHILDREN)[:2])
-        wrong = fork_for_fault(data, words) or (len(data) > MOST_BYTES and f"the case has {len(data)} bytes")
+        wrong = try_in_fork(data, words) or (len(data) > MOST_BYTES and f"the case has {len(data)} bytes")
         seconds = sum(resource.getrusage(resource.RUSAGE_CHILDREN)[:2]) - began
         counts.check(f"{name}: {wrong} ({seconds:.1f} s)", not wrong)
-    return counts.print_totals()
+    return counts.print_totals_and_return_status()
 
 
 if __name__ == "__main__":

@@ -48,22 +48,22 @@ class RetryingRuns:
     def run_refused(self, row, refusal):
         return self.program.run(row.words, row.data, refusal)[0]
 
-    def count_calls(self, words, data):
+    def measure_count_of_calls(self, words, data):
         """How many calls for memory it makes."""
         return self.program.run(words, data, RefusedCalls("memory", EVERY, EVERY))[1]
 
     def refused_numbers(self, row, total):
         """The calls for memory that are refused: each, but of a long beginning only some; and one that no run comes to."""
-        first = self.count_calls(row.beginning, row.data) if row.beginning else 0
+        first = self.measure_count_of_calls(row.beginning, row.data) if row.beginning else 0
         begun = {1 + at * first // SPREAD for at in range(SPREAD)} if first else set()
         return sorted(begun | set(range(first + 1, total + 2)))
 
-    def check_row(self, row):
+    def run_and_check_row(self, row):
         """Refuses one call for memory after another. The first ones come before the row's calls; the others come from these, each of
         which is refused once and then answered."""
         check = self.runs.check
         check(f"{row.about}, nothing refused", self.run_refused(row, judge.NOTHING_REFUSED) == row.right_output(0))
-        total = self.count_calls(row.words, row.data)
+        total = self.measure_count_of_calls(row.words, row.data)
         numbers = self.refused_numbers(row, total)
         *printed, last = self.runs.pool.map(lambda number: self.run_refused(row, RefusedCalls("memory", number, number)), numbers)
         # one call for memory, for the words, is made again by the kit if it is refused
@@ -86,6 +86,14 @@ def journals_at_gate(given):
         yield RowOfRetries(f"{about} at a gate", [], data, f"{entries} entries", least=entries)
 
 
+def journals_on_threads(given):
+    """Journals of which each participant enters its commands on a thread of its own, at a gate whose turnstile is called as often after its
+    jobs as before."""
+    for about, data in given:
+        entries = data.count(b"\n")
+        yield RowOfRetries(f"{about} on threads", ["threads"], data, f"{entries} entries", least=entries, goes_on=True)
+
+
 def rows_of_gates():
     """Gates that refuse a call for another reason than memory: a full journal, and passes and receipts of others."""
     yield RowOfRetries("a journal that is filled", ["full"], b"", "10000 entries", least=2, beginning=["filled"])
@@ -93,7 +101,7 @@ def rows_of_gates():
     yield RowOfRetries("receipts of other gates", ["settle"], b"", "2 entries", least=12, is_split=True)
 
 
-def rows_of_texts(program, given, written):
+def capture_rows_of_texts(program, given, written):
     """Texts that are read, and journals that are written."""
     for about, data in given:
         replies, _ = program.run(["replay"], data, judge.NOTHING_REFUSED)
@@ -156,7 +164,7 @@ def check_copies_of_books(runs, room):
     for periods in rules.DAYS:
         data = b"".join(records_of_few_orders(periods))
         row = RowOfRetries(f"{COPIED} orders on {periods} periods", [], data, f"{COPIED + 1} entries")
-        plans = [RefusedCalls("memory", number, number) for number in range(1, refusals.count_calls([], data) + 1)]
+        plans = [RefusedCalls("memory", number, number) for number in range(1, refusals.measure_count_of_calls([], data) + 1)]
         plans = plans[bisect.bisect_left(plans, True, key=lambda plan: refusals.run_refused(row, plan) == row.right_output(1)) :]
         ran = list(runs.pool.map(lambda plan: refusals.program.run(row.words, row.data, plan), plans))
         for plan, (got, _) in zip(plans, ran):
@@ -176,6 +184,6 @@ def check_rows(runs, room, rows):
     refusals = RetryingRuns(runs, room)
     again, count = 0, 0
     for row in rows:
-        again += refusals.check_row(row)
+        again += refusals.run_and_check_row(row)
         count += 1
     print(f"memory refused to the calls of {count} rows: {again} calls made again", flush=True)

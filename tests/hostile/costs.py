@@ -20,7 +20,7 @@ from typing import NamedTuple
 
 from again import REFUSALS
 from judge import UNFINISHED
-from shared.instructions import DRAWN, FIXED, MOST_TIMES, TIMES, check_and_print_millions, run_for_instructions
+from shared.instructions import DRAWN, FIXED, MOST_TIMES, TIMES, check_and_print_millions, measure_instructions
 from shared.preload import HostileProgram, RefusedCalls  # by which `lib` is found
 from shared.records import (
     ORDERS,
@@ -28,7 +28,7 @@ from shared.records import (
     journal_text,
     ordinary_names,
     participant_codes,
-    run_for_colliding_names,
+    capture_colliding_names,
     submits_of,
     submits_of_book,
     volumes_text,
@@ -59,14 +59,14 @@ def check_names(runs):
     with a second participant too."""
     refusals = HostileProgram(REFUSALS, runs.program.room)
     tried = [(" ".join(words), runs.program, words) for words in ENGINES] + [(call, refusals, words) for call, words in GATES.items()]
-    lists = submits_of(ordinary_names()), submits_of(run_for_colliding_names(runs.program.room))
+    lists = submits_of(ordinary_names()), submits_of(capture_colliding_names(runs.program.room))
     asked = [
         (program, words, journal_text(more + records, words not in OPEN, periods), refusal)
         for _, program, words in tried
         for refusal, periods, more in ((DRAWN, 24, []), (FIXED, 24, []), (DRAWN, 96, ["submit,B,N-1,hour,buy,0,1:1,,\n"]))
         for records in lists
     ]
-    counts = list(runs.pool.map(lambda it: run_for_instructions(*it), asked))
+    counts = list(runs.pool.map(lambda it: measure_instructions(*it), asked))
     for at, (about, _, _) in enumerate(tried):
         drawn, fixed, long = (counts[6 * at + pair + 1] / counts[6 * at + pair] for pair in (0, 2, 4))
         took = f"{drawn:.1f} times the instructions of others, {fixed:.1f} times with the fixed seed"
@@ -91,11 +91,11 @@ def runs_on_other_days(runs):
 def check_names_on_other_days(runs):
     """Names that collide, with several workers and on other days, compared with others on the longest day."""
     others = submits_of(ordinary_names()[:SOME], LONG)
-    colliding = submits_of(run_for_colliding_names(runs.program.room, SOME, LONG), LONG)
+    colliding = submits_of(capture_colliding_names(runs.program.room, SOME, LONG), LONG)
     for name, program, words, days in runs_on_other_days(runs):
         texts = [(words, journal_text(others, words not in OPEN, 100))]
         texts += [(words + more, journal_text(colliding, words not in OPEN, periods)) for more, periods in days]
-        usual, *found = runs.pool.map(lambda it, program=program: run_for_instructions(program, *it, DRAWN), texts)
+        usual, *found = runs.pool.map(lambda it, program=program: measure_instructions(program, *it, DRAWN), texts)
         for (more, periods), count in zip(days, found):
             about = f"{' '.join([name, *more])}, {periods} periods"
             took = f"{about}: names that collide take {count / usual:.1f} times the instructions of others"
@@ -105,14 +105,14 @@ def check_names_on_other_days(runs):
 def check_seed_bytes(runs):
     """The seed is of all random bytes: names that collide under the seed of these take few instructions if any byte is another."""
     refusals = HostileProgram(REFUSALS, runs.program.room)
-    records = submits_of(run_for_colliding_names(runs.program.room, SOME, LONG, struct.unpack("<2Q", RANDOM)), LONG)
+    records = submits_of(capture_colliding_names(runs.program.room, SOME, LONG, struct.unpack("<2Q", RANDOM)), LONG)
     engines = [(runs.program, [word]) for word in ("replay", "clear", "day")] + [(refusals, words) for words in GATES.values()]
     others = [RANDOM[:place] + b"\0" + RANDOM[place + 1 :] for place in range(len(RANDOM))]
     asked = [(*engine, RANDOM) for engine in engines] + [(*engines[0], other) for other in others]
 
     def run(program, words, random):
         given = RefusedCalls("given", *struct.unpack("<2Q", random))
-        return run_for_instructions(program, words, journal_text(records, words not in OPEN), given)
+        return measure_instructions(program, words, journal_text(records, words not in OPEN), given)
 
     counts = list(runs.pool.map(lambda it: run(*it), asked))
     slow, quick = counts[: len(engines)], counts[len(engines) :]
@@ -143,7 +143,7 @@ def check_letters(runs):
     """Each letter of a participant and of a name is hashed. Orders of several kinds share a journal, and take about as long as others."""
     kinds = list(submits_by_kind())
     journals = [journal_text(itertools.chain.from_iterable(kinds[at : at + KINDS])) for at in range(0, len(kinds), KINDS)]
-    counts = list(runs.pool.map(lambda data: run_for_instructions(runs.program, ["replay"], data, DRAWN), journals))
+    counts = list(runs.pool.map(lambda data: measure_instructions(runs.program, ["replay"], data, DRAWN), journals))
     times = max(counts) / min(counts)
     took = f"participants and names that differ in three letters take at most {times:.2f} times the instructions of others"
     print(took, flush=True)
@@ -179,7 +179,7 @@ def check_cancels(runs):
     begin = numbered_submits(range(ORDERS))
     tried = {name: tuple(journal_text(begin + records) for records in both) for name, both in journals_with_cancels().items()}
     needed = {journal_text(begin)}.union(*tried.values())
-    counts = dict(zip(needed, runs.pool.map(lambda data: run_for_instructions(runs.program, ["replay"], data, DRAWN), needed)))
+    counts = dict(zip(needed, runs.pool.map(lambda data: measure_instructions(runs.program, ["replay"], data, DRAWN), needed)))
     alone = counts[journal_text(begin)]
     for name, (one, other) in tried.items():
         times = (counts[one] - alone) / (counts[other] - alone)
@@ -240,8 +240,8 @@ def check_full_books(runs):
     """Counts the instructions of runs on full books, and of a journal that is filled at a gate."""
     tried = runs_by_name()
     asked = [(it.words, journal_text(it.records, it.words[0] != "day", it.periods), DRAWN, it.status) for it in tried.values()]
-    counts = runs.pool.map(lambda it: run_for_instructions(runs.program, *it), asked)
+    counts = runs.pool.map(lambda it: measure_instructions(runs.program, *it), asked)
     for (about, work), count in zip(tried.items(), counts):
         check_and_print_millions(runs, f"{about}:", count, work.millions, work.times)
-    looks = run_for_instructions(HostileProgram(REFUSALS, runs.program.room), ["full"], b"", DRAWN)
+    looks = measure_instructions(HostileProgram(REFUSALS, runs.program.room), ["full"], b"", DRAWN)
     check_and_print_millions(runs, "calls up to a full journal, each with a look after it:", looks, LOOKS)

@@ -38,7 +38,7 @@ class RightAnswer:
             return self.texts[got.stdout]
 
     def is_text_of_day(self, text):
-        parted = results.split_day(text)
+        parted = results.journal_and_results_or_none(text)
         if parted is None:
             return False
         written, published = parted

@@ -51,7 +51,7 @@ def is_command(record):
 
 def read_worked_cases():
     """The worked cases for the built program: each with its name, its words and its input."""
-    return [(case.name, case.words, case.stdin) for case in cases.read_every()]
+    return [(case.name, case.words, case.stdin) for case in cases.read_all_cases()]
 
 
 AUCTION = records_of_example("auction-day.csv")
@@ -137,10 +137,11 @@ def rows_of_calls(program):
     days = [("two orders", TWO_ORDERS)]
     days += [(f"the commands of {name}", worked[f"replay/{name}"][1]) for name in ["stored-run", "closed", "links"]]
     yield from again.journals_at_gate([*days, ("the longest day", LONGEST), ("the auction day", OPEN_AUCTION)])
+    yield from again.journals_on_threads([("two orders", TWO_ORDERS), ("the auction day", OPEN_AUCTION)])
     yield from again.rows_of_gates()
     texts = [(name, data) for name, (words, data) in worked.items() if words == ["replay"] or name == "clear/quoted-crlf"]
     written = [("two orders", TWO_ORDERS + CLOSE), ("the longest day", LONGEST + CLOSE), ("the auction day", AUCTION)]
-    yield from again.rows_of_texts(program, [*texts, ("the longest day", LONGEST + CLOSE)], written)
+    yield from again.capture_rows_of_texts(program, [*texts, ("the longest day", LONGEST + CLOSE)], written)
     yield from again.rows_of_searches(worked["clear/two-equal-blocks"][1], worked["clear/group"][1])
     yield from again.rows_of_lines()
 
@@ -184,7 +185,7 @@ def is_right_at_end_of_input(answer, refusal, got, calls):
     """A read of 0 bytes is the end of the input: the answer is the answer to the bytes before it."""
     if calls < refusal.first:
         return answer.is_given_answer(got)
-    return answer.run_for_front(refusal.moved_before(len(answer.data))).is_given_answer(got)
+    return answer.capture_front(refusal.moved_before(len(answer.data))).is_given_answer(got)
 
 
 class RunsOfRows(Counts):
@@ -199,7 +200,7 @@ class RunsOfRows(Counts):
         self.tried = self.calls = 0  # the runs, and how many there would be if each call were refused
         self.rows = self.whole_rows = 0  # all rows, and those of which each call was refused
 
-    def run_for_answer(self, words, data):
+    def capture_answer(self, words, data):
         key = (tuple(words), data)
         if key not in self.answers:
             self.answers[key] = AnswerToRow(self, words, data)
@@ -211,7 +212,7 @@ class RunsOfRows(Counts):
             return list(range(1, total + 2))
         return sorted({1 + at * total // (row.some - 1) for at in range(row.some)})
 
-    def run_for_difference(self, row, answer, number):
+    def try_call(self, row, answer, number):
         """The fault of a run, or nothing."""
         refusal = row.refused_calls(number)
         got, calls = self.program.run(row.words, row.data, refusal)
@@ -219,9 +220,9 @@ class RunsOfRows(Counts):
             return None
         return f"differs: {row.about}: call {number}: status {got.status}, {len(got.stdout)} bytes, {got.stderr[:80]!r}"
 
-    def check_row(self, row):
+    def run_and_check_row(self, row):
         begun = time.monotonic()
-        answer = self.run_for_answer(row.words, row.data)
+        answer = self.capture_answer(row.words, row.data)
         _, total = self.program.run(row.words, row.data, row.refused_calls(EVERY))
         if row.kind == "memory":
             self.check(f"{row.about}: {total} calls are counted", total > 0)
@@ -232,7 +233,7 @@ class RunsOfRows(Counts):
         self.calls += total + 1
         self.rows += 1
         self.whole_rows += len(numbers) == total + 1
-        found = list(self.pool.map(lambda number: self.run_for_difference(row, answer, number), numbers))
+        found = list(self.pool.map(lambda number: self.try_call(row, answer, number), numbers))
         wrong = [line for line in found if line]
         self.passed += found.count(None)
         self.failed += len(wrong)
@@ -245,7 +246,7 @@ class RunsOfRows(Counts):
         begun, passed, failed = time.monotonic(), self.passed, self.failed
         before = self.tried, self.calls, self.rows, self.whole_rows
         for row in rows:
-            self.check_row(row)
+            self.run_and_check_row(row)
         after = self.tried, self.calls, self.rows, self.whole_rows
         tried, calls, count, whole = (now - then for now, then in zip(after, before))
         shown = f"each call in {whole} of {count} rows; {tried} of {calls} runs, {calls - tried} left out"
@@ -259,6 +260,6 @@ class AnswerToRow(judge.RightAnswer):
         self.runs = runs
         self.words = words
 
-    def run_for_front(self, count):
+    def capture_front(self, count):
         """The answer to the first `count` bytes."""
-        return self.runs.run_for_answer(self.words, self.data[:count])
+        return self.runs.capture_answer(self.words, self.data[:count])

@@ -45,7 +45,7 @@ class LaunchTests(DamCase):
             self.assertEqual(self.at.run_dam("says", "no\\n"), (0, "words: says no\\n\n", line + "no\n"))
             self.assertEqual(self.at.run_dam(), (2, "", line + "help\n"))
             self.assertEqual(self.at.run_dam("--help"), (0, "help\n", line))
-            self.prove_program()
+            self.prove_program_and_assert()
 
     def test_the_status_is_seen_from_a_process_that_ignores_it(self):
         for status in (0, 3):
@@ -70,7 +70,7 @@ class LaunchTests(DamCase):
             out = self.at.run("sh", "-c", words, "", f"{self.at.top}/dam")[1]
             self.assertEqual(out, "words: x\n0\nwords: x\nwords: x\n")
             if not before:
-                self.prove_program()
+                self.prove_program_and_assert()
 
     def test_a_directory_as_input(self):
         """Python doesn't start with it, and the program says what it says of it."""
@@ -79,20 +79,21 @@ class LaunchTests(DamCase):
             self.assertEqual((status, out), (0, "words: x\n"))
             self.assertTrue(error.startswith(f"{'' if before else self.line_of_unproved()}cat: "), error)
             if not before:
-                self.prove_program()
+                self.prove_program_and_assert()
         # the sums are looked at
         self.at.write("crates/low/src/lib.rt", "# edited\n")
-        self.at.make_newer("crates/low/src/lib.rt")
+        self.at.touch_newer("crates/low/src/lib.rt")
         error = self.at.run("sh", "-c", '"$1" --proved x < /', "", f"{self.at.top}/dam")[2]
         self.assertIn("low changed since", error)
 
     def test_an_edit_after_the_proof(self):
-        self.prove_program()
-        paths = ("crates/low/src/lib.rt", "crates/dam_cli/src/main.rt", "crates/high/proofs/p.antt", "crates.txt")
+        self.prove_program_and_assert()
+        paths = ("crates/low/src/lib.rt", "crates/dam_cli/src/main.rt", "crates/high/proofs/p.antt", "crates/right/specs/s.antt",
+                 "crates.txt")
         for count, path in enumerate(paths):
             before = self.at.read(path) if os.path.exists(f"{self.at.top}/{path}") else None
             self.at.write(path, f"{before or ''}\n# edited\n")
-            self.at.make_newer(path)
+            self.at.touch_newer(path)
             changed = "low, left, right, high" if path == "crates.txt" else path.split("/")[1]
             name = "crates/dam_cli/out/dam_cli was built of other sources"
             status, out, error = self.at.run_dam("x", given="text")
@@ -116,8 +117,87 @@ class LaunchTests(DamCase):
         # crates of no concern, and files that aren't sources
         for path in ("crates/far/src/lib.rt", "crates/other/src/main.rt", "crates/dam_cli/args"):
             self.at.write(path, "edited")
-            self.at.make_newer(path)
+            self.at.touch_newer(path)
         self.assertEqual(self.at.run_dam("--proved", "x", given="text"), (0, "words: x\ntext", ""))
+
+    def run_and_assert_stale(self, *changed):
+        """Runs the proved program, of whose crates these changed since."""
+        why = f"crates/dam_cli/out/dam_cli was built of other sources: {', '.join(changed)} changed since"
+        self.assertEqual(self.at.run_dam("x", given="text"), (0, "words: x\ntext", self.line_of_unproved(why)))
+        error = f"dam: {why}: './dam prove' proves and builds the program\n"
+        self.assertEqual(self.at.run_dam("--proved", "x"), (70, "", error))
+
+    def test_a_removed_source(self):
+        self.at.write("crates/low/src/more.rt", "")
+        self.prove_program_and_assert()
+        os.remove(f"{self.at.top}/crates/low/src/more.rt")
+        self.run_and_assert_stale("low")
+
+    def test_a_source_replaced_by_one_of_an_older_date(self):
+        self.prove_program_and_assert()
+        for count, way in enumerate((["cp", "-p"], ["mv"])):
+            self.at.write("older", f"// older {count}\n")
+            os.utime(f"{self.at.top}/older", (1e9, 1e9))
+            self.assertEqual(self.at.run(*way, f"{self.at.top}/older", f"{self.at.top}/crates/left/src/lib.rt"), (0, "", ""))
+            self.assertEqual(os.path.getmtime(f"{self.at.top}/crates/left/src/lib.rt"), 1e9)
+            self.run_and_assert_stale("left")
+            self.at.write("crates/left/src/lib.rt", "// left\n")
+            self.assertEqual(self.at.run_dam("x"), (0, "words: x\n", ""))
+
+    def test_dates_that_cant_be_compared(self):
+        self.prove_program_and_assert()
+        lacks = self.at.make_environment_without("find")
+        self.assertEqual(self.at.run_dam("x", env=lacks), (0, "words: x\n", ""))
+        self.at.write("crates/low/src/lib.rt", "// edited\n")
+        self.assertIn("low changed since", self.at.run_dam("x", env=lacks)[2])
+
+    def run_and_assert_unreadable(self, fault, *drop):
+        """Runs the proved program, of whose sources one can't be read."""
+        dam = [*drop, f"{self.at.top}/dam"]
+        self.assertEqual(self.at.run(*dam, "x", cwd=self.at.top), (70, "", f"dam: {fault}\n"))
+        line = f"crates/dam_cli/out/dam_cli may be older than its sources: {fault}: './dam prove' proves and builds the program"
+        self.assertEqual(self.at.run(*dam, "--proved", "x", cwd=self.at.top), (70, "", f"dam: {line}\n"))
+
+    def test_a_link_to_no_file_among_the_sources(self):
+        """As an editor makes it. The kit refuses it too."""
+        self.prove_program_and_assert()
+        link = f"{self.at.top}/crates/low/src/.#lib.rt"
+        os.symlink("user@host.1:2", link)
+        fault = "crates/low/src/.#lib.rt is a link to no file, as an editor makes it beside a file with unsaved changes"
+        self.run_and_assert_unreadable(fault)
+        self.assertEqual(self.at.run_dam("prove"), (1, "", f"{fault}\n"))
+        # with an edited source as well
+        self.at.write("crates/low/src/lib.rt", "// edited\n")
+        self.run_and_assert_unreadable(fault)
+        os.remove(link)
+        self.run_and_assert_stale("low")
+        self.at.write("crates/low/src/lib.rt", "// low\n")
+        self.assertEqual(self.at.run_dam("--proved", "x"), (0, "words: x\n", ""))
+
+    def test_sources_that_cant_be_read(self):
+        self.prove_program_and_assert()
+        # root may read everything, so it becomes nobody
+        drop = [] if os.geteuid() else ["setpriv", "--reuid=65534", "--regid=65534", "--clear-groups"]
+        os.chmod(self.at.kept.name, 0o755)
+        self.assertEqual(self.at.run(*drop, f"{self.at.top}/dam", "--proved", "x"), (0, "words: x\n", ""))
+        for path, mode in (("crates/right/src/lib.rt", 0o644), ("crates/right/src", 0o755), ("crates.txt", 0o644)):
+            os.chmod(f"{self.at.top}/{path}", 0)
+            self.addCleanup(os.chmod, f"{self.at.top}/{path}", mode)
+            if path != "crates.txt":
+                self.run_and_assert_unreadable(f"{path} can't be read: Permission denied", *drop)
+            status, out, error = self.at.run(*drop, f"{self.at.top}/dam", "--proved", "x")
+            self.assertEqual((status, out), (70, ""))
+            self.assertIn(f"may be older than its sources: {path} can't be read: Permission denied", error)
+            os.chmod(f"{self.at.top}/{path}", mode)
+
+    def test_sums_that_cant_be_taken(self):
+        self.prove_program_and_assert()
+        for text in ("import sys; sys.exit(1)", "import os; os.kill(os.getpid(), 9)", "import nothing", "("):
+            self.at.write("tools/lib/crates/sources.py", text)
+            status, out, error = self.at.run_dam("--proved", "x")
+            self.assertEqual((status, out), (70, ""))
+            line = "dam: the program may be older than its sources: they can't be read: './dam prove' proves and builds the program\n"
+            self.assertTrue(error.endswith(line), error)
 
     def test_proved_runs_nothing_else(self):
         status, out, error = self.at.run_dam("--proved", "x", given="text")
@@ -125,7 +205,7 @@ class LaunchTests(DamCase):
         self.assertEqual(error, "dam: crates/dam_cli/out/dam_cli is missing: './dam prove' proves and builds the program\n")
         self.at.run_dam("x")
         self.assertEqual(self.at.run_dam("--proved", "x")[0], 70, "compiled without proofs")
-        self.prove_program()
+        self.prove_program_and_assert()
         self.at.write("crates/dam_cli/out/dam_cli", f"{PROGRAM}# another")
         self.assertIn("another one took its place", self.at.run_dam("--proved", "x")[2])
         os.remove(f"{self.at.program}.json")
@@ -135,7 +215,7 @@ class LaunchTests(DamCase):
         self.assertEqual((status, out, error), (0, "words: x\ntext", self.line_of_unproved(why)))
 
     def test_unproved_runs_nothing_that_is_proved(self):
-        self.prove_program()
+        self.prove_program_and_assert()
         line = self.line_of_unproved("--unproved asks for this")
         ended = self.at.run_dam("--unproved", "x", "a b", "--", "--unproved", given="text")
         self.assertEqual(ended, (0, "words: x a b -- --unproved\ntext", line))
@@ -147,7 +227,7 @@ class LaunchTests(DamCase):
             status, out, error = self.at.run_dam(*words, env=lacks)
             self.assertEqual((status, out), (70, ""))
             self.assertIn("there is no python3 on the path", error)
-        self.prove_program()
+        self.prove_program_and_assert()
         self.assertEqual(self.at.run_dam("x", given="text", env=lacks), (0, "words: x\ntext", ""))
 
     def test_through_links(self):

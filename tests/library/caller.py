@@ -11,8 +11,8 @@ class Answer(ctypes.Structure):
     _fields_ = [("status", ctypes.c_uint8), ("length", ctypes.c_size_t)]
 
 
-def library(path):
-    """The library, with the types of its calls, so that a missing argument is an error and not a wrong address."""
+def load_library(path):
+    """The library, with the types of its calls, so that a missing argument is an error, not a wrong address."""
     calls, text = ctypes.CDLL(path), [ctypes.c_char_p, ctypes.c_size_t]
     calls.dam_replay_seeded.argtypes = [*text, *text, *text]
     calls.dam_clear_seeded.argtypes = [*text, *text, ctypes.c_uint32, *text]
@@ -20,19 +20,19 @@ def library(path):
     return calls
 
 
-def answer(call, text, *nodes):
-    """The status and the whole answer, of `dam_replay_seeded` or `dam_clear_seeded`."""
+def call_and_read_answer(call, text, *nodes):
+    """The status and answer of `dam_replay_seeded` or `dam_clear_seeded`."""
     secret, buffer = os.urandom(16), ctypes.create_string_buffer(MOST_ANSWER)
     found = call(secret, len(secret), text, len(text), *nodes, buffer, MOST_ANSWER)
     return found.status, buffer.raw[: found.length]
 
 
 def main():
-    calls, text = library(sys.argv[1]), sys.stdin.buffer.read()
+    calls, text = load_library(sys.argv[1]), sys.stdin.buffer.read()
     if sys.argv[2] == "replay":
-        status, shown = answer(calls.dam_replay_seeded, text)
+        status, shown = call_and_read_answer(calls.dam_replay_seeded, text)
     else:
-        status, shown = answer(calls.dam_clear_seeded, text, MOST_NODES)
+        status, shown = call_and_read_answer(calls.dam_clear_seeded, text, MOST_NODES)
     (sys.stderr if status else sys.stdout).buffer.write(shown)
     sys.exit(status)
 

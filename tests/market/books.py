@@ -7,8 +7,7 @@ from typing import NamedTuple
 TESTS = Path(__file__).resolve().parents[1]
 sys.path[:0] = [str(TESTS), str(TESTS / "fuzz")]
 
-import shared  # by which `lib` is found
-import days
+from shared import days  # by which `lib` is found
 from lib.base import rules
 from lib.journal import book, journal
 from lib.journal.journal import Close, Journal, Order, Submit
@@ -93,7 +92,7 @@ def draw_book(rng):
         draft.set_meeting_prices()
     days.add_mixed(draft, draft.hourly, rng.randint(1, MOST_BLOCKS))
     read = journal.parse_journal("".join(f"{line}\n" for line in draft.lines).encode())
-    run, _ = book.run_commands(read)
+    run, _ = book.book_and_refusals(read)
     return MarketBook(run.periods, tuple(OrderRow(who, name, order) for (who, name), order in run.rows.items()))
 
 

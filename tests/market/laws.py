@@ -47,9 +47,9 @@ class MarketOfProgram:
     def __init__(self, program):
         self.program, self.kept = program, {}
 
-    def run_for_results(self, book):
+    def capture_results(self, book):
         if book not in self.kept:
-            printed = self.program.run_for_output(["clear"], book.journal_text())
+            printed = self.program.capture_output(["clear"], book.journal_text())
             if printed.status:
                 raise NoResults(printed.stderr.decode())
             self.kept[book] = parse_results(printed.stdout)
@@ -82,11 +82,11 @@ def traded_volumes(book, printed):
     return volumes
 
 
-# Each law takes the market, a book and the generator of its change, and yields the faults, if there are any.
+# Each takes the market, a book and the generator of its change, and yields the faults, if there are any. LAWS has the name of its law.
 
 
-def welfare_is_shared_out(market, book, _):
-    printed = market.run_for_results(book)
+def try_that_welfare_is_shared_out(market, book, _):
+    printed = market.capture_results(book)
     shares = sum(surplus(row, printed) for row in book.rows)
     if shares != printed.welfare:
         yield f"the welfare is {printed.welfare}, and the surpluses add up to {shares}"
@@ -95,15 +95,15 @@ def welfare_is_shared_out(market, book, _):
             yield f"block {row.name} has another surplus"
 
 
-def money_balances(market, book, _):
-    printed = market.run_for_results(book)
+def try_that_money_balances(market, book, _):
+    printed = market.capture_results(book)
     volumes = traded_volumes(book, printed)
     if volumes["buy"] != volumes["sell"] or volumes["buy"] != printed.volumes:
         yield "buyers and sellers trade different volumes, or the published ones are others"
 
 
-def nobody_loses(market, book, _):
-    printed = market.run_for_results(book)
+def try_that_nobody_loses(market, book, _):
+    printed = market.capture_results(book)
     gains = {}
     for row in book.rows:
         gain = surplus(row, printed)
@@ -122,8 +122,8 @@ def family_surplus(book, row, printed):
     return surplus(row, printed) + sum(family_surplus(book, child, printed) for child in book.children(row))
 
 
-def a_period_is_fair(market, book, _):
-    printed = market.run_for_results(book)
+def try_that_a_period_is_fair(market, book, _):
+    printed = market.capture_results(book)
     seen = {}
     for row in book.hourly:
         ((period, volume),) = row.order.volumes
@@ -138,16 +138,16 @@ def a_period_is_fair(market, book, _):
     # a volume in between gains in between, since the surplus grows evenly with it
 
 
-def a_better_limit_keeps_a_block(market, book, rng):
-    printed = market.run_for_results(book)
+def try_a_better_limit(market, book, rng):
+    printed = market.capture_results(book)
     for row in book.blocks:
         limit = books.draw_better_limit(rng, row.order)
         if printed.accepts(row) and limit is not None:
-            if not market.run_for_results(book.with_limit(row, limit)).accepts(row):
+            if not market.capture_results(book.with_limit(row, limit)).accepts(row):
                 yield f"block {row.name} is accepted, and with the better limit {limit} it isn't"
 
 
-def there_is_a_worst_limit(market, book, rng):
+def try_that_there_is_a_worst_limit(market, book, rng):
     """A few limits of one block, from the worst to the best."""
     if not book.blocks:
         return
@@ -155,7 +155,7 @@ def there_is_a_worst_limit(market, book, rng):
     moves = 3 * (books.draw_better_limit, books.draw_worse_limit)
     drawn = {limit for move in moves if (limit := move(rng, row.order)) is not None}
     limits = sorted(drawn, key=lambda limit: signed_by_side(row.order, limit))
-    accepted = [market.run_for_results(other).accepts(book_row(other, row)) for other in (book.with_limit(row, limit) for limit in limits)]
+    accepted = [market.capture_results(other).accepts(book_row(other, row)) for other in (book.with_limit(row, limit) for limit in limits)]
     if accepted != sorted(accepted):
         yield f"block {row.name} is accepted with some limit and not with a better one: {limits}"
 
@@ -164,21 +164,21 @@ def book_row(book, row):
     return next(other for other in book.rows if other.key == row.key)
 
 
-def a_worse_limit_keeps_a_rejection(market, book, rng):
-    printed = market.run_for_results(book)
+def try_a_worse_limit(market, book, rng):
+    printed = market.capture_results(book)
     for row in book.blocks:
         limit = books.draw_worse_limit(rng, row.order)
         if not printed.accepts(row) and limit is not None:
-            other = market.run_for_results(book.with_limit(row, limit))
+            other = market.capture_results(book.with_limit(row, limit))
             if other.accepts(row) or other.lines_but(row.key) != printed.lines_but(row.key):
                 yield f"block {row.name} is rejected, and with the worse limit {limit} the results are others"
 
 
-def the_better_of_two_blocks_goes_first(market, book, rng):
+def try_the_better_of_two_blocks(market, book, rng):
     """Of the book, and of it with one more block that is like one of the others, with another limit."""
     more = [book.draw_with_one_more(rng)] if book.blocks and len(book.blocks) < rules.MOST_BLOCKS else []
     for other in (book, *more):
-        printed = market.run_for_results(other)
+        printed = market.capture_results(other)
         alone = [row for row in other.blocks if not (row.order.parent or row.order.group or other.children(row))]
         for better, worse in itertools.permutations(alone, 2):
             alike = (better.order.side, better.order.volumes) == (worse.order.side, worse.order.volumes)
@@ -187,27 +187,27 @@ def the_better_of_two_blocks_goes_first(market, book, rng):
                     yield f"block {worse.name} is accepted, and {better.name}, which is better, isn't"
 
 
-def a_rejected_block_withdrawn_changes_nothing(market, book, _):
-    printed = market.run_for_results(book)
+def try_a_rejected_block_withdrawn(market, book, _):
+    printed = market.capture_results(book)
     for row in book.blocks:
         if not printed.accepts(row) and not book.children(row):
-            if market.run_for_results(book.without(row)) != printed.lines_but(row.key):
+            if market.capture_results(book.without(row)) != printed.lines_but(row.key):
                 yield f"block {row.name} is rejected, and without it the results are others"
 
 
-def a_block_more_never_lowers_welfare(market, book, rng):
+def try_a_block_more(market, book, rng):
     """Each block without children is one more than the others; and one like another, with another limit, comes at the end."""
-    printed = market.run_for_results(book)
+    printed = market.capture_results(book)
     for row in book.blocks:
-        if not book.children(row) and market.run_for_results(book.without(row)).welfare > printed.welfare:
+        if not book.children(row) and market.capture_results(book.without(row)).welfare > printed.welfare:
             yield f"without block {row.name} the welfare is greater"
     if book.blocks and len(book.blocks) < rules.MOST_BLOCKS:
-        if market.run_for_results(book.draw_with_one_more(rng)).welfare < printed.welfare:
+        if market.capture_results(book.draw_with_one_more(rng)).welfare < printed.welfare:
             yield "with a block more at the end the welfare is less"
 
 
-def book_order_of_hourly_orders_decides_only_ties(market, book, rng):
-    printed, other = market.run_for_results(book), market.run_for_results(book.draw_hourly_shuffled(rng))
+def try_ties_of_hourly_orders(market, book, rng):
+    printed, other = market.capture_results(book), market.capture_results(book.draw_hourly_shuffled(rng))
     if (other.welfare, other.prices, other.volumes, other.accepted_keys(book)) != (
         printed.welfare,
         printed.prices,
@@ -217,25 +217,25 @@ def book_order_of_hourly_orders_decides_only_ties(market, book, rng):
         yield "with the hourly orders in another order the results are others"
 
 
-def book_order_of_blocks_decides_only_ties(market, book, rng):
-    printed, other = market.run_for_results(book), market.run_for_results(book.draw_blocks_shuffled(rng))
+def try_ties_of_blocks(market, book, rng):
+    printed, other = market.capture_results(book), market.capture_results(book.draw_blocks_shuffled(rng))
     if other.welfare != printed.welfare:
         yield "with the blocks in another order the welfare is another"
     if other.accepted_keys(book) == printed.accepted_keys(book) and other != printed:
         yield "with the blocks in another order the same selection has other prices or executions"
 
 
-LAWS = [
-    welfare_is_shared_out,
-    money_balances,
-    nobody_loses,
-    a_period_is_fair,
-    a_better_limit_keeps_a_block,
-    there_is_a_worst_limit,
-    a_worse_limit_keeps_a_rejection,
-    the_better_of_two_blocks_goes_first,
-    a_rejected_block_withdrawn_changes_nothing,
-    a_block_more_never_lowers_welfare,
-    book_order_of_hourly_orders_decides_only_ties,
-    book_order_of_blocks_decides_only_ties,
-]
+LAWS = {
+    "welfare_is_shared_out": try_that_welfare_is_shared_out,
+    "money_balances": try_that_money_balances,
+    "nobody_loses": try_that_nobody_loses,
+    "a_period_is_fair": try_that_a_period_is_fair,
+    "a_better_limit_keeps_a_block": try_a_better_limit,
+    "there_is_a_worst_limit": try_that_there_is_a_worst_limit,
+    "a_worse_limit_keeps_a_rejection": try_a_worse_limit,
+    "the_better_of_two_blocks_goes_first": try_the_better_of_two_blocks,
+    "a_rejected_block_withdrawn_changes_nothing": try_a_rejected_block_withdrawn,
+    "a_block_more_never_lowers_welfare": try_a_block_more,
+    "book_order_of_hourly_orders_decides_only_ties": try_ties_of_hourly_orders,
+    "book_order_of_blocks_decides_only_ties": try_ties_of_blocks,
+}

@@ -25,7 +25,7 @@ class FixedMarket:
     def __init__(self, book, printed, others=None):
         self.book, self.printed, self.others = book, printed, others
 
-    def run_for_results(self, book):
+    def capture_results(self, book):
         return self.printed if book == self.book else self.others
 
 
@@ -41,22 +41,25 @@ class Laws(unittest.TestCase):
         self.assertNotEqual(faults_of_law(law, *breaking, book=book), [])
 
     def test_welfare_is_shared_out(self):
-        self.check_law(laws.welfare_is_shared_out, [RIGHT], [RIGHT._replace(welfare=20_001)])
+        self.check_law(laws.try_that_welfare_is_shared_out, [RIGHT], [RIGHT._replace(welfare=20_001)])
 
     def test_money_balances(self):
-        self.check_law(laws.money_balances, [RIGHT], [RIGHT._replace(orders={**RIGHT.orders, TOWN.key: 19})])
-        self.check_law(laws.money_balances, [RIGHT], [RIGHT._replace(volumes=[40])])
+        self.check_law(laws.try_that_money_balances, [RIGHT], [RIGHT._replace(orders={**RIGHT.orders, TOWN.key: 19})])
+        self.check_law(laws.try_that_money_balances, [RIGHT], [RIGHT._replace(volumes=[40])])
 
     def test_nobody_loses(self):
-        self.check_law(laws.nobody_loses, [RIGHT], [RIGHT._replace(prices=[5_001])])
-        self.check_law(laws.nobody_loses, [RIGHT], [RIGHT._replace(prices=[3_999])])
+        self.check_law(laws.try_that_nobody_loses, [RIGHT], [RIGHT._replace(prices=[5_001])])
+        self.check_law(laws.try_that_nobody_loses, [RIGHT], [RIGHT._replace(prices=[3_999])])
 
     def test_a_family_may_not_lose(self):
         child = OrderRow("GEN", "NEXT", Order("block", "sell", 5_010, ((1, 20),), parent="UNIT"))
         book = MarketBook(1, (UNIT, child, TOWN))
         printed = RIGHT._replace(orders={**RIGHT.orders, child.key: (False, -200)})
         self.check_law(
-            laws.nobody_loses, [printed], [printed._replace(welfare=19_800, orders={**printed.orders, child.key: (True, -200)})], book
+            laws.try_that_nobody_loses,
+            [printed],
+            [printed._replace(welfare=19_800, orders={**printed.orders, child.key: (True, -200)})],
+            book,
         )
 
     def test_the_better_of_two_blocks(self):
@@ -66,35 +69,47 @@ class Laws(unittest.TestCase):
         breaking = right._replace(orders={UNIT.key: (True, 20_000), start.key: (False, 40_000), TOWN.key: 20})
         keys = (UNIT.key, start.key, ("GEN", "MORE"), ("GAS", "MORE"))
         others = right._replace(orders={key: (True, 0) for key in keys})
-        self.check_law(laws.the_better_of_two_blocks_goes_first, [right, others], [breaking, others], book)
+        self.check_law(laws.try_the_better_of_two_blocks, [right, others], [breaking, others], book)
 
     def test_fair_in_a_period(self):
         two = MarketBook(1, (UNIT, TOWN, MILL))
         first = RIGHT._replace(orders={**RIGHT.orders, MILL.key: 0})
-        self.check_law(laws.a_period_is_fair, [first], [first._replace(orders={**first.orders, TOWN.key: 0, MILL.key: 20})], two)
-        self.check_law(laws.a_period_is_fair, [RIGHT], [RIGHT._replace(prices=[4_999], orders={**RIGHT.orders, TOWN.key: 19})])
-        self.check_law(laws.a_period_is_fair, [RIGHT], [RIGHT._replace(prices=[5_001])])
+        self.check_law(
+            laws.try_that_a_period_is_fair, [first], [first._replace(orders={**first.orders, TOWN.key: 0, MILL.key: 20})], two
+        )
+        self.check_law(
+            laws.try_that_a_period_is_fair, [RIGHT], [RIGHT._replace(prices=[4_999], orders={**RIGHT.orders, TOWN.key: 19})]
+        )
+        self.check_law(laws.try_that_a_period_is_fair, [RIGHT], [RIGHT._replace(prices=[5_001])])
 
     def test_a_better_limit_keeps_a_block(self):
-        self.check_law(laws.a_better_limit_keeps_a_block, [RIGHT, RIGHT], [RIGHT, NOTHING])
+        self.check_law(laws.try_a_better_limit, [RIGHT, RIGHT], [RIGHT, NOTHING])
 
     def test_there_is_a_worst_limit(self):
         class Best(FixedMarket):
-            def run_for_results(self, book):
+            def capture_results(self, book):
                 return RIGHT if (book.rows[0].order.price <= 4_000) == self.printed else NOTHING
 
-        self.assertEqual(list(laws.there_is_a_worst_limit(Best(None, True), BOOK, random.Random(1))), [])
-        self.assertNotEqual(list(laws.there_is_a_worst_limit(Best(None, False), BOOK, random.Random(1))), [])
+        self.assertEqual(list(laws.try_that_there_is_a_worst_limit(Best(None, True), BOOK, random.Random(1))), [])
+        self.assertNotEqual(list(laws.try_that_there_is_a_worst_limit(Best(None, False), BOOK, random.Random(1))), [])
 
     def test_a_worse_limit_keeps_a_rejection(self):
         other = NOTHING._replace(orders={**NOTHING.orders, UNIT.key: (False, 10_000)})
-        self.check_law(laws.a_worse_limit_keeps_a_rejection, [NOTHING, other], [NOTHING, RIGHT])
-        self.check_law(laws.a_worse_limit_keeps_a_rejection, [NOTHING, other], [NOTHING, other._replace(prices=[4_999])])
+        self.check_law(laws.try_a_worse_limit, [NOTHING, other], [NOTHING, RIGHT])
+        self.check_law(
+            laws.try_a_worse_limit, [NOTHING, other], [NOTHING, other._replace(prices=[4_999])]
+        )
 
     def test_a_rejected_block_withdrawn_changes_nothing(self):
         alone = NOTHING.lines_but(UNIT.key)
-        self.check_law(laws.a_rejected_block_withdrawn_changes_nothing, [NOTHING, alone], [NOTHING, alone._replace(prices=[0])])
-        self.check_law(laws.a_rejected_block_withdrawn_changes_nothing, [NOTHING, alone], [NOTHING, alone._replace(orders={TOWN.key: 1})])
+        self.check_law(
+            laws.try_a_rejected_block_withdrawn, [NOTHING, alone], [NOTHING, alone._replace(prices=[0])]
+        )
+        self.check_law(
+            laws.try_a_rejected_block_withdrawn,
+            [NOTHING, alone],
+            [NOTHING, alone._replace(orders={TOWN.key: 1})],
+        )
 
     def test_a_block_more_never_lowers_welfare(self):
         class Sized:
@@ -103,11 +118,11 @@ class Laws(unittest.TestCase):
             def __init__(self, *welfares):
                 self.welfares = welfares
 
-            def run_for_results(self, book):
+            def capture_results(self, book):
                 return RIGHT._replace(welfare=self.welfares[len(book.blocks)])
 
         for welfares, is_kept in (((0, 0, 5), True), ((1, 0, 5), False), ((0, 5, 0), False)):
-            found = list(laws.a_block_more_never_lowers_welfare(Sized(*welfares), BOOK, random.Random(1)))
+            found = list(laws.try_a_block_more(Sized(*welfares), BOOK, random.Random(1)))
             self.assertEqual(found == [], is_kept)
 
     def test_book_order(self):
@@ -116,11 +131,16 @@ class Laws(unittest.TestCase):
         turned = RIGHT._replace(orders={**given.orders, TOWN.key: 0, MILL.key: 20})
         other = given._replace(orders={**given.orders, UNIT.key: (False, 0), START.key: (True, 0)})
         self.check_law(
-            laws.book_order_of_hourly_orders_decides_only_ties, [given, turned], [given, turned._replace(prices=[4_500])], hourly
+            laws.try_ties_of_hourly_orders,
+            [given, turned],
+            [given, turned._replace(prices=[4_500])],
+            hourly,
         )
-        self.check_law(laws.book_order_of_hourly_orders_decides_only_ties, [given, turned], [given, other], hourly)
-        self.check_law(laws.book_order_of_blocks_decides_only_ties, [given, other], [given, other._replace(welfare=1)], hourly)
-        self.check_law(laws.book_order_of_blocks_decides_only_ties, [given, given], [given, turned], hourly)
+        self.check_law(laws.try_ties_of_hourly_orders, [given, turned], [given, other], hourly)
+        self.check_law(
+            laws.try_ties_of_blocks, [given, other], [given, other._replace(welfare=1)], hourly
+        )
+        self.check_law(laws.try_ties_of_blocks, [given, given], [given, turned], hourly)
 
 
 class Books(unittest.TestCase):

@@ -11,13 +11,13 @@ from lib.base import rules
 from lib.office import fixed_files, refusals, web
 from lib.seal import heads
 
-API, DEMO = (json.loads(fixed_files.openapi_text(is_demo)) for is_demo in (False, True))
+API, DEMO = (json.loads(fixed_files.read_openapi_text(is_demo)) for is_demo in (False, True))
 RANDOM = 60  # requests of a day
 WAIT_SECONDS = 20  # for the office to take requests again
 TYPES = {"string": str, "integer": int, "number": (int, float), "boolean": bool, "array": list, "object": dict}
 
 
-def referred_to(described):
+def schema_referred_to(described):
     """A part of the description, or the component to which it refers."""
     if "$ref" not in described:
         return described
@@ -27,7 +27,7 @@ def referred_to(described):
 
 def fault_of_value(value, schema, at="answer"):
     """How a value breaks a schema; None if it doesn't."""
-    schema = referred_to(schema)
+    schema = schema_referred_to(schema)
     if "oneOf" in schema:
         return None if sum(fault_of_value(value, one, at) is None for one in schema["oneOf"]) == 1 else f"{at} is none of several"
     kind = schema.get("type")
@@ -53,13 +53,13 @@ def fault_of_value(value, schema, at="answer"):
 
 def send_and_check(office, counts, method, template, values, headers=None, body=None, query=""):
     """Sends a request, and compares the answer with its description. Returns the status and the body."""
-    status, got, data = office.request(template.format(**values) + query, headers, method, body)
+    status, got, data = office.send_request(template.format(**values) + query, headers, method, body)
     described = API["paths"][template][method.lower()]["responses"].get(str(status))
     about = f"{method} {template} {values} {query} {(body or b'')[:200]!r}: {status} {data[:200]!r}"
     if described is None:
         counts.check(f"{about}: the status isn't described", False)
         return status, data
-    kinds = referred_to(described).get("content", {})
+    kinds = schema_referred_to(described).get("content", {})
     kind = got.get("Content-Type", "").partition(";")[0]
     fault = None if kind in kinds or not kinds else f"the type is {kind}"
     if kind == "application/json" and kind in kinds:
@@ -132,7 +132,7 @@ def check_routes(office, counts, periods):
         body = json.dumps(commands if len(commands) > 1 or rng.random() < 0.5 else commands[0]).encode()
         status, data = send_and_check(office, counts, "PUT", template, {**values, "number": number}, typed, body)
         if status == 200:
-            found = [heads.parse_line(line, heads.parse_receipt) for line in data.splitlines(keepends=True)]
+            found = [heads.parse_value_and_is_written(line, heads.parse_receipt) for line in data.splitlines(keepends=True)]
             counts.check("receipts are in their written form", all(is_written for _, is_written in found) and len(found) == len(commands))
             again = send_and_check(office, counts, "PUT", template, {**values, "number": number}, typed, body)
             counts.check("the same request again gets the same receipts", again == (200, data))
@@ -140,7 +140,7 @@ def check_routes(office, counts, periods):
             entered = max(entered, number - 1 + len(found))
         elif status == 409:
             counts.check("a conflict says the next number", json.loads(data)["next"] == entered + 1)
-    counts.check("commands were entered", entered > 5 and office.run_desk_for_journal() == records)
+    counts.check("commands were entered", entered > 5 and office.capture_journal_of_desk() == records)
     for template, methods in API["paths"].items():
         for method in methods:
             if method == "get":
@@ -158,7 +158,8 @@ def check_routes(office, counts, periods):
     office.close_day()
     office.run_tool("publish", office.folder)
     until = time.monotonic() + WAIT_SECONDS
-    while office.request(f"/days/{office.day}/orders/{who}", token)[0] == 429 and time.monotonic() < until:  # tables count as many requests
+    # tables count as many requests
+    while office.send_request(f"/days/{office.day}/orders/{who}", token)[0] == 429 and time.monotonic() < until:
         time.sleep(0.1)
     time.sleep(1)  # in which it allows enough for what follows
     for template in API["paths"]:

@@ -17,14 +17,15 @@ MOST_IDLE = 20 << 10  # KiB of 150 connections over TLS
 MOST_KEPT, KEPT_SECONDS = 60 << 10, 15  # KiB of as many slow downloads, and how long it may take until all is kept
 
 
-def send_for_answer(office, data, wait=True, context=None):
+def send_and_read_answer(office, data, wait=True, context=None):
     """Sends bytes, and returns all that comes until the connection ends."""
     with contextlib.closing(socket.create_connection(("127.0.0.1", office.port), timeout=SECONDS)) as plain:
         connection = context.wrap_socket(plain, server_hostname="localhost") if context else plain
         with contextlib.suppress(ConnectionError, BrokenPipeError):
             connection.sendall(data)
         if not wait:
-            connection.shutdown(socket.SHUT_WR)
+            with contextlib.suppress(OSError):  # the office has ended the connection
+                connection.shutdown(socket.SHUT_WR)
         found = b""
         with contextlib.suppress(ConnectionError):
             while part := connection.recv(65_536):
@@ -50,9 +51,9 @@ def status_of(answer):
     return int(answer[9:12]) if answer.startswith((b"HTTP/1.1 ", b"HTTP/1.0 ")) else None
 
 
-def send_for_status(office, method, path, headers=(), body=b""):
+def send_and_read_status(office, method, path, headers=(), body=b""):
     """Sends a request, and returns the status of its answer."""
-    return status_of(send_for_answer(office, request_bytes(method, path, headers, body)))
+    return status_of(send_and_read_answer(office, request_bytes(method, path, headers, body)))
 
 
 def read_peak_memory(office):
@@ -74,22 +75,22 @@ def check_tokens(office, counts):
         ("two", f"Bearer {right} {right}"),
         ("odd bytes", "Bearer \xff\x01"),
     ):
-        answer = send_for_answer(office, request_bytes("GET", path, [f"Authorization: {header}"] if header is not None else []))
+        answer = send_and_read_answer(office, request_bytes("GET", path, [f"Authorization: {header}"] if header is not None else []))
         counts.check(f"{words} is refused", status_of(answer) in (400, 401) and right.encode() not in answer)
     for name in ("orders", "commands", "receipts", "statement"):
-        answer = send_for_answer(office, request_bytes("GET", f"/days/{office.day}/{name}/{other}", [f"Authorization: Bearer {right}"]))
+        answer = send_and_read_answer(office, request_bytes("GET", f"/days/{office.day}/{name}/{other}", [f"Authorization: Bearer {right}"]))
         counts.check(f"{name} of another are refused", status_of(answer) == 401)
     body = f"cancel,{other},A,,,,,,".encode()
     headers = [f"Authorization: Bearer {right}", "Content-Type: text/csv"]
-    counts.check("a command of another is refused", send_for_status(office, "PUT", f"{path}/1", headers, body) == 400)
-    answer = send_for_answer(office, request_bytes("PUT", f"/days/{office.day}/commands/{other}/1", headers, body))
+    counts.check("a command of another is refused", send_and_read_status(office, "PUT", f"{path}/1", headers, body) == 400)
+    answer = send_and_read_answer(office, request_bytes("PUT", f"/days/{office.day}/commands/{other}/1", headers, body))
     counts.check("and so is one under its name", status_of(answer) == 401)
     counts.check(
-        "a right token is taken after many wrong ones", all(send_for_status(office, "GET", path, headers) == 200 for _ in range(3))
+        "a right token is taken after many wrong ones", all(send_and_read_status(office, "GET", path, headers) == 200 for _ in range(3))
     )
-    many = [send_for_status(office, "GET", path, ["Authorization: Bearer x"]) for _ in range(60)]
+    many = [send_and_read_status(office, "GET", path, ["Authorization: Bearer x"]) for _ in range(60)]
     counts.check("many wrong ones are slowed down", set(many) == {401, 429})
-    counts.check("and the right one isn't", send_for_status(office, "GET", path, headers) == 200)
+    counts.check("and the right one isn't", send_and_read_status(office, "GET", path, headers) == 200)
 
 
 def check_paths(office, counts):
@@ -115,12 +116,12 @@ def check_paths(office, counts):
         f"/days/{office.day}/close",
         "*",
     ):
-        answer = send_for_answer(office, request_bytes("GET", path))
+        answer = send_and_read_answer(office, request_bytes("GET", path))
         is_right = status_of(answer) in (400, 403, 404, 405) or path.startswith("http") and status_of(answer) == 200
         head = answer.partition(b"\r\n\r\n")[0]
         counts.check(f"GET {path}", is_right and secret not in answer and b"script>" not in answer and b"\nx-evil" not in head.lower())
     for method in ("DELETE", "POST", "TRACE", "CONNECT", "PATCH", "FOO", "get"):
-        counts.check(f"{method} /days", send_for_status(office, method, "/days") in (400, 404, 405, 501))
+        counts.check(f"{method} /days", send_and_read_status(office, method, "/days") in (400, 404, 405, 501))
 
 
 def check_messages(office, counts):
@@ -130,62 +131,63 @@ def check_messages(office, counts):
     token = f"Authorization: Bearer {office.tokens[who]}"
     body = f"cancel,{who},A,,,,,,".encode()
     both = ["Transfer-Encoding: chunked", token, "Content-Type: text/csv"]
-    for words, data in (
-        ("garbage", b"\x16\x03\x01garbage\r\n\r\n"),
-        ("a script", b"<script>alert(1)</script>\r\n\r\n"),
-        ("no version", b"GET /days\r\n\r\n"),
-        ("a header without a colon", b"GET /days HTTP/1.1\r\nevil<script>\r\n\r\n"),
-        ("a header of 100 kB", request_bytes("GET", "/days", [f"X: {'a' * 100_000}"])),
-        ("a head of 32 KiB and a byte", request_bytes("GET", "/days", wide_headers(32_769))),
-        ("a head of 47 KiB", request_bytes("GET", "/days", wide_headers(47 << 10))),
-        ("10,000 headers", request_bytes("GET", "/days", [f"X-{number}: {'a' * 100}" for number in range(10_000)])),
-        ("a length that is none", request_bytes("PUT", path, [token, "Content-Length: -1"])),
-        ("a length and chunks", request_bytes("PUT", path, both, body)),
-        ("a chunk that is none", request_bytes("PUT", path, both) + b"zz\r\n"),
+    for words, status, data in (
+        ("garbage", 400, b"\x16\x03\x01garbage\r\n\r\n"),
+        ("a script", 400, b"<script>alert(1)</script>\r\n\r\n"),
+        ("a header without a colon", 400, b"GET /days HTTP/1.1\r\nevil<script>\r\n\r\n"),
+        ("a header of 100 kB", 400, request_bytes("GET", "/days", [f"X: {'a' * 100_000}"])),
+        ("a head of 32 KiB and a byte", None, request_bytes("GET", "/days", wide_headers(32_769))),
+        ("a head of 47 KiB", None, request_bytes("GET", "/days", wide_headers(47 << 10))),
+        ("10,000 headers", 400, request_bytes("GET", "/days", [f"X-{number}: {'a' * 100}" for number in range(10_000)])),
+        ("a length that is none", 400, request_bytes("PUT", path, [token, "Content-Length: -1"])),
+        ("a length and chunks", 400, request_bytes("PUT", path, both, body)),
     ):
-        answer = send_for_answer(office, data, wait=False)
-        counts.check(f"{words} is refused", status_of(answer) in (400, 404, 413, 431, None) and b"<script>" not in answer)
-    counts.check("a head of 32 KiB is taken", send_for_status(office, "GET", "/days", wide_headers(32_768)) == 200)
+        answer = send_and_read_answer(office, data)
+        counts.check(f"{words} is refused", status_of(answer) == status and b"<script>" not in answer)
+    answer = send_and_read_answer(office, request_bytes("PUT", path, both) + b"zz\r\n", wait=False)
+    counts.check("a chunk that is none is refused", status_of(answer) in (400, None))
+    counts.check("no version is taken as 1.1", status_of(send_and_read_answer(office, b"GET /days\r\n\r\n")) == 200)
+    counts.check("a head of 32 KiB is taken", send_and_read_status(office, "GET", "/days", wide_headers(32_768)) == 200)
     for odd in (": x", ": -9"):  # it comes before the length
-        answer = send_for_answer(office, request_bytes("PUT", path, [token, "Content-Type: text/csv", odd], body))
+        answer = send_and_read_answer(office, request_bytes("PUT", path, [token, "Content-Type: text/csv", odd], body))
         counts.check(f"a length behind {odd} is refused: {status_of(answer)}", status_of(answer) == 400)
-    answer = send_for_answer(office, request_bytes("GET", "/days", ["Expect: <script>alert(1)</script>"]))
+    answer = send_and_read_answer(office, request_bytes("GET", "/days", ["Expect: <script>alert(1)</script>"]))
     counts.check("an expectation isn't said again", status_of(answer) == 200 and b"<script>" not in answer)
     for method, odd in ("GET", "/nothing"), ("DELETE", "/days"):
-        answer = send_for_answer(office, request_bytes(method, odd, ["Expect: <script>alert(1)</script>"]))
+        answer = send_and_read_answer(office, request_bytes(method, odd, ["Expect: <script>alert(1)</script>"]))
         counts.check(f"nor at {method} {odd}", status_of(answer) in (404, 405) and b"<script>" not in answer)
     before_log = len(office.log.read_bytes())
-    send_for_answer(office, b"GET http://[INJECTED]/days HTTP/1.1\r\nHost: x\r\n\r\n", wait=False)
+    send_and_read_answer(office, b"GET http://[INJECTED]/days HTTP/1.1\r\nHost: x\r\n\r\n", wait=False)
     counts.check("a request's words aren't in the log", b"INJECTED" not in office.log.read_bytes()[before_log:])
     before_log = len(office.log.read_bytes())
-    send_for_answer(office, b"CONNECT x:1 HTTP/1.1\r\nHost: x\r\n\r\n" + b"a" * 100, wait=False)
-    send_for_answer(office, request_bytes("GET", "/days", ["Connection: Upgrade", "Upgrade: h2c"]) + b"a" * 100, wait=False)
+    send_and_read_answer(office, b"CONNECT x:1 HTTP/1.1\r\nHost: x\r\n\r\n" + b"a" * 100, wait=False)
+    send_and_read_answer(office, request_bytes("GET", "/days", ["Connection: Upgrade", "Upgrade: h2c"]) + b"a" * 100, wait=False)
     counts.check("nor requests for another protocol", b"defect" not in office.log.read_bytes()[before_log:])
-    send_for_answer(office, request_bytes("GET", "/days"), wait=False)
+    send_and_read_answer(office, request_bytes("GET", "/days"), wait=False)
     counts.check("a client that ends before its answer isn't a defect", b"defect" not in office.log.read_bytes()[before_log:])
     check_names(office, counts)
-    answer = send_for_answer(office, request_bytes("PUT", path, [token, "Expect: 100-continue", "Content-Type: text/csv"], b"cancel"))
+    answer = send_and_read_answer(office, request_bytes("PUT", path, [token, "Expect: 100-continue", "Content-Type: text/csv"], b"cancel"))
     counts.check("a client that waits may go on", answer.startswith(b"HTTP/1.1 100 Continue\r\n\r\nHTTP/1.1 400 "))
     bomb = gzip.compress(bytes(300 << 20))
     other = office.who[1]  # whose rate this uses up
     headers = [f"Authorization: Bearer {office.tokens[other]}", "Content-Encoding: gzip", "Content-Type: text/csv"]
     data = request_bytes("PUT", f"/days/{office.day}/commands/{other}/1", headers, bomb)
     before = read_peak_memory(office)
-    counts.check("a body that is a bomb is refused", status_of(send_for_answer(office, data)) == 400)
+    counts.check("a body that is a bomb is refused", status_of(send_and_read_answer(office, data)) == 400)
     counts.check("a body that is a bomb takes no memory", read_peak_memory(office) - before < 50 << 10)
-    many = send_for_answer(office, b"GET /days HTTP/1.1\r\nHost: x\r\n\r\n" * 200_000)
+    many = send_and_read_answer(office, b"GET /days HTTP/1.1\r\nHost: x\r\n\r\n" * 200_000)
     counts.check(
         "requests without end aren't answered, and take no memory", len(many) < 10 << 20 and read_peak_memory(office) - before < 100 << 10
     )
     chunks = b"".join(b"1000\r\n" + b"a" * 4096 + b"\r\n" for _ in range(400)) + b"0\r\n\r\n"
-    counts.check("a body without a length isn't read", status_of(send_for_answer(office, request_bytes("PUT", path, both) + chunks)) == 400)
+    counts.check("a body without a length isn't read", status_of(send_and_read_answer(office, request_bytes("PUT", path, both) + chunks)) == 400)
     with contextlib.ExitStack() as stack:
         for _ in range(20):
             one = stack.enter_context(socket.create_connection(("127.0.0.1", office.port), timeout=SECONDS))
             with contextlib.suppress(OSError):
                 one.sendall(request_bytes("GET", "/days", ["Transfer-Encoding: chunked"]) + b"1\r\na\r\n" * 90_000)
         began = time.monotonic()
-        counts.check("tiny chunks hold up nobody", office.request("/days")[0] == 200 and time.monotonic() - began < 3)
+        counts.check("tiny chunks hold up nobody", office.send_request("/days")[0] == 200 and time.monotonic() - began < 3)
     before = read_peak_memory(office)
     with contextlib.ExitStack() as stack:
         for _ in range(6):
@@ -198,8 +200,8 @@ def check_messages(office, counts):
             f"answers that aren't read keep no memory: {read_peak_memory(office) - before} KiB",
             read_peak_memory(office) - before < 30 << 10,
         )
-    counts.check("a body of 2 MB is refused", send_for_status(office, "PUT", path, [token], b"a" * (2 << 20)) == 413)
-    counts.check("without a token it isn't read", send_for_status(office, "PUT", path, [], b"a" * (2 << 20)) == 401)
+    counts.check("a body of 2 MB is refused", send_and_read_status(office, "PUT", path, [token], b"a" * (2 << 20)) == 413)
+    counts.check("without a token it isn't read", send_and_read_status(office, "PUT", path, [], b"a" * (2 << 20)) == 401)
     counts.check("nothing was entered", office.client_of(who).next(office.day) == 1)
 
 
@@ -210,7 +212,7 @@ def check_names(office, counts):
         with contextlib.closing(socket.create_connection(("127.0.0.1", office.port), timeout=SECONDS)) as one:
             began = time.monotonic()
             one.sendall(f"{line} HTTP/1.1\r\nHost: x\r\n\r\n".encode())
-            counts.check(f"{line[:12]} holds up nobody", office.request("/days")[0] == 200 and time.monotonic() - began < 1)
+            counts.check(f"{line[:12]} holds up nobody", office.send_request("/days")[0] == 200 and time.monotonic() - began < 1)
 
 
 def check_slow(office, counts):
@@ -227,7 +229,7 @@ def check_slow(office, counts):
         began = time.monotonic()
         for number, one in enumerate(slow):
             one.sendall(halves[number % 2])
-        counts.check("others are served next to 200 slow ones", office.request("/days")[0] == 200 and time.monotonic() - began < 12)
+        counts.check("others are served next to 200 slow ones", office.send_request("/days")[0] == 200 and time.monotonic() - began < 12)
         answers = []
         for one in slow:
             with contextlib.suppress(ConnectionError):
@@ -243,7 +245,7 @@ def check_tables(office, counts):
     answers, tables = [], {who: form.format(who=who) for who in office.who[:2]}
 
     def send(who):
-        answers.append((who, office.request(f"/days/{office.day}/tables/{who}", office.bearer_header(who), "POST", tables[who])[0]))
+        answers.append((who, office.send_request(f"/days/{office.day}/tables/{who}", office.bearer_header(who), "POST", tables[who])[0]))
 
     who, other = office.who[:2]
     threads = [threading.Thread(target=send, args=[one]) for one in (who, who, who, other)]
@@ -263,12 +265,15 @@ def check_charges(office, counts):
     who = office.who[2]
     day, bearer = f"/days/{office.day}", office.bearer_header(who)
     put = f"{day}/commands/{who}"
-    code, _, text = office.request(f"{put}/1", bearer, "PUT", f"cancel,{who},A,,,,,,\n" * 3_300)
+    began = time.monotonic()
+    code, _, text = office.send_request(f"{put}/1", bearer, "PUT", f"cancel,{who},A,,,,,,\n" * 3_300)
     counts.check("many short commands are entered", code == 200 and text.count(b"\n") == 3_300)
-    counts.check("and each counts", office.request(f"{put}/3301", bearer, "PUT", f"cancel,{who},A,,,,,,")[0] == 429)
-    code, _, text = office.request(f"{day}/receipts/{who}", bearer)
-    counts.check("all receipts are given", code == 200 and text.count(b"\n") == 3_300)
-    counts.check("and their length counts", office.request(f"{day}/orders/{who}", bearer)[0] == 429)
+    more = office.send_request(f"{put}/3301", bearer, "PUT", f"cancel,{who},A,,,,,,")[0]
+    seconds = time.monotonic() - began
+    counts.check(f"and each counts, unless the budget is full again after {seconds:.1f} s", more == 429 or seconds > 6)
+    code, _, text = office.send_request(f"{day}/receipts/{who}", bearer)
+    counts.check("all receipts are given", code == 200 and text.count(b"\n") == 3_300 + (more == 200))
+    counts.check("and their length counts", office.send_request(f"{day}/orders/{who}", bearer)[0] == 429)
 
 
 def check_silent(office, counts):
@@ -320,7 +325,7 @@ def check_many(office, counts, most):
     until = time.monotonic() + 20
     while not office.is_ready() and time.monotonic() < until:
         time.sleep(0.1)
-    counts.check(f"it serves after {most} connections", office.request("/days")[0] == 200)
+    counts.check(f"it serves after {most} connections", office.send_request("/days")[0] == 200)
     counts.check("it refused some", office.read_metric("dam_office_connections_refused_total") > 0)
 
 
@@ -332,7 +337,7 @@ def check_headers(office, counts):
         ("/nothing", 404),
         (f"/days/{office.day}/orders/{office.who[0]}", 401),
     ):
-        found, headers, _ = office.request(path)
+        found, headers, _ = office.send_request(path)
         policy = headers.get("Content-Security-Policy", "")
         is_right = "default-src 'none'" in policy and "unsafe" not in policy and headers.get("X-Content-Type-Options") == "nosniff"
         counts.check(
@@ -400,4 +405,4 @@ def check_tls(office, cert, counts):
         "the client enters a command over TLS",
         client.enter(office.day, f"cancel,{office.who[0]},A,,,,,,")[0]["reply"] == "refused,UnknownOrder",
     )
-    counts.check("plain HTTP gets nothing", send_for_status(office, "GET", "/days") != 200)
+    counts.check("plain HTTP gets nothing", send_and_read_status(office, "GET", "/days") != 200)

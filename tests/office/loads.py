@@ -11,7 +11,7 @@ from served import OfficeFault
 from lib.seal import heads, merkle, signing
 
 
-def draw_record(rng, who, number, live):
+def draw_record_and_change_live_names(rng, who, number, live):
     """A command of a participant; `live` are its orders."""
     what = rng.random()
     price, volumes = rng.randint(-500, 9_000), f"{rng.randint(1, 24)}:{rng.randint(1, 999)}"
@@ -34,7 +34,7 @@ class OfficeLoad:
         rng, live = random.Random(f"{self.seed} {who}"), []
         async with self.office.asynchronous_client_of(who) as client:
             for number in range(1, count + 1):
-                line = draw_record(rng, who, number, live)
+                line = draw_record_and_change_live_names(rng, who, number, live)
                 began = time.perf_counter()
                 if began > until:
                     return
@@ -64,7 +64,7 @@ class OfficeLoad:
         return f"{len(found)} commands, {rate:.0f} a second, median {middle * 1e3:.1f} ms, 99% within {late * 1e3:.1f} ms"
 
 
-def run_dam_for_replies(dam, records, periods=24):
+def capture_replies_of_dam(dam, records, periods=24):
     text = "".join(f"{line}\n" for line in [f"day,{periods},,,,,,,", *records])
     ran = subprocess.run([dam, "replay"], input=text.encode(), capture_output=True, check=True)
     return [line.partition(",")[2] for line in ran.stdout.decode().splitlines()[1:]]
@@ -86,7 +86,7 @@ def faults_of_load(load, records, replies, key, sample=300):
         seen.add(entry)
     for _, _, receipt in random.Random("sample").sample(load.acknowledged, min(sample, len(load.acknowledged))):
         found = heads.parse_receipt(receipt)
-        root = merkle.root_of_inclusion(found.leaf(), found.number - 1, found.head.size, found.path)
+        root = merkle.root_of_inclusion_or_none(found.leaf(), found.number - 1, found.head.size, found.path)
         if root != found.head.root or not signing.is_signed(key, found.head):
             yield f"the receipt of entry {found.number} proves nothing"
 
@@ -108,4 +108,4 @@ async def run_with_kills(office, kills, count, seed):
     return load, starts
 
 
-__all__ = ["OfficeLoad", "OfficeFault", "faults_of_load", "run_dam_for_replies", "run_with_kills"]
+__all__ = ["OfficeLoad", "OfficeFault", "faults_of_load", "capture_replies_of_dam", "run_with_kills"]

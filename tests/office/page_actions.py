@@ -59,11 +59,11 @@ async def wait_for_rows(page, name, count):
     await page.wait_until(f"document.querySelectorAll('#{name} tbody tr').length === {count}")
 
 
-async def check_shown(page, counts, pictures, name):
+async def write_pictures_and_check_shown(page, counts, pictures, name):
     """No part is broader than the screen, each control has a name, and the pictures can be looked at."""
     for width in WIDTHS:
         for scheme in ("light", "dark"):
-            await page.set_screen(width, scheme)
+            await page.set_screen_size(width, scheme)
             counts.check(f"{name} fits into {width}", await page.evaluate("document.documentElement.scrollWidth") <= width)
             if width == WIDTHS[0]:
                 counts.check(f"no table of {name} is scrolled at {width}", await page.evaluate(SCROLLED) == 0)

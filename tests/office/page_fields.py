@@ -1,6 +1,6 @@
 """Faults at the fields: a wrong one is reported in the trader's units, and nothing is sent."""
 
-from page_actions import read_cells, check_shown, choose, click, focus_on, read_focused_name, read_text, type_into
+from page_actions import read_cells, write_pictures_and_check_shown, choose, click, focus_on, read_focused_name, read_text, type_into
 from page_results import ON_SCREEN
 
 RIGHT = """[limitRule('4000').value, limitRule('-500').value, limitRule('12,5').value, volumeRule('0.1').value, volumeRule('9999,9').value,
@@ -113,14 +113,14 @@ async def check_faults(page, counts, pictures):
     for name in ("name", "price"):
         await type_into(page, name, "x_x")
     await click(page, "#enter")
-    await check_shown(page, counts, pictures, "faults")
-    await page.set_screen(390, "light", 600)
+    await write_pictures_and_check_shown(page, counts, pictures, "faults")
+    await page.set_screen_size(390, "light", 600)
     await click(page, "input[value=hour]")
     await type_into(page, "volume", "0")
     await click(page, "#enter")
     counts.check(
         "a fault is on a small screen", all([await page.evaluate(ON_SCREEN % name) for name in ("volume", "volume-fault", "message")])
     )
-    await page.set_screen(1_280, "light")
+    await page.set_screen_size(1_280, "light")
     await page.evaluate("change(null)")
     counts.check("a wrong field sends nothing", len(await read_cells(page, "commands-table")) == before)

@@ -6,14 +6,25 @@ import signal
 import subprocess
 import tempfile
 
-from page_actions import SCROLLED, WIDTHS, read_cells, check_shown, choose, click, sign_in, type_into, wait_for_message, wait_for_rows
+from page_actions import (
+    SCROLLED,
+    WIDTHS,
+    choose,
+    click,
+    read_cells,
+    sign_in,
+    type_into,
+    wait_for_message,
+    wait_for_rows,
+    write_pictures_and_check_shown,
+)
 from page_fields import check_faults
 from page_lost_answers import check_lost_answer
 from page_orders import check_changing, check_entering
 from page_results import check_close_and_results
 from page_signing_in import check_first_sign_in, check_leaving, check_next_sign_in, check_unreached
 from page_tables import check_upload
-from served import TOOL, day_of, office_for_test
+from served import TOOL, day_of, running_office
 from shared import browser
 from shared.ports import find_free_port
 
@@ -23,10 +34,10 @@ from lib.base import clock, rules
 async def check_day(office, counts, pictures, room):
     who, other = office.who[:2]
     office.client_of(other).enter(office.day, f"submit,{other},FIRST,hour,sell,300000,24:1,,")  # so that entries and own numbers differ
-    async with browser.open_in_browser(office.url) as page:
+    async with browser.running_browser_tab(office.url) as page:
         await page.wait_until("!document.getElementById('sign-in').hidden")
         await check_unreached(page, counts)
-        await check_shown(page, counts, pictures, "sign-in")
+        await write_pictures_and_check_shown(page, counts, pictures, "sign-in")
         await check_first_sign_in(page, office, who, counts)
         await check_entering(page, who, counts)
         await check_changing(page, counts)
@@ -35,9 +46,9 @@ async def check_day(office, counts, pictures, room):
         await check_upload(page, who, room, counts)
         await check_lost_answer(page, counts)
         await page.evaluate("byId('commands-list').open = true")
-        await check_shown(page, counts, pictures, "orders")
+        await write_pictures_and_check_shown(page, counts, pictures, "orders")
         await check_close_and_results(page, office, who, other, counts)
-        await check_shown(page, counts, pictures, "results")
+        await write_pictures_and_check_shown(page, counts, pictures, "results")
         await check_next_sign_in(page, office, who, counts)
         # a wrong token, a table that can't be read, a day that there isn't, a number that is used and many tables are answers that the
         # browser notes
@@ -50,7 +61,7 @@ async def check_length(page, office, periods, counts):
     who = office.who[0]
     await page.call_browser("Page.navigate", url=office.url)
     await page.wait_until(f"location.port === '{office.port}' && document.readyState === 'complete'")
-    await page.set_screen(WIDTHS[0], "light")
+    await page.set_screen_size(WIDTHS[0], "light")
     await sign_in(page, office, who)
     await click(page, "input[value=block]")
     await type_into(page, "name", "ABCDEFGHIJ-9")
@@ -75,9 +86,9 @@ async def check_length(page, office, periods, counts):
 
 
 async def check_lengths(args, counts):
-    async with browser.open_in_browser("data:text/html,") as page:
+    async with browser.running_browser_tab("data:text/html,") as page:
         for periods in sorted(set(rules.DAYS) - {24}):
-            with office_for_test(args.dam, args.desk, periods=periods, day=day_of(periods)) as office:
+            with running_office(args.dam, args.desk, periods=periods, day=day_of(periods)) as office:
                 office.start()
                 await check_length(page, office, periods, counts)
         found = [fault for fault in page.faults if "CONNECTION_REFUSED" not in fault]  # of an office that has ended
@@ -86,7 +97,7 @@ async def check_lengths(args, counts):
 
 async def check_demo_page(url, counts, pictures):
     """A block over a night has a price in the demo, and closing the demo asks first."""
-    async with browser.open_in_browser(url) as page:
+    async with browser.running_browser_tab(url) as page:
         await page.wait_until("document.querySelector('#demo-names button')")
         await page.evaluate("[...document.querySelectorAll('#demo-names button')].find((one) => one.textContent === 'GAS').click()")
         await page.wait_until("document.activeElement.id === 'title'")
@@ -101,7 +112,7 @@ async def check_demo_page(url, counts, pictures):
         await page.press_key("Enter", 13)
         await click(page, "#enter")
         await wait_for_message(page, "NIGHT entered")
-        await check_shown(page, counts, pictures, "demo")
+        await write_pictures_and_check_shown(page, counts, pictures, "demo")
         await click(page, "#close-now")
         await click(page, "#no")
         await page.evaluate("look()")
@@ -129,7 +140,7 @@ def run_and_check_demo(args, counts):
 
 
 def check_pages(args, counts):
-    with office_for_test(args.dam, args.desk) as office, tempfile.TemporaryDirectory() as room:
+    with running_office(args.dam, args.desk) as office, tempfile.TemporaryDirectory() as room:
         office.start()
         asyncio.run(check_day(office, counts, args.pictures, room))
     asyncio.run(check_lengths(args, counts))

@@ -15,7 +15,7 @@ from pathlib import Path
 
 import hostile
 import loads
-from served import TOOL, TOP, OfficeFault, day_of, office_for_test
+from served import TOOL, TOP, OfficeFault, day_of, running_office
 from shared import browser
 from shared.ports import find_free_port
 
@@ -46,7 +46,7 @@ def call_and_see_refusal(call, fault):
 
 
 def check_strangers(args, counts):
-    with office_for_test(args.dam, args.desk) as office:
+    with running_office(args.dam, args.desk) as office:
         office.start()
         hostile.check_headers(office, counts)
         hostile.check_messages(office, counts)
@@ -67,7 +67,7 @@ def check_strangers(args, counts):
 def check_tls(args, counts):
     with tempfile.TemporaryDirectory() as room:
         cert, key = hostile.make_certificate(room)
-        with office_for_test(args.dam, args.desk, words=["--tls", cert, key]) as office:
+        with running_office(args.dam, args.desk, words=["--tls", cert, key]) as office:
             with contextlib.suppress(RuntimeError):
                 office.is_ready = lambda: office.process.poll() is None and b'"serving"' in office.log.read_bytes()
                 office.start()
@@ -87,19 +87,20 @@ def check_full_disk(args, counts):
         limited.write_text(f'#!/bin/sh\ntrap "" XFSZ\n[ ! -e {full} ] || ulimit -f 16\nexec {args.desk} "$@"\n')
         limited.chmod(0o755)
         full.touch()
-        with office_for_test(args.dam, limited) as office:
+        with running_office(args.dam, limited) as office:
             office.start()
             who = office.who[0]
             record = f"submit,{who},%s,block,buy,1,{';'.join(f'{period}:1' for period in range(1, 25))},,"
             entered, path = 0, f"/days/{office.day}/commands/{who}/"
-            while (answer := office.request(f"{path}{entered + 1}", office.bearer_header(who), "PUT", record % f"B-{entered}"))[0] == 200:
+            bearer = office.bearer_header(who)
+            while (answer := office.send_request(f"{path}{entered + 1}", bearer, "PUT", record % f"B-{entered}"))[0] == 200:
                 entered += 1
             counts.check(f"a full disk is answered by 503, after {entered} commands", answer[0] == 503 and 10 < entered < 200)
             counts.check("and the ends of the desk are counted", office.read_metric("dam_office_desk_ends_total") > 0)
             full.unlink()
             receipt = office.client_of(who).enter(office.day, record % f"B-{entered}")[0]
             counts.check(
-                "with room the same command is entered once", receipt["number"] == entered + 1 == len(office.run_desk_for_journal())
+                "with room the same command is entered once", receipt["number"] == entered + 1 == len(office.capture_journal_of_desk())
             )
             for part in (("desk",), ("office",)):
                 office.kill(*part)
@@ -113,38 +114,38 @@ def check_full_disk(args, counts):
 def check_full_office(args, counts):
     """A disk that is full for the office too: it is unavailable until there is room, without a command that shows it; and while the files
     of a closed day can't be made."""
-    with office_for_test(args.dam, args.desk) as office:
+    with running_office(args.dam, args.desk) as office:
         office.start()
         who = office.who[0]
         record = f"submit,{who},%s,block,buy,1,{';'.join(f'{period}:1' for period in range(1, 25))},,"
         office.client_of(who).enter(office.day, *(record % f"A-{number}" for number in range(40)))
-        limit_files(office, 4_096)  # the desk inherits it at its next start
+        set_file_limit(office, 4_096)  # the desk inherits it at its next start
         office.kill("desk")
-        answer = office.request(f"/days/{office.day}/commands/{who}/41", office.bearer_header(who), "PUT", record % "B")
+        answer = office.send_request(f"/days/{office.day}/commands/{who}/41", office.bearer_header(who), "PUT", record % "B")
         counts.check(f"a full disk is answered by 503: {answer[2]}", answer[0] == 503)
-        found = [office.request("/healthz")[0] for _ in range(40) if time.sleep(0.1) is None]
+        found = [office.send_request("/healthz")[0] for _ in range(40) if time.sleep(0.1) is None]
         counts.check(f"and the office is unavailable as long as the disk is full: {found}", set(found) == {503})
         values = [office.read_metric(name) for name in (f'dam_office_ready{{day="{office.day}"}}', "dam_office_right")]
         counts.check(f"and says so in its counts: {values}", values == [0, 0])
-        limit_files(office, resource.RLIM_INFINITY)
+        set_file_limit(office, resource.RLIM_INFINITY)
         office.kill("desk")  # which has the limit
         counts.check("with room it is available again, without a command", wait_until(office.is_ready))
         counts.check("and its counts say so", wait_until(lambda: office.read_metric("dam_office_right") == 1))
-        limit_files(office, 4_096)
+        set_file_limit(office, 4_096)
         said = office.folder.parent / "said"
         with said.open("wb") as stream:
             began = subprocess.Popen([*TOOL, "close", office.folder], env=office.environment, stdout=stream, stderr=stream)
-        counts.check("and not while a closed day has no files", wait_until(lambda: office.request("/healthz")[0] == 503))
+        counts.check("and not while a closed day has no files", wait_until(lambda: office.send_request("/healthz")[0] == 503))
         state = json.loads(office.run_tool("status", office.folder, "--json").stdout)["days"][0]["state"]
-        counts.check(f"both name the same state: {state}", state == json.loads(office.request(f"/days/{office.day}")[2])["state"] != "open")
+        counts.check(f"both name the same state: {state}", state == json.loads(office.send_request(f"/days/{office.day}")[2])["state"] != "open")
         counts.check("close says that it waits", wait_until(lambda: b"has no head yet" in said.read_bytes()))
-        limit_files(office, resource.RLIM_INFINITY)
+        set_file_limit(office, resource.RLIM_INFINITY)
         status = began.wait(60)
         counts.check(f"and ends with the results: {said.read_bytes()}", status == 0 and b"has its results" in said.read_bytes())
         counts.check("and the office is available once they are there", wait_until(office.is_ready))
 
 
-def limit_files(office, size):
+def set_file_limit(office, size):
     """Lets the office write no file beyond this size."""
     resource.prlimit(office.process.pid, resource.RLIMIT_FSIZE, (size, resource.RLIM_INFINITY))
 
@@ -163,7 +164,7 @@ def check_ended_desk(args, counts):
         unreadable, wrapped = Path(room, "unreadable"), Path(room, "desk")
         wrapped.write_text(f'#!/bin/sh\n[ ! -e {unreadable} ] || {{ echo unreadable >&2; exit 4; }}\nexec {args.desk} "$@"\n')
         wrapped.chmod(0o755)
-        with office_for_test(args.dam, wrapped) as office:
+        with running_office(args.dam, wrapped) as office:
             office.start()
             (first,) = office.find_desk_processes()
             office.kill("desk")
@@ -173,7 +174,7 @@ def check_ended_desk(args, counts):
             )
             unreadable.touch()
             office.kill("desk")
-            counts.check("without one the office is unavailable", wait_until(lambda: office.request("/healthz")[0] == 503, 5))
+            counts.check("without one the office is unavailable", wait_until(lambda: office.send_request("/healthz")[0] == 503, 5))
             unreadable.unlink()
             counts.check("until it opens again", wait_until(office.is_ready))
             office.stop()
@@ -183,7 +184,7 @@ def check_ended_desk(args, counts):
 
 def check_rolled_back(args, counts):
     """A desk's file that is put back by an entry while no office runs, and one that is lost."""
-    with office_for_test(args.dam, args.desk) as office:
+    with running_office(args.dam, args.desk) as office:
         office.start()
         who, desk, signed = office.who[0], office.files / "desk", office.files / "signed-head.json"
         client = office.client_of(who)
@@ -198,11 +199,11 @@ def check_rolled_back(args, counts):
         for lost in (earlier, None):
             for _ in range(2):
                 desk.unlink() if lost is None else desk.write_bytes(lost)
-                started = office.start_for_readiness()
+                started = office.start_and_see_readiness()
                 said = office.log.read_text()
                 counts.check(f"a journal without signed entries isn't served: {said[-300:]}", not started and "LostEntries" in said)
-                counts.check("and no head of it is signed", office.request(f"/days/{office.day}/head")[0] == 503)
-                counts.check("and it says that it is stopped", json.loads(office.request("/days")[2])["days"][0]["state"] == "stopped")
+                counts.check("and no head of it is signed", office.send_request(f"/days/{office.day}/head")[0] == 503)
+                counts.check("and it says that it is stopped", json.loads(office.send_request("/days")[2])["days"][0]["state"] == "stopped")
                 office.stop()
                 office.log.write_text("")
         desk.write_bytes(later)
@@ -221,12 +222,12 @@ def check_rolled_back(args, counts):
 
 def check_restored(args, counts):
     """A day whose last entries are on no disk any more: receipts have them, and a desk's file of their records gives the same receipts."""
-    with office_for_test(args.dam, args.desk) as office:
+    with running_office(args.dam, args.desk) as office:
         office.start()
         entered = [(who, office.client_of(who).enter(office.day, f"cancel,{who},{name},,,,,,")[0]) for name in "AB" for who in office.who]
-        path, head = f"/days/{office.day}/commands", office.request(f"/days/{office.day}/head")[2]
+        path, head = f"/days/{office.day}/commands", office.send_request(f"/days/{office.day}/head")[2]
         office.kill("office", "desk")
-        backup = [f"day,{office.periods},,,,,,,", *office.run_desk_for_journal()[:2]]
+        backup = [f"day,{office.periods},,,,,,,", *office.capture_journal_of_desk()[:2]]
         after = sorted((receipt for _, receipt in entered if receipt["number"] > 2), key=lambda receipt: receipt["number"])
         for name in ("desk", "desk-wal", "signed-head.json"):
             (office.files / name).unlink()
@@ -234,28 +235,28 @@ def check_restored(args, counts):
         subprocess.run([args.desk, office.files / "desk"], input=records.encode(), capture_output=True, check=True)
         office.start()
         again = [
-            (who, json.loads(office.request(f"{path}/{who}/{number}", office.bearer_header(who))[2]))
+            (who, json.loads(office.send_request(f"{path}/{who}/{number}", office.bearer_header(who))[2]))
             for number in (1, 2)
             for who in office.who
         ]
         counts.check("a day that was restored from receipts gives the same ones", again == entered)
-        counts.check("and has the same head", office.request(f"/days/{office.day}/head")[2] == head)
+        counts.check("and has the same head", office.send_request(f"/days/{office.day}/head")[2] == head)
 
 
 def check_kills(args, counts):
     """SIGKILL of the office, its desk and both, in the middle of a load, after which clients send again."""
     count, rounds = (ALL_KILLS, 5) if args.all else (KILLS, 1)
     for number in range(rounds):
-        with office_for_test(args.dam, args.desk, count=20) as office:
+        with running_office(args.dam, args.desk, count=20) as office:
             office.start()
             load, starts = asyncio.run(loads.run_with_kills(office, count // rounds, 60, f"kills {number}"))
-            records = office.run_desk_for_journal()
-            replies = loads.run_dam_for_replies(args.dam, records)
+            records = office.capture_journal_of_desk()
+            replies = loads.capture_replies_of_dam(args.dam, records)
             wrong = list(loads.faults_of_load(load, records, replies, read_key(office)))
             counts.check(f"no acknowledged command is lost, changed or doubled: {wrong[:3]}", not wrong)
             counts.check("each command is acknowledged", len(load.acknowledged) == len(records) == 20 * 60)
             office.close_day()
-            counts.check("a day with kills is closed", office.run_desk_for_journal()[-1] == "close,,,,,,,,")
+            counts.check("a day with kills is closed", office.capture_journal_of_desk()[-1] == "close,,,,,,,,")
             receipts, head = office.folder / "r.jsonl", office.folder / "h.json"
             client = office.client_of(office.who[0])
             receipts.write_bytes(client.receipts(office.day))
@@ -270,13 +271,13 @@ def check_whole_day(args, counts):
     published."""
     connections = ALL_CONNECTIONS if args.all else CONNECTIONS
     most = (rules.MOST_RECORDS - 2) // connections  # of each
-    with office_for_test(args.dam, args.desk, count=connections) as office:
+    with running_office(args.dam, args.desk, count=connections) as office:
         office.start()
         load = loads.OfficeLoad(office)
         took = asyncio.run(load.send_all(most, 600 if args.all else SECONDS))
         print(f"{connections} connections: {load.summary_text(took)}")
-        records = office.run_desk_for_journal()
-        replies = loads.run_dam_for_replies(args.dam, records)
+        records = office.capture_journal_of_desk()
+        replies = loads.capture_replies_of_dam(args.dam, records)
         wrong = list(loads.faults_of_load(load, records, replies, read_key(office)))
         counts.check(f"no reply is lost, wrong or twice: {wrong[:3]}", not wrong and len(load.acknowledged) == len(records))
         office.kill("office", "desk")
@@ -287,19 +288,19 @@ def check_whole_day(args, counts):
         check_published(args, counts, office)
         office.kill("office", "desk")
         office.start_process()
-        wrong = list(start_for_answers(office, len(records) + 1))
+        wrong = list(start_and_read_answers(office, len(records) + 1))
         counts.check(f"a closed day that is read again gives no other answers: {wrong[:3]}", not wrong)
         counts.check("another's share isn't touched", office.client_of(office.who[0]).next(office.day) <= most + 1)
 
 
-def start_for_answers(office, size):
+def start_and_read_answers(office, size):
     """The answers of an office that starts, until it is ready, which aren't those of a closed day with this number of entries."""
     who, is_ready = office.who[0], False
     while not is_ready:
         is_ready = office.is_ready()
         for path in (f"/days/{office.day}/head", f"/days/{office.day}/commands/{who}/1", f"/days/{office.day}/receipts/{who}"):
             with contextlib.suppress(OSError):  # it doesn't listen yet
-                status, _, data = office.request(path, office.bearer_header(who))
+                status, _, data = office.send_request(path, office.bearer_header(who))
                 if status != 503 and (status != 200 or path.endswith("head") and json.loads(data)["size"] != size):
                     yield path, status, data[:100]
     if office.process.poll() is not None:
@@ -309,7 +310,7 @@ def start_for_answers(office, size):
 def check_week(args, counts):
     """A second day and a new participant, while the first day is open; a new token; an office that is served twice; a start after a
     close."""
-    with office_for_test(args.dam, args.desk) as office:
+    with running_office(args.dam, args.desk) as office:
         office.start()
         first, later, who = office.day, "2099-11-30", office.who[0]
         office.client_of(who).enter(first, f"cancel,{who},A,,,,,,")
@@ -319,7 +320,7 @@ def check_week(args, counts):
         made = office.run_tool("init", office.folder, *words)
         office.tokens.update(json.loads(made.stdout)["tokens"])
         until = time.monotonic() + 10
-        while office.request(f"/days/{later}")[0] != 200 and time.monotonic() < until:
+        while office.send_request(f"/days/{later}")[0] != 200 and time.monotonic() < until:
             time.sleep(0.05)
         new = office.client_of("NEW")
         counts.check("a day is added while another is open", new.enter(later, "submit,NEW,A,hour,buy,1,96:1,,")[0]["reply"] == "done")
@@ -349,7 +350,7 @@ def check_week(args, counts):
         counts.check("an office ends at Ctrl-C", office.process.wait(SECONDS) == 0)
         office.start()
         receipts = office.client_of(who).receipts(first)
-        counts.check("a closed day is served after a start", heads.parse_line(receipts, heads.parse_receipt)[0].head.size == 2)
+        counts.check("a closed day is served after a start", heads.parse_value_and_is_written(receipts, heads.parse_receipt)[0].head.size == 2)
         counts.check("and the other day is still open", office.client_of("NEW").enter(later, "cancel,NEW,A,,,,,,")[0]["number"] == 2)
 
 
@@ -399,8 +400,8 @@ def check_published(args, counts, office):
     cleared = subprocess.run([args.dam, "clear"], input=journal, capture_output=True, check=True).stdout
     counts.check("the results are dam clear's", results == cleared)
     odd = {"If-Modified-Since": f"Fri, 01 Jan {10**20} 00:00:00 GMT"}
-    counts.check("an impossible date changes nothing", office.request(f"/days/{office.day}/results", odd)[2] == results)
-    status, headers, data = office.request(f"/days/{office.day}/results", method="HEAD")
+    counts.check("an impossible date changes nothing", office.send_request(f"/days/{office.day}/results", odd)[2] == results)
+    status, headers, data = office.send_request(f"/days/{office.day}/results", method="HEAD")
     counts.check("a head has the length alone", (status, int(headers["Content-Length"]), data) == (200, len(results), b""))
     counts.check(
         "the replies are dam replay's",
@@ -420,7 +421,7 @@ def check_published(args, counts, office):
         len(rows) == client.next(office.day) - 1 and {row["participant"] for row in rows} <= {who},
     )
     first = heads.parse_extension(heads.json.loads(client.head(office.day, 1)))
-    counts.check("the last head goes on from the first", first.is_valid() and first.new.size == len(office.run_desk_for_journal()))
+    counts.check("the last head goes on from the first", first.is_valid() and first.new.size == len(office.capture_journal_of_desk()))
 
 
 def check_routes(args, counts):
@@ -428,7 +429,7 @@ def check_routes(args, counts):
     import described
 
     for periods in sorted(rules.DAYS):
-        with office_for_test(args.dam, args.desk, periods=periods, day=day_of(periods)) as office:
+        with running_office(args.dam, args.desk, periods=periods, day=day_of(periods)) as office:
             office.start()
             check_alerts(office, counts)
             described.check_routes(office, counts, periods)
@@ -437,7 +438,7 @@ def check_routes(args, counts):
 def check_alerts(office, counts):
     """The alerts of the example ask for measures that the office has from its start: one that begins later never grows from 0."""
     asked = set(re.findall(r"\bdam_office_\w+", (TOP / "examples" / "operating" / "alerts.yml").read_text()))
-    missing = sorted(asked - set(re.findall(r"^\w+", office.request("/metrics")[2].decode(), re.MULTILINE)))
+    missing = sorted(asked - set(re.findall(r"^\w+", office.send_request("/metrics")[2].decode(), re.MULTILINE)))
     counts.check(f"the office has each of {len(asked)} measures of the alerts: {missing}", len(asked) > 4 and not missing)
 
 

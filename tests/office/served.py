@@ -76,7 +76,7 @@ class ServedOffice:
             words = [*TOOL, "serve", self.folder, "--port", str(self.port), *self.words]
             self.process = subprocess.Popen(words, env=self.environment, stdout=subprocess.DEVNULL, stderr=log)
 
-    def start_for_readiness(self):
+    def start_and_see_readiness(self):
         """Serves the office, and returns whether the day takes commands, or its log says that it is stopped."""
         self.start_process()
         while not (self.is_ready() or b'"stopped"' in self.log.read_bytes() and self.is_listening()):
@@ -92,11 +92,11 @@ class ServedOffice:
 
     def is_ready(self):
         try:
-            return self.request("/healthz")[0] == 200
+            return self.send_request("/healthz")[0] == 200
         except OSError:
             return False
 
-    def request(self, path, headers=None, method="GET", body=None):
+    def send_request(self, path, headers=None, method="GET", body=None):
         """The status, the headers and the body of an answer, without any client's help."""
         connection = http.client.HTTPConnection("127.0.0.1", self.port, timeout=30)
         try:
@@ -110,7 +110,7 @@ class ServedOffice:
 
     def read_metric(self, name):
         """A value of /metrics by its name, with its labels if it has any; None without it."""
-        found = re.search(rf"^{re.escape(name)} (\S+)$", self.request("/metrics")[2].decode(), re.MULTILINE)
+        found = re.search(rf"^{re.escape(name)} (\S+)$", self.send_request("/metrics")[2].decode(), re.MULTILINE)
         return float(found[1]) if found else None
 
     def bearer_header(self, who):
@@ -142,7 +142,7 @@ class ServedOffice:
             self.process.terminate()
             self.process.wait(30)
 
-    def run_desk_for_journal(self):
+    def capture_journal_of_desk(self):
         """The records in the desk's file, without the day."""
         shown = subprocess.run([self.environment["DAM_DESK"], "--journal", self.files / "desk"], capture_output=True, check=True)
         return shown.stdout.decode().splitlines()[1:]
@@ -151,7 +151,7 @@ class ServedOffice:
         """Closes the day, and returns the seconds until the results are published."""
         began = time.monotonic()
         (self.files / "close-now").touch()
-        while self.request(f"/days/{self.day}/prices")[0] != 200:
+        while self.send_request(f"/days/{self.day}/prices")[0] != 200:
             if time.monotonic() - began > START_SECONDS:
                 raise RuntimeError(f"there are no results: {self.log.read_text()[-2_000:]}")
             time.sleep(STEP)
@@ -159,7 +159,7 @@ class ServedOffice:
 
 
 @contextlib.contextmanager
-def office_for_test(*words, kind=ServedOffice, **how):
+def running_office(*words, kind=ServedOffice, **how):
     office = kind(*words, **how)
     try:
         yield office
@@ -168,4 +168,4 @@ def office_for_test(*words, kind=ServedOffice, **how):
         office.room.cleanup()
 
 
-__all__ = ["DAY", "OfficeFault", "ServedOffice", "day_of", "office_for_test"]
+__all__ = ["DAY", "OfficeFault", "ServedOffice", "day_of", "running_office"]

@@ -19,10 +19,10 @@ from making import (
     SHARED,
     commit_all,
     read_contents,
-    record_as_built,
+    write_build_record,
     run_command,
     run_tool,
-    unpack_tar,
+    capture_tar,
 )
 
 OFTEN, FEW = 4_000, 20  # how often a name occurs, and how many differences are named
@@ -71,7 +71,7 @@ def check_confirmation(counts, folder, room):
 def check_other_packing(counts, folder, room):
     """If only the packing differs, that is said."""
     again = room / "again.tar.xz"
-    again.write_bytes(subprocess.run(["xz", "-0", "--stdout"], input=unpack_tar(room), stdout=subprocess.PIPE, check=True).stdout)
+    again.write_bytes(subprocess.run(["xz", "-0", "--stdout"], input=capture_tar(room), stdout=subprocess.PIPE, check=True).stdout)
     status, out, _ = run_tool(folder, "--confirm", again)
     counts.check(f"--confirm of another packing: {out}",
                  (status, out) == (0, "again.tar.xz: each file is the same, byte for byte; only the packing differs\n"))
@@ -102,7 +102,7 @@ def check_hostile_packages(counts, folder, room):
         ("a large file", {"large": 70 << 20}, 3, "isn't a package of dam: it unpacks to more than 67,108,864 bytes"),
     ):
         path = room / "hostile.tar.xz"
-        path.write_bytes(read_changed_archive(room, change))
+        path.write_bytes(read_and_change_archive(room, change))
         ended, out, error = run_tool(folder, "--confirm", path)
         is_said = out.splitlines() == said if status == 1 else out == "" and error.count("\n") == 1 and said in error
         counts.check(f"--confirm of {what}: {ended} {out[:500]}{error[:500]}", ended == status and is_said)
@@ -115,11 +115,11 @@ def check_hostile_packages(counts, folder, room):
     counts.check(f"--confirm of a large Debian package: {error}", (status, out) == (3, "") and "it unpacks to more than" in error)
 
 
-def read_changed_archive(room, change):
+def read_and_change_archive(room, change):
     """The archive that runs in place, with other files: their bytes, their JSON, or how many zeros they have. Of one that has a name of the
     archive but isn't the provenance, both are there."""
     made = io.BytesIO()
-    with tarfile.open(fileobj=io.BytesIO(unpack_tar(room))) as archive, tarfile.open(fileobj=made, mode="w:xz", preset=0) as new:
+    with tarfile.open(fileobj=io.BytesIO(capture_tar(room))) as archive, tarfile.open(fileobj=made, mode="w:xz", preset=0) as new:
         for member in archive:
             if not (member.name.endswith("/provenance.json") and "share/dam/provenance.json" in change):
                 new.addfile(member, archive.extractfile(member) if member.isfile() else None)
@@ -172,9 +172,9 @@ def check_refusals(counts, folder, room):
     check("a file that isn't tracked", "commit or remove crates/dam_book/src/another.rt")
     commit_all(folder, "other sources")
     check("other sources", f"{PROGRAM} was built of other sources: dam_book changed since: run ./dam prove")
-    record_as_built(folder, PROGRAM, "dam_cli")
+    write_build_record(folder, PROGRAM, "dam_cli")
     check("another desk", f"{DESK} was built of other sources: dam_book changed since: run ./dam prove")
-    record_as_built(folder, DESK, "dam_desk")
+    write_build_record(folder, DESK, "dam_desk")
     check("another library", f"{SHARED} was built of other sources: dam_book changed since: run library/build")
     (folder / DESK).unlink()
     check("no desk", f"{DESK} is missing: run ./dam prove")

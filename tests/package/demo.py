@@ -57,7 +57,7 @@ def read_log(log):
     return log.read()
 
 
-def use_demo(process, log):
+def fetch_facts_of_demo(process, log):
     found = re.search(r"http://127\.0\.0\.1:\d+", process.stdout.readline())
     if not found:
         return {"fault": "it names no page"}
@@ -79,7 +79,7 @@ def main(command):
             timer = threading.Timer(MOST_SECONDS, process.kill)
             timer.start()
             try:
-                told = use_demo(process, log)
+                told = fetch_facts_of_demo(process, log)
             except (OfficeFault, OSError) as fault:
                 told = {"fault": str(fault)}
             finally:

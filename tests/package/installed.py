@@ -68,7 +68,7 @@ class MinimalSystem:
     def run_in_shell(self, line):
         return self.run("sh", "-c", f"mkdir -p {DAY} && cd {DAY} && {line}")
 
-    def list_files(self):
+    def read_file_names(self):
         """The paths of all files, but for those of the day and those that Debian's tools keep."""
         found = set()
         for at, folders, names in os.walk(self.root):
@@ -78,7 +78,7 @@ class MinimalSystem:
         return found
 
 
-def find_release():
+def capture_release():
     """The name of this machine's release of Debian, and where it has its packages from; None if that isn't known."""
     with open("/etc/os-release", encoding="utf-8") as text:
         told = dict(line.rstrip().split("=", 1) for line in text if "=" in line)
@@ -92,7 +92,7 @@ def find_release():
     return None
 
 
-def make_system(root, name, place):
+def try_debootstrap(root, name, place):
     """Makes the system, with the sources of packages that this machine has."""
     ran = subprocess.run(["debootstrap", "--variant=minbase", name, root, place], stdout=subprocess.PIPE, stderr=subprocess.STDOUT)
     if ran.returncode:
@@ -106,7 +106,7 @@ def make_system(root, name, place):
     return None
 
 
-def run_apt_and_check(counts, system, *words):
+def run_apt_and_check_status(counts, system, *words):
     """A run of apt-get, which has to succeed."""
     status, _, error = system.run("apt-get", "-qy", "--no-install-recommends", *words)
     counts.check(f"apt-get {words[0]}: {error[-500:]}", status == 0)
@@ -164,21 +164,21 @@ def check_in_c(counts, system, caller):
 def check_installed(counts, package, archive, caller):
     """Every test of the installed package."""
     missing = [name for name in ("debootstrap", "unshare", "chroot", "apt-get") if not shutil.which(name)]
-    found = None if missing else find_release()
+    found = None if missing else capture_release()
     if missing or os.geteuid() or not found:
         why = f"{', '.join(missing)} missing" if missing else "not root" if os.geteuid() else "this machine's release of Debian isn't known"
         counts.leave_out(f"the package in a fresh system: {why}")
         return
     with tempfile.TemporaryDirectory(prefix="installed-") as folder:
         root = f"{folder}/root"
-        wrong = make_system(root, *found)
+        wrong = try_debootstrap(root, *found)
         if wrong is not None:
             counts.leave_out(f"the package in a fresh system: debootstrap failed: {' '.join(wrong)}")
             return
         check_in_system(counts, MinimalSystem(root), package, archive, caller)
 
 
-def read_field(package, name):
+def capture_field(package, name):
     return subprocess.run(["dpkg-deb", "--field", package, name], stdout=subprocess.PIPE).stdout.decode().strip()
 
 
@@ -186,20 +186,20 @@ def check_in_system(counts, system, package, archive, caller):
     status, out, _ = system.run_in_shell(f"command -v {FOREIGN}")
     counts.check(f"a fresh system has none of {FOREIGN}: {out}", status != 0 and not out)
     shutil.copy(package, f"{system.root}/dam.deb")
-    run_apt_and_check(counts, system, "update")
-    run_apt_and_check(
+    run_apt_and_check_status(counts, system, "update")
+    run_apt_and_check_status(
         counts,
         system,
         "satisfy",
-        f"{read_field(package, 'Depends')}, {read_field(package, 'Recommends')}, {OF_THE_REPORT}, {OF_THE_OFFICE}, {OF_THE_PAGES}",
+        f"{capture_field(package, 'Depends')}, {capture_field(package, 'Recommends')}, {OF_THE_REPORT}, {OF_THE_OFFICE}, {OF_THE_PAGES}",
     )
-    before = system.list_files()
-    run_apt_and_check(counts, system, "install", "/dam.deb")
+    before = system.read_file_names()
+    run_apt_and_check_status(counts, system, "install", "/dam.deb")
     check_day(counts, system)
     check_office(counts, system)
     reader.check_pages_in_system(counts, system, package, archive)
-    run_apt_and_check(counts, system, "purge", "dam")
-    left = sorted(system.list_files() - before)
+    run_apt_and_check_status(counts, system, "purge", "dam")
+    left = sorted(system.read_file_names() - before)
     counts.check(f"left after the package was removed: {left[:10]}", not left)
-    run_apt_and_check(counts, system, "install", "/dam.deb", "gcc", "libc6-dev", "pkgconf")
+    run_apt_and_check_status(counts, system, "install", "/dam.deb", "gcc", "libc6-dev", "pkgconf")
     check_in_c(counts, system, caller)

@@ -41,16 +41,16 @@ def commit_all(folder, words="all"):
         subprocess.run(["git", *line], cwd=folder, env=when, check=True, stdout=subprocess.DEVNULL)
 
 
-def list_tracked():
+def ask_git_for_tracked_files():
     """The files of the working tree that a commit would have."""
     _, shown, _ = run_command(["git", "ls-files", "-z", "--cached", "--others", "--exclude-standard"])
     return [name for name in shown.split("\0") if name and (TOP / name).is_file()]
 
 
-def make_copy(folder, stand_ins):
+def copy_and_commit_clone(folder, stand_ins):
     """Makes a copy of the working tree, with the built files."""
     folder.mkdir()
-    for name in list_tracked():
+    for name in ask_git_for_tracked_files():
         (folder / name).parent.mkdir(parents=True, exist_ok=True)
         shutil.copy(TOP / name, folder / name)
     subprocess.run(["git", "init", "--quiet"], cwd=folder, check=True)
@@ -59,13 +59,13 @@ def make_copy(folder, stand_ins):
         (folder / name).parent.mkdir(parents=True, exist_ok=True)
         if stand_ins:
             shutil.copy(stand_ins / Path(name).name, folder / name)
-            record_as_built(folder, name, crate)
+            write_build_record(folder, name, crate)
         else:
             shutil.copy(TOP / name, folder / name)
             shutil.copy(f"{TOP / name}.json", f"{folder / name}.json")
 
 
-def record_as_built(folder, name, crate):
+def write_build_record(folder, name, crate):
     """Records a file as built of the present sources."""
     _, sums, _ = run_command([sys.executable, "tools/lib/crates/sources.py", crate], folder)
     (folder.parent / "sums").write_text(sums)
@@ -106,16 +106,16 @@ def make_and_check_packages(counts, folder, other=False):
     return room
 
 
-def unpack_tar(room):
+def capture_tar(room):
     return subprocess.run(["xz", "-dc", room / PLAIN], stdout=subprocess.PIPE, check=True).stdout
 
 
 def read_contents(room):
     """The files of the archive that runs in place, by name."""
-    with tarfile.open(fileobj=io.BytesIO(unpack_tar(room))) as archive:
+    with tarfile.open(fileobj=io.BytesIO(capture_tar(room))) as archive:
         return {it.name.partition("/")[2]: archive.extractfile(it).read() for it in archive if it.isfile()}
 
 
-def run_for_command_names(program):
+def capture_command_names(program):
     """The commands in the help of `dam`."""
     return re.findall(r"^  (\w+) ", run_command([program, "--help"])[1].partition("\nCommands:\n")[2].partition("\n\n")[0], re.MULTILINE)

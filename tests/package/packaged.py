@@ -23,7 +23,7 @@ from making import (
     read_contents,
     read_usage_of_desk,
     run_command,
-    run_for_command_names,
+    capture_command_names,
 )
 
 COMPLETIONS = "share/bash-completion/completions/{}", "share/zsh/vendor-completions/_{}", "share/fish/vendor_completions.d/{}.fish"
@@ -174,7 +174,7 @@ def check_completions(counts, files, program):
         script = f'. "{TOP}/package/completions/dam-desk.bash"; COMP_WORDS=({words}); COMP_CWORD={words.count(" ")}; _dam_desk'
         shown = run_command(["bash", "-c", f'{script}; echo "${{COMPREPLY[*]}}"'])[1]
         counts.check(f"bash completes {words}: {shown}", shown == wanted)
-    commands = run_for_command_names(program)
+    commands = capture_command_names(program)
     helps = {name: run_command([program, name, "--help"])[1] for name in commands}
     words = {*commands, *(word for text in helps.values() for word in re.findall(r"^ .*--(\w+)(?: |$)", text, re.MULTILINE))}
     for place in COMPLETIONS:

@@ -91,9 +91,9 @@ def check_page(counts, name, place, room, given):
         own = Path(folder)
         home = own / "home"
         shutil.copytree(place.files / "share/doc/dam/examples", home / "examples")
-        environment = session.make_environment(home, {**place.environment, **given}, place.root)
+        environment = session.make_environment_with_browser(home, {**place.environment, **given}, place.root)
         reader = session.PageReader(INSTALLED, place.files / "share/doc/dam", [*place.shell, *words], environment, place.root)
-        if missing := session.missing_needs(name, reader):
+        if missing := session.find_missing_needs(name, reader):
             counts.leave_out(f"the commands of {name}, {place.what}: {', '.join(missing)} missing")
             return
         subprocess.run(["chmod", "-R", "u+w", home], check=True)

@@ -31,7 +31,9 @@ class BrowserTab:
         async for message in self.socket:
             value = json.loads(message.data)
             if "id" in value:
-                self.answers.pop(value["id"]).set_result(value)
+                answer = self.answers.pop(value["id"])
+                if not answer.done():  # nobody waits any more for one that comes too late
+                    answer.set_result(value)
             elif value["method"] == "Runtime.exceptionThrown":
                 self.faults.append(value["params"]["exceptionDetails"].get("exception", {}).get("description", "an exception"))
             elif value["method"] == "Log.entryAdded" and value["params"]["entry"]["level"] == "error":
@@ -72,7 +74,7 @@ class BrowserTab:
                 raise
             return False
 
-    async def set_screen(self, width, scheme, height=900):
+    async def set_screen_size(self, width, scheme, height=900):
         await self.call_browser("Emulation.setDeviceMetricsOverride", width=width, height=height, deviceScaleFactor=1, mobile=width < 500)
         await self.call_browser("Emulation.setEmulatedMedia", features=[{"name": "prefers-color-scheme", "value": scheme}])
 
@@ -90,7 +92,7 @@ class BrowserTab:
 
 
 @contextlib.asynccontextmanager
-async def open_in_browser(url):
+async def running_browser_tab(url):
     """A tab with a page."""
     with tempfile.TemporaryDirectory(ignore_cleanup_errors=True) as room:
         words = [

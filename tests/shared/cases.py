@@ -1,4 +1,4 @@
-"""The worked cases of tests/cases/. A file there is a text with several cases, which `read` reads and `written` writes.
+"""The worked cases of tests/cases/. A file there is a text with several cases, which `read_cases` reads and `case_text` returns.
 
 It begins with the facts that its cases show, and maybe with the line `-- args` of the cases that have none. A case begins with a
 line `== NAME`, and maybe with the fact that it shows. Then come its parts, each a line `-- PART`, most with lines below it:
@@ -131,7 +131,7 @@ class CaseReader:
         if how == "from" and (TOP / where).is_file():
             return (TOP / where).read_bytes()
         file, slash, name = where[len("in ") :].rpartition("/")
-        found = self.found if not slash else read_named(file) if path_of(file).is_file() else {}
+        found = self.found if not slash else read_cases_of_file(file) if case_path_of(file).is_file() else {}
         if how != "as" or name not in found:
             raise CaseFault(part.number, f"there is no text {part.value}")
         return found[name].stdin if part.kind == "stdin" else getattr(found[name], part.kind.split()[0]).texts[0]
@@ -227,22 +227,22 @@ def read_cases(path):
         raise CaseFault(f"{path}:{fault.args[0]}: {fault.args[1]}") from None
 
 
-def read_named(file):
+def read_cases_of_file(file):
     """The cases of a file of tests/cases/, by their names."""
-    return read_cases(path_of(file))
+    return read_cases(case_path_of(file))
 
 
-def path_of(file):
+def case_path_of(file):
     return FOLDER / f"{file}.txt"
 
 
-def list_files():
+def list_case_files():
     return sorted(FOLDER.glob("*.txt"))
 
 
-def read_every():
+def read_all_cases():
     """All cases of tests/cases/."""
-    return [case for path in list_files() for case in read_cases(path).values()]
+    return [case for path in list_case_files() for case in read_cases(path).values()]
 
 
 def case_text(name, words, stdin, stdout=b"", stderr=b"", status=0):

@@ -15,7 +15,7 @@ class Counts:
         self.skipped += count
         print(f"left out: {about}", flush=True)
 
-    def print_totals(self):
+    def print_totals_and_return_status(self):
         """Prints the last line, which the check reads, and returns the status."""
         print(f"{self.passed} passed, {self.failed} failed" + (f", {self.skipped} skipped" if self.skipped else ""))
         return 1 if self.failed else 0

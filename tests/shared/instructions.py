@@ -14,12 +14,12 @@ FIXED = RefusedCalls("random", first=1, error=errno.ENOSYS)
 COUNTED = re.compile(r"I +refs: +([\d,]+)")
 
 
-def run_for_instructions(program, words, data, refusal, status=0):
+def measure_instructions(program, words, data, refusal, status=0):
     """How many instructions a run takes, which must end with this status."""
-    return run_for_counts(program, words, data, refusal, status)[0]
+    return measure_counts(program, words, data, refusal, status)[0]
 
 
-def run_for_counts(program, words, data, refusal, status=0):
+def measure_counts(program, words, data, refusal, status=0):
     """The same, and how many calls for memory it makes."""
     log = program.counts_file().with_suffix(".valgrind")
     count = [shutil.which("valgrind"), "--tool=cachegrind", "--cache-sim=no", "--cachegrind-out-file=/dev/null", f"--log-file={log}"]

@@ -31,7 +31,7 @@ class RefusedCalls(NamedTuple):
         return min(count, (self.first - 1) * (self.most or count))
 
 
-def prepare_environment(library, refusal, counts):
+def make_environment(library, refusal, counts):
     """The environment of a run with these calls refused, and with the library of refuse.c among those of LD_PRELOAD. Makes the file of the
     counts, in which nothing is counted yet."""
     counts.write_bytes(bytes(COUNTS.size))
@@ -70,7 +70,7 @@ class HostileProgram:
         printed, made, _ = self.run_counting(words, data, refusal, **how)
         return printed, made
 
-    def run_for_peak(self, words, data):
+    def measure_peak(self, words, data):
         """Its output, the most bytes that it held at once, and how many calls for memory it made."""
         return self.run_counting(words, data, RefusedCalls("peak"))
 
@@ -78,7 +78,7 @@ class HostileProgram:
         """Its output, and the numbers that the library counts. The input is the data, or comes from the source. The words of `under` go
         before the program. A program that writes before it has joined each thread that it started is at fault: that thread may still be
         running."""
-        surroundings = prepare_environment(self.room / "refuse.so", refusal, self.counts_file())
+        surroundings = make_environment(self.room / "refuse.so", refusal, self.counts_file())
         with open(self.write_input(data), "rb") as stdin:
             how = {"stdin": source or stdin, "stdout": stdout, "stderr": subprocess.PIPE, "env": surroundings, "timeout": seconds}
             try:

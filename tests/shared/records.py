@@ -20,7 +20,7 @@ def ordinary_names():
     return [f"N-{number:010}" for number in range(ORDERS)]
 
 
-def run_for_colliding_names(room, count=ORDERS, code="A", keys=()):
+def capture_colliding_names(room, count=ORDERS, code="A", keys=()):
     words = [room / "collide", *map(str, (count, code, *keys))]
     return subprocess.run(words, stdout=subprocess.PIPE, text=True, check=True).stdout.split()
 

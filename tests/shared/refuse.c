@@ -1,18 +1,18 @@
-/* refuse.c: a library to preload under a program, which refuses chosen calls for memory, for a thread, for random bytes or of a
-   device, and counts the calls of that kind. It stands on names of the GNU C library.
+/* refuse.c: a library to preload under a program, which refuses chosen calls for memory, for a thread, for random bytes, of a clock or of
+   a device, and counts the calls of that kind. It stands on names of the GNU C library.
 
-   HOSTILE in the environment is 'KIND FIRST LAST ERROR MOST'. KIND is memory, thread, random, read (of standard input), write (of
-   standard output) or report (writes to standard error). The calls of the kind whose numbers are from FIRST to LAST fail with the
+   HOSTILE in the environment is 'KIND FIRST LAST ERROR MOST'. KIND is memory, thread, random, clock, read (of standard input), write
+   (of standard output) or report (writes to standard error). The calls of the kind whose numbers are from FIRST to LAST fail with the
    error number ERROR; if that is 0, such a read or write moves no byte. Every other read or write of the kind moves at most MOST
    bytes, or all if MOST is 0. The file that HOSTILE_CALLS names holds three numbers: the calls of the kind so far, the writes to
    standard output or standard error made before every started thread was joined, and the calls for memory that got a block.
 
-   For memory, MOST is no limit: if it isn't 0, each reading of the clock is MOST milliseconds later than the one before.
+   For memory and clock, MOST is no limit: each reading of the clock is MOST milliseconds later than the one before, for memory only if it
+   isn't 0.
 
-   Five kinds refuse nothing. given counts the calls for random bytes, and gives in each those of FIRST, the lowest first, then those of
+   Four kinds refuse nothing. given counts the calls for random bytes, and gives in each those of FIRST, the lowest first, then those of
    LAST, and then zeros. held counts the starts of threads during which the program holds a block of at least MOST bytes, and beside
-   the calls for memory that got a block then. clock counts the readings of the clock, and has each of them MOST milliseconds later than
-   the one before. peak counts no calls: the number is the most bytes of blocks that the program held at once, and a block that moves
+   the calls for memory that got a block then. peak counts no calls: the number is the most bytes of blocks that the program held at once, and a block that moves
    counts twice while it does. */
 
 #define _GNU_SOURCE
@@ -188,7 +188,10 @@ int pthread_join(pthread_t thread, void **result) {
 int clock_gettime(clockid_t clock, struct timespec *now) {
     if (chosen != CLOCK && (chosen != MEMORY || most == 0))
         return (int)syscall(SYS_clock_gettime, clock, now);
-    refuses(CLOCK);
+    if (refuses(CLOCK)) {
+        errno = error;
+        return -1;
+    }
     unsigned long moved = atomic_fetch_add(&readings, 1) * most;
     *now = (struct timespec){moved / 1000, moved % 1000 * 1000000};
     return 0;

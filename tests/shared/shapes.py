@@ -54,7 +54,7 @@ SHORT, LONG = Shape(24, "A", "%X", False), Shape(100, "PARTICIP", "NAME-%07d", T
 OTHERS = [Shape(periods, "BRAVO", "N-%d", periods % 2 == 0) for periods in rules.DAYS if periods not in (24, 100)]
 
 
-def commands_by_name(shape):
+def named_commands(shape):
     """Yields a name and an endless list of commands for each kind of accepted command, and each reason for a refusal but those of a full
     book and of one that is closed."""
     hours, blocks, one = range(HOURS), range(BLOCKS), "1:9"

@@ -2,7 +2,7 @@
 
 A file of must-fail/ is one edit. A file of wrong-bodies/ has several, each below a line with its name and in the order of their first
 source files and their names, or is one, too. The file tests/rattle/wrong-bodies.edit has those that contracts allow and a test finds. There
-a line 'test: CRATE TEST' names the test, and the paths begin with crates/CRATE/."""
+a line 'test: CRATE TEST' names the test, which stands in the folder CRATE/src next to that file, and the paths begin with crates/CRATE/."""
 
 import os
 import re
@@ -15,6 +15,7 @@ NAMED = re.compile(r"^name:[ \t]*(.*?)[ \t]*$", re.MULTILINE)
 FIRST_FILE = re.compile(r"(?:^file:[ \t]*(.*?)[ \t]*$|\Z)", re.MULTILINE)
 TEST_LINE = re.compile(r"^test: (\w+) ([\w:]+)\n", re.MULTILINE)
 CRATE_PATH = re.compile(r"^file: crates/(\w+)/", re.MULTILINE)
+A_TEST = re.compile(r"^#\[test\]\nfn (\w+)\(", re.MULTILINE)
 
 
 class UnfitEdit(Exception):
@@ -63,7 +64,7 @@ def read_edits_of_file(path, folder, may_be_several):
     if not (may_be_several and NAMED.search(text)):
         return [WrongBody(name, path, text, folder)]
     found = []
-    for named, line, body in parts_of(text):
+    for named, line, body in parts_of_edit_file(text):
         if named is None:
             found.append(WrongBody(name, path, body, folder, "a line stands before the first 'name:' line"))
         else:
@@ -74,7 +75,7 @@ def read_edits_of_file(path, folder, may_be_several):
     return found
 
 
-def parts_of(text):
+def parts_of_edit_file(text):
     """Yields each 'name:' line's name, its number and the text below it; with None for the name, a text before the first such line."""
     first, *others = NAMED.split(text)
     if first.strip():
@@ -89,17 +90,26 @@ def read_edits_that_tests_find(file, top):
     """Returns the edits of tests/rattle/wrong-bodies.edit, applied to the crates of this folder, each with the crate and the path of its
     test."""
     found, names = [], set()
-    for name, line, text in parts_of(read_text(file)):
+    for name, line, text in parts_of_edit_file(read_text(file)):
         crates, tests, fault = {*CRATE_PATH.findall(text)}, TEST_LINE.findall(text), None
         if not name or name in names:
             fault = "it has no name, or another's"
         elif len(crates) != 1 or len(tests) != 1:
             fault = "it needs one 'test:' line, and 'file:' lines of one crate"
+        elif not has_test(os.path.dirname(file), *tests[0]):
+            fault = f"there is no test {' '.join(tests[0])}"
         names.add(name)
         text = TEST_LINE.sub("", CRATE_PATH.sub("file: ", text))
         edit = WrongBody(name, f"{os.path.relpath(file, top)}:{line}", text, f"{top}/crates/{min(crates, default='')}", fault)
         found.append((edit, *(tests or [("", "")])[0]))
     return found
+
+
+def has_test(tests, crate, path):
+    """Returns whether the tests of a crate, below this folder, have one of this path, such as bound::prices::a_test."""
+    *modules, name = path.split("::")
+    file = f"{tests}/{crate}/src/{'/'.join(modules) or 'lib'}.rt.test"
+    return os.path.isfile(file) and name in A_TEST.findall(read_text(file))
 
 
 def read_and_edit(edit, folder):

@@ -145,6 +145,8 @@ class EditsThatTestsFind(unittest.TestCase):
         with tempfile.TemporaryDirectory(prefix="edits-") as top:
             os.makedirs(f"{top}/crates/a/src")
             write_text(f"{top}/crates/a/src/lib.rt", LIB)
+            os.makedirs(f"{top}/b_tests/src")
+            write_text(f"{top}/b_tests/src/low.rt.test", "/// It is 1.\n#[test]\nfn is_1() {\n}\n\nfn is_2() {\n}\n")
             write_text(f"{top}/wrong-bodies.edit", text)
             return read_edits_that_tests_find(f"{top}/wrong-bodies.edit", top)
 
@@ -153,6 +155,12 @@ class EditsThatTestsFind(unittest.TestCase):
         self.assertIsNone(found.fault)
         self.assertEqual(found.texts, {"src/lib.rt": LIB.replace("MOST - 4", "MOST - 3")})
         self.assertEqual((found.name, found.place, crate, test), ("one", "wrong-bodies.edit:1", "b_tests", "low::is_1"))
+
+    def test_a_test_that_does_not_exist(self):
+        for test in "b_tests low::is_3", "b_tests low::is_2", "b_tests is_1", "b_tests high::is_1", "a low::is_1":
+            with self.subTest(test=test):
+                ((found, *_),) = self.write_and_read(self.GOOD.replace("b_tests low::is_1", test))
+                self.assertEqual((found.fault, found.texts), (f"there is no test {test}", {}))
 
     def test_faults(self):
         other = self.GOOD.replace("one", "other")

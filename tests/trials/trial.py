@@ -57,7 +57,7 @@ class Trial:
     def try_batch(self, edits):
         """Tries edits of different functions at once. Returns, by their names, those whose function is refused for itself, and a goal."""
         self.batches += 1
-        texts, names, leaders, lines = self.laid_together(edits)
+        texts, names, leaders, lines = self.texts_laid_together(edits)
         report = self.write_and_check(texts, f"{len(edits)} wrong bodies at once")
         if report.is_proved:
             return {}
@@ -89,7 +89,7 @@ class Trial:
         half = len(edits) // 2
         return {**self.try_batch(edits[:half]), **self.try_batch(edits[half:])} if half else {}
 
-    def laid_together(self, edits):
+    def texts_laid_together(self, edits):
         """Returns the texts of the crate's files with all bodies of these edits; and of each function in them, by path and number,
         the name under which a check lists it, by that name the name of the function with whose proofs its own stand, and its lines."""
         bodies = {key: body for it in edits for key, body in it.bodies.items()}

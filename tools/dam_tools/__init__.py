@@ -49,7 +49,8 @@ from .checks import (
     whatif_change,
     whatif_limit,
 )
-from .given import JournalSource, Source, as_faults, as_journal, bytes_of, is_text, one_of_many, read_journal
+from .given import JournalSource, Source, is_text, read_journal, read_one_of_many, read_or_return_journal
+from .given import read_source_bytes, turning_into_faults
 from .lib.audit import verdict
 from .lib.journal import book, journal
 from .lib.runs import by_library, by_program, engine, which
@@ -108,8 +109,8 @@ class TableJournal(Journal):
 def journal_of_orders(*sources: Source, periods: int = 24, close: bool = True) -> TableJournal:
     """The journal of tables of orders, as tools/table --journal makes it of names in capitals. Each is a file (CSV or an Excel workbook) or
     bytes."""
-    with as_faults():
-        named = [("" if is_text(source) else command.shown(source), bytes_of(source)) for source in sources]
+    with turning_into_faults():
+        named = [("" if is_text(source) else command.shown(source), read_source_bytes(source)) for source in sources]
         orders = order_table.parse_tables(named, periods)
         made = TableJournal(*order_table.journal_of(orders, periods, close))
         made.notes = orders.notes
@@ -118,8 +119,8 @@ def journal_of_orders(*sources: Source, periods: int = 24, close: bool = True) -
 
 def read_results(source: JournalSource, results: Source) -> Day:
     """The day of a journal and its results: files, bytes, or a journal that was read."""
-    with as_faults():
-        return Day.of_text(as_journal(source), bytes_of(results))
+    with turning_into_faults():
+        return Day.of_text(read_or_return_journal(source), read_source_bytes(results))
 
 
 def clear(
@@ -135,17 +136,17 @@ def clear(
     options are those of `dam clear`; none but a limit on nodes changes the answer. The environment variable DAM names the program to run,
     and DAM_LIBRARY the library, which comes first."""
     by_program.refuse_wrong_timeout(timeout)
-    read = as_journal(source)
+    read = read_or_return_journal(source)
     path = which.find_library() if (program, workers, cut, nodes, timeout) == (None,) * 5 else None
     if path:
-        return read_results(read, by_library.run_library(path, journal.journal_text(read).encode()))
+        return read_results(read, by_library.call_and_return_output(path, journal.journal_text(read).encode()))
     options = [f"--{name}={value}" for name, value in (("workers", workers), ("cut", cut), ("nodes", nodes)) if value is not None]
-    return read_results(read, printed(read, [by_program.require_program(program), "clear", *options], timeout))
+    return read_results(read, capture_output(read, [by_program.require_program(program), "clear", *options], timeout))
 
 
-def printed(read: Journal, words: list[Any], timeout: float | None) -> bytes:
+def capture_output(read: Journal, words: list[Any], timeout: float | None) -> bytes:
     """The output of a run of the program for a journal."""
-    return by_program.run_for_output(words, journal.journal_text(read).encode(), timeout)
+    return by_program.capture_output(words, journal.journal_text(read).encode(), timeout)
 
 
 class LateDay(Day):
@@ -159,8 +160,8 @@ class LateDay(Day):
     def __getattr__(self, name: str) -> Any:
         if name not in self.PARTS:
             raise AttributeError(f"a day has no {name}")
-        with as_faults():
-            self.set_contents(as_journal(self.source), self.text, "the journal", "the text")
+        with turning_into_faults():
+            self.set_contents_or_stop(read_or_return_journal(self.source), self.text, "the journal", "the text")
         return self.__dict__[name]
 
 
@@ -196,10 +197,10 @@ def clear_many(
     if executor is None and (timeout is not None or where() is None):
         program = by_program.require_program(program)
     call = functools.partial(engine.run_clear, nodes=nodes or by_library.MOST_NODES, timeout=timeout)
-    return days_of(journals, quiet, lambda texts: engine.run_clears(texts, jobs, executor, program, call))
+    return iterate_days(journals, quiet, lambda texts: engine.run_clears(texts, jobs, executor, program, call))
 
 
-def days_of(journals: Iterable[JournalSource], quiet: bool, answers: Any) -> Iterator[Day | Fault]:
+def iterate_days(journals: Iterable[JournalSource], quiet: bool, answers: Any) -> Iterator[Day | Fault]:
     """The days of journals, or their faults, by the engine of their texts."""
     whole = len(journals) if hasattr(journals, "__len__") else None
     kept: collections.deque[Any] = collections.deque()  # the journals whose results are still to come
@@ -208,13 +209,13 @@ def days_of(journals: Iterable[JournalSource], quiet: bool, answers: Any) -> Ite
         for source in journals:
             text: bytes | Fault
             try:
-                text = one_of_many(source)
+                text = read_one_of_many(source)
             except Fault as fault:
                 text = fault
             kept.append(source if isinstance(source, Journal) else text)
             yield text
 
-    for found in engine.stepping_bar(answers(texts()), whole, quiet=quiet):
+    for found in engine.iterate_with_bar(answers(texts()), whole, quiet=quiet):
         source = kept.popleft()
         yield found if isinstance(found, Fault) else LateDay(source, found)
 
@@ -233,10 +234,10 @@ class Reply(NamedTuple):
 def replay(source: JournalSource, program: Program | None = None, timeout: float | None = None) -> list[Reply]:
     """The book's reply to each command of a journal, by a run of the program. Other replies than the rules give are a fault."""
     by_program.refuse_wrong_timeout(timeout)
-    read = as_journal(source)
-    found = printed(read, [by_program.require_program(program), "replay"], timeout)
-    reasons = book.run_commands(read)[1]
-    if found != book.replies_of(read.periods, reasons).encode():
+    read = read_or_return_journal(source)
+    found = capture_output(read, [by_program.require_program(program), "replay"], timeout)
+    reasons = book.book_and_refusals(read)[1]
+    if found != book.replies_text_of(read.periods, reasons).encode():
         first, *_ = verdict.reply_faults(read.periods, reasons, found)
         raise Fault(f"the program printed other replies than those of the journal ({first})")
     return [Reply(number, reason) for number, reason in enumerate(reasons, 1)]
@@ -250,20 +251,20 @@ def rows_of(day: Day | Journal, table: str, long: bool, date: Date | None) -> An
     if isinstance(day, Journal):
         if table != "commands":
             raise ValueError("a journal without results has only the table commands")
-        rows = tables.commands(day, book.run_commands(day)[1])
+        rows = tables.command_rows(day, book.book_and_refusals(day)[1])
     else:
         rows = made[table](day)
     periods = day.periods if isinstance(day, Journal) else day.problem.periods
-    return rows if date is None else with_times(table, list(rows), date, periods)
+    return rows if date is None else rows_with_times(table, list(rows), date, periods)
 
 
-def with_times(table: str, rows: list[Any], date: Date, periods: int) -> list[Any]:
+def rows_with_times(table: str, rows: list[Any], date: Date, periods: int) -> list[Any]:
     """A table with the times at which its periods begin."""
     if "period" not in rows[0]:
         raise Fault(f"a date can't be used with {table}, which has no column of periods" + (": long=True" if table in tables.LONG else ""))
-    with as_faults():
+    with turning_into_faults():
         modules.refuse_missing_zone(shapes.ZONE)
-        return list(shapes.with_times(rows, shapes.as_date(date), periods))
+        return list(shapes.rows_with_times(rows, shapes.as_date(date), periods))
 
 
 def records(
@@ -285,7 +286,7 @@ def frame(day: Day | Journal, table: str = "periods", long: bool = False, date: 
     rows = list(rows_of(day, table, long, date))
     made = pandas.DataFrame(list(shapes.records(rows, flat)), columns=rows[0])
     for name in rows[0]:
-        if shapes.column_type(name, rows[0])["type"] == "number":
+        if shapes.column_description(name, rows[0])["type"] == "number":
             made[name] = made[name].astype(float)  # also if each cell is empty
     if "begins" in made:
         made["begins"] = pandas.to_datetime(made["begins"], utc=True).dt.tz_convert(shapes.ZONE)

@@ -6,8 +6,8 @@ import os
 import types
 from dataclasses import dataclass
 
-from .given import JournalSource, Source, as_journal, bytes_of, name_of, text_of
-from .lib.audit import best as best_of
+from .given import JournalSource, Source, read_or_return_journal, read_source_bytes, source_name, read_journal_bytes
+from .lib.audit import recursive_enumeration
 from .lib.audit import better, verdict
 from .lib.results import selection
 from .lib.sheets import shapes
@@ -128,7 +128,7 @@ def lint(source: JournalSource, command: str = "clear") -> Lint:
     """Every fault of a journal as a text for `dam clear`, `dam replay` or `dam day`, and each command that the book would refuse."""
     if command not in ("clear", "replay", "day"):
         raise ValueError(f"there is no command {command}: the commands are clear, replay and day")
-    found = lint_of.find_faults(text_of(source), command)
+    found = lint_of.find_faults(read_journal_bytes(source), command)
     findings = [Finding(one.line, one.field or None, one.words, one.refusal or None) for one in found]
     parts = [[one for one in findings if (one.reason is not None) == is_refused] for is_refused in (False, True)]
     return Lint(linted.OF_STATUS[linted.status_of(found)], *parts)
@@ -141,7 +141,7 @@ class Audited(verdict.Audit):
         super().__init__(options)
         self.sources = sources
 
-    def read_input(self, role: str, path: str) -> bytes:
+    def read_and_note_input(self, role: str, path: str) -> bytes:
         self.inputs.append({"role": role})
         return self.sources[role]
 
@@ -149,7 +149,7 @@ class Audited(verdict.Audit):
         """As the tool does it, but a missing package is a fault: a program isn't started again with another Python."""
         by_highs = self.options.by == better.HIGHS
         module = "scipy" if by_highs else "numpy"
-        if (by_highs or len(problem.blocks) > best_of.ENUMERABLE) and not modules.has_module(module):
+        if (by_highs or len(problem.blocks) > recursive_enumeration.ENUMERABLE) and not modules.has_module(module):
             raise command.Stop(modules.missing_message(module), command.FAILED)
         return super().look_for_better_and_note(problem, published)
 
@@ -169,11 +169,11 @@ def audit(
         raise ValueError(f"there is no method {by}: the methods are {' and '.join(better.METHODS)}")
     journal: str | Journal | Source = source.journal if isinstance(source, Day) else source
     published = source.text if isinstance(source, Day) else results
-    named = dict(journal=name_of(journal, "the journal"), results=None if published is None else name_of(published, "the results"))
+    named = dict(journal=source_name(journal, "the journal"), results=None if published is None else source_name(published, "the results"))
     unused = dict.fromkeys(("sent", "participant", "receipts", "head", "earlier", "key", "salts"))
     flags = dict(best=best, by=by, seconds=seconds, jobs=jobs, replies=False, quiet=True, **unused)
-    data = text_of(journal)
-    sources = {"day": data} if published is None else {"journal": data, "results": bytes_of(published)}
+    data = read_journal_bytes(journal)
+    sources = {"day": data} if published is None else {"journal": data, "results": read_source_bytes(published)}
     made = Audited(sources, types.SimpleNamespace(**named, **flags))
     message, status = None, None
     try:
@@ -190,13 +190,13 @@ def audit(
 def whatif_limit(source: JournalSource, participant: str, order: str, program: str | os.PathLike[str] | None = None) -> BlockLimit:
     """The worst limit at which a block of a closed journal is accepted, to the cent, as tools/whatif limit finds it. The day is cleared
     some twenty times, by the library or the program as `clear` has it. Results that break the rules are a `Fault`."""
-    held, key = changes.book_before_close(as_journal(source)), (participant, order)
+    held, key = changes.book_before_close_or_raise(read_or_return_journal(source)), (participant, order)
     if key not in held.rows:
-        raise Fault(whatif.unknown_words(held, *key))
+        raise Fault(whatif.unknown_order_words(held, *key))
     if held.rows[key].kind != "block":
         raise Fault(f"{order} of {participant} isn't a block")
-    search = limits.LimitSearch(held, key, whatif.engine_of(program))
-    told = limits.record(search, search.run_for_worst())
+    search = limits.LimitSearch(held, key, whatif.engine_function(program))
+    told = limits.record(search, search.search_for_worst())
     del told["law"]
     told["cases"] = [LimitCase(**case) for case in told["cases"]]
     told["others"] = [OtherOrder(**other) for other in told["others"]]
@@ -208,7 +208,7 @@ def whatif_change(
 ) -> Changes:
     """The differences if further commands come before the close of a journal: records as in a journal, or a table, as tools/whatif change
     takes them. With a participant only its orders, with its gain and net amount. Results that break the rules are a `Fault`."""
-    held = changes.book_before_close(as_journal(source))
-    further, notes = changes.parse_changes(bytes_of(commands), held.periods)
-    after = changes.book_with_commands(held, further)
-    return Changes([Change(**row) for row in shapes.records(whatif.run_and_compare([held, after], participant, program))], notes)
+    held = changes.book_before_close_or_raise(read_or_return_journal(source))
+    further, notes = changes.parse_changes_and_notes(read_source_bytes(commands), held.periods)
+    after = changes.book_with_commands_or_raise(held, further)
+    return Changes([Change(**row) for row in shapes.records(whatif.capture_difference_rows([held, after], participant, program))], notes)

@@ -7,7 +7,7 @@ from pathlib import Path
 FOLDER = Path(__file__).resolve().parent
 
 
-def run(tool):
+def run_tool(tool):
     """Runs a tool with the words of the command line. It finds its modules next to its own file, as in a clone."""
     if not getattr(sys.flags, "safe_path", False):
         del sys.path[0]  # the folder of the commands, or the working folder
@@ -15,36 +15,36 @@ def run(tool):
 
 
 def audit():
-    run("audit")
+    run_tool("audit")
 
 
 def compare():
-    run("compare")
+    run_tool("compare")
 
 
 def lint():
-    run("lint")
+    run_tool("lint")
 
 
 def office():
-    run("office")
+    run_tool("office")
 
 
 def plot():
-    run("plot")
+    run_tool("plot")
 
 
 def receipts():
-    run("receipts")
+    run_tool("receipts")
 
 
 def report():
-    run("report")
+    run_tool("report")
 
 
 def table():
-    run("table")
+    run_tool("table")
 
 
 def whatif():
-    run("whatif")
+    run_tool("whatif")

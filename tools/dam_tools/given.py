@@ -19,7 +19,7 @@ JournalSource = Source | Journal
 
 
 @contextlib.contextmanager
-def as_faults() -> Iterator[None]:
+def turning_into_faults() -> Iterator[None]:
     """The tools' message about a text, a table or a date is a fault here."""
     try:
         yield
@@ -32,12 +32,12 @@ def is_text(source: object) -> bool:
     return isinstance(source, bytes) or isinstance(source, str) and "\n" in source
 
 
-def name_of(source: object, otherwise: str) -> str:
+def source_name(source: object, otherwise: str) -> str:
     """The name of a source in a message."""
     return otherwise if is_text(source) or isinstance(source, Journal) else str(source)
 
 
-def bytes_of(source: Source) -> bytes:
+def read_source_bytes(source: Source) -> bytes:
     """The bytes of a file, or of a text that was given."""
     if isinstance(source, bytes):
         return source
@@ -45,34 +45,34 @@ def bytes_of(source: Source) -> bytes:
         return source.encode(errors="surrogatepass")
     if source == "":
         raise Fault("a file with an empty name can't be read")
-    with as_faults():
+    with turning_into_faults():
         return file_io.read_bytes(Path(source))
 
 
-def text_of(source: JournalSource) -> bytes:
+def read_journal_bytes(source: JournalSource) -> bytes:
     """The bytes of a journal."""
-    return journal.journal_text(source).encode() if isinstance(source, Journal) else bytes_of(source)
+    return journal.journal_text(source).encode() if isinstance(source, Journal) else read_source_bytes(source)
 
 
-def one_of_many(source: JournalSource) -> bytes:
+def read_one_of_many(source: JournalSource) -> bytes:
     """The bytes of a journal for which others wait, so that a device or a pipe, which may have no end, is a fault."""
     if not isinstance(source, (str, bytes, os.PathLike, Journal)):
         raise Fault(f"a journal should be a file, its text, or one that was read, and not of the type {type(source).__name__}")
     is_file = not isinstance(source, Journal) and not is_text(source) and source != ""
     if is_file and (said := file_io.find_unread_reason(source)):
         raise Fault(said)
-    return text_of(source)
+    return read_journal_bytes(source)
 
 
 def read_journal(source: Source) -> Journal:
     """The journal of a file, or of a text: bytes, or a string with line ends. Of a text that isn't a journal the fault has the status with
     which the program refuses it."""
-    data = bytes_of(source)
+    data = read_source_bytes(source)
     try:
-        return day_files.require_journal(name_of(source, "the text"), data)
+        return day_files.require_journal(source_name(source, "the text"), data)
     except command.Stop as fault:
         raise Fault(str(fault), REFUSED) from None
 
 
-def as_journal(source: JournalSource) -> Journal:
+def read_or_return_journal(source: JournalSource) -> Journal:
     return source if isinstance(source, Journal) else read_journal(source)

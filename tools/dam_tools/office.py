@@ -39,7 +39,7 @@ class Asked(NamedTuple):
     kind: str = "text/csv"
 
 
-def fault_of(status: int, data: bytes) -> OfficeFault:
+def fault_of_answer(status: int, data: bytes) -> OfficeFault:
     try:
         found = json.loads(data)
         return OfficeFault(found.pop("fault"), found.pop("words"), status, found)
@@ -48,21 +48,21 @@ def fault_of(status: int, data: bytes) -> OfficeFault:
         return OfficeFault("Unknown", f"the answer has the status {status}{which}", status)
 
 
-def strange() -> OfficeFault:
+def strange_fault() -> OfficeFault:
     """The fault of a success that no office sends, such as a proxy's page."""
     return OfficeFault("Unknown", f"the answer has the status {DONE}, but isn't an office's", DONE)
 
 
-def value_of(data: bytes, member: str | None = None) -> Any:
+def parse_value(data: bytes, member: str | None = None) -> Any:
     """The value of an answer in JSON, or a member of it."""
     try:
         found = json.loads(data)
         return found if member is None else found[member]
     except (ValueError, KeyError, TypeError, RecursionError):
-        raise strange() from None
+        raise strange_fault() from None
 
 
-def pauses():
+def iterate_pauses():
     """How long to wait before each try after the first."""
     pause = FIRST_PAUSE
     for _ in range(RETRIES):
@@ -70,7 +70,7 @@ def pauses():
         pause = min(2 * pause, LONGEST_PAUSE)
 
 
-def body_of(commands: tuple) -> tuple[bytes, str]:
+def body_and_kind(commands: tuple) -> tuple[bytes, str]:
     """The body of commands: records of a journal, or dictionaries as the office's OpenAPI file describes them."""
     if all(isinstance(one, str) for one in commands):
         return "".join(f"{one}\n" for one in commands).encode(), "text/csv"
@@ -79,23 +79,23 @@ def body_of(commands: tuple) -> tuple[bytes, str]:
     raise ValueError("commands are all records or all dictionaries")
 
 
-def receipts_of(data: bytes) -> list[dict]:
+def parse_receipts(data: bytes) -> list[dict]:
     """The receipts of an answer, at least one."""
-    made = [value_of(line) for line in data.splitlines()]
+    made = [parse_value(line) for line in data.splitlines()]
     if not made:
-        raise strange()
+        raise strange_fault()
     return made
 
 
-def prices_of(data: bytes) -> list[tuple[int, int, int]]:
+def parse_prices(data: bytes) -> list[tuple[int, int, int]]:
     """The numbers of an answer's lines of periods, at least one."""
     try:
         lines = data.decode().splitlines()
         made = [tuple(map(int, line.split(",")[1:4])) for line in lines if line.startswith("period,")]
     except ValueError:
-        raise strange() from None
+        raise strange_fault() from None
     if not made:
-        raise strange()
+        raise strange_fault()
     return made
 
 
@@ -107,16 +107,16 @@ class Calls:
         self.who = token.partition(".")[0]
         self.numbers: dict[str, int] = {}  # the next number of each day
 
-    def entering(self, day: str, body: bytes, kind: str) -> Asked:
+    def entering_request(self, day: str, body: bytes, kind: str) -> Asked:
         """The request that enters commands under the next number, which stays the next one until an answer says otherwise."""
-        return Asked("PUT", f"{self.own(day, 'commands')}/{self.numbers[day]}", body, kind)
+        return Asked("PUT", f"{self.own_path(day, 'commands')}/{self.numbers[day]}", body, kind)
 
-    def heed(self, day: str, fault: OfficeFault) -> None:
+    def forget_wrong_number(self, day: str, fault: OfficeFault) -> None:
         """Forgets the next number, if it isn't the office's."""
         if fault.fault in ("NumberUsed", "NumberAhead"):
             del self.numbers[day]
 
-    def own(self, day: str, what: str) -> str:
+    def own_path(self, day: str, what: str) -> str:
         return f"/days/{day}/{what}/{self.who}"
 
     def headers(self, asked: Asked) -> dict[str, str]:
@@ -148,12 +148,12 @@ class Office(Calls):
         except (OSError, http.client.HTTPException) as fault:
             raise OfficeFault("Unreached", f"no answer came: {fault}") from None
         if status != DONE:
-            raise fault_of(status, data)
+            raise fault_of_answer(status, data)
         return data
 
     def ask(self, asked: Asked) -> bytes:
         """The answer to a request, which is sent again if none comes, or the office can't answer yet."""
-        for pause in pauses():
+        for pause in iterate_pauses():
             try:
                 return self.once(asked)
             except OfficeFault as fault:
@@ -163,7 +163,7 @@ class Office(Calls):
         return self.once(asked)
 
     def get(self, path: str, member: str | None = None) -> Any:
-        return value_of(self.ask(Asked("GET", path)), member)
+        return parse_value(self.ask(Asked("GET", path)), member)
 
     def days(self) -> list[dict]:
         """The days of the office, with their states."""
@@ -171,33 +171,33 @@ class Office(Calls):
 
     def next(self, day: str) -> int:
         """The number of the next command."""
-        return self.get(f"{self.own(day, 'commands')}?since=99999", "next")
+        return self.get(f"{self.own_path(day, 'commands')}?since=99999", "next")
 
     def enter(self, day: str, *commands: str | dict) -> list[dict]:
         """Enters commands, and returns the receipt of each once it is on the office's disk. Its `reply` is the book's. If no answer comes
         (the fault's status is None), call it again with the same commands: they are entered once."""
-        body, kind = body_of(commands)
+        body, kind = body_and_kind(commands)
         if day not in self.numbers:
             self.numbers[day] = self.next(day)
         try:
-            made = receipts_of(self.ask(self.entering(day, body, kind)))
+            made = parse_receipts(self.ask(self.entering_request(day, body, kind)))
         except OfficeFault as fault:
-            self.heed(day, fault)
+            self.forget_wrong_number(day, fault)
             raise
         self.numbers[day] += len(made)
         return made
 
     def commands(self, day: str) -> list[dict]:
         """Each command so far: its number, its entry in the journal, its record and the reply."""
-        return self.get(self.own(day, "commands"), "commands")
+        return self.get(self.own_path(day, "commands"), "commands")
 
     def orders(self, day: str) -> list[dict]:
         """The orders in the book."""
-        return self.get(self.own(day, "orders"), "orders")
+        return self.get(self.own_path(day, "orders"), "orders")
 
     def receipts(self, day: str) -> bytes:
         """The receipts of all commands under the newest head, for `dam-receipts verify`."""
-        return self.ask(Asked("GET", self.own(day, "receipts")))
+        return self.ask(Asked("GET", self.own_path(day, "receipts")))
 
     def head(self, day: str, since: int | None = None) -> bytes:
         """The newest signed head, or the proof that it goes on from the head of this number of entries."""
@@ -205,16 +205,16 @@ class Office(Calls):
 
     def table(self, day: str, data: bytes) -> list[str]:
         """The records that a table of orders or commands (CSV or Excel) makes; `enter` enters them."""
-        asked = Asked("POST", self.own(day, "tables"), data, "application/octet-stream")
-        return value_of(self.ask(asked), "records")
+        asked = Asked("POST", self.own_path(day, "tables"), data, "application/octet-stream")
+        return parse_value(self.ask(asked), "records")
 
     def prices(self, day: str) -> list[tuple[int, int, int]]:
         """After the close, each period's number, price in cents per MWh and volume in tenths of a MW."""
-        return prices_of(self.ask(Asked("GET", f"/days/{day}/prices")))
+        return parse_prices(self.ask(Asked("GET", f"/days/{day}/prices")))
 
     def statement(self, day: str) -> list[dict]:
         """After the close, what became of each command, and why."""
-        return self.get(self.own(day, "statement"), "rows")
+        return self.get(self.own_path(day, "statement"), "rows")
 
     def text(self, day: str, name: str) -> bytes:
         """`results`, `journal` or `replies`, if the operator has published the journal."""
@@ -243,11 +243,11 @@ class AsyncOffice(Calls):
         except self.faults as fault:
             raise OfficeFault("Unreached", f"no answer came: {fault}") from None
         if answer.status != DONE:
-            raise fault_of(answer.status, data)
+            raise fault_of_answer(answer.status, data)
         return data
 
     async def ask(self, asked: Asked) -> bytes:
-        for pause in pauses():
+        for pause in iterate_pauses():
             try:
                 return await self.once(asked)
             except OfficeFault as fault:
@@ -257,31 +257,31 @@ class AsyncOffice(Calls):
         return await self.once(asked)
 
     async def get(self, path: str, member: str | None = None) -> Any:
-        return value_of(await self.ask(Asked("GET", path)), member)
+        return parse_value(await self.ask(Asked("GET", path)), member)
 
     async def next(self, day: str) -> int:
-        return await self.get(f"{self.own(day, 'commands')}?since=99999", "next")
+        return await self.get(f"{self.own_path(day, 'commands')}?since=99999", "next")
 
     async def enter(self, day: str, *commands: str | dict) -> list[dict]:
-        body, kind = body_of(commands)
+        body, kind = body_and_kind(commands)
         if day not in self.numbers:
             self.numbers[day] = await self.next(day)
         try:
-            made = receipts_of(await self.ask(self.entering(day, body, kind)))
+            made = parse_receipts(await self.ask(self.entering_request(day, body, kind)))
         except OfficeFault as fault:
-            self.heed(day, fault)
+            self.forget_wrong_number(day, fault)
             raise
         self.numbers[day] += len(made)
         return made
 
     async def commands(self, day: str) -> list[dict]:
-        return await self.get(self.own(day, "commands"), "commands")
+        return await self.get(self.own_path(day, "commands"), "commands")
 
     async def orders(self, day: str) -> list[dict]:
-        return await self.get(self.own(day, "orders"), "orders")
+        return await self.get(self.own_path(day, "orders"), "orders")
 
     async def receipts(self, day: str) -> bytes:
-        return await self.ask(Asked("GET", self.own(day, "receipts")))
+        return await self.ask(Asked("GET", self.own_path(day, "receipts")))
 
     async def statement(self, day: str) -> list[dict]:
-        return await self.get(self.own(day, "statement"), "rows")
+        return await self.get(self.own_path(day, "statement"), "rows")

@@ -21,14 +21,14 @@ MIDDLE = (rules.LOWEST_PRICE + rules.HIGHEST_PRICE) // 2
 NOMINAL = b"period,1,%d" % MIDDLE
 
 
-def shuffled(commands):
+def commands_in_drawn_order(commands):
     """The participants' commands in some order that keeps each one's own."""
     lists, rng = list(commands_by_participant(commands).values()), random.Random(1)
     while any(lists):
         yield rng.choice([own for own in lists if own]).pop(0)
 
 
-def day(data):
+def answer_to_day(data):
     try:
         given = journal.parse_journal(data)
         fault = compare.fault_of_day(given)
@@ -36,18 +36,18 @@ def day(data):
         fault = found
     if fault:
         return compare.refused_output(fault)
-    run = journal.Journal(given.periods, [*shuffled(given.commands), journal.Close()])
+    run = journal.Journal(given.periods, [*commands_in_drawn_order(given.commands), journal.Close()])
     text = journal.journal_text(run).encode() + b"results\n"
     return Printed(0, text + compare.right_results(run).stdout, b"")
 
 
-def lower(data):
+def text_of_lower_results(data):
     """The results of the selection that accepts no block."""
-    problem = selection.Problem(book.run_commands(journal.parse_journal(data))[0])
+    problem = selection.Problem(book.book_and_refusals(journal.parse_journal(data))[0])
     return results.results_text(problem, frozenset(), selection.outcome(problem, frozenset())).encode()
 
 
-def limited(answer, words, data, more):
+def answer_within_limit(answer, words, data, more):
     """The answer under the limit on nodes of a command line. A search here visits a node for each order, and some more."""
     limit = int(words[words.index("--nodes") + 1])
     if answer.status or limit >= data.count(b"\nsubmit,") + more:
@@ -55,9 +55,9 @@ def limited(answer, words, data, more):
     return Printed(3, b"", f"unfinished: piece 0 after {limit} nodes\n".encode())
 
 
-def answered(command, words, data, defect):
+def answer_with_defect(command, words, data, defect):
     """The answer to a command with its options."""
-    answer = day(data) if command == "day" else compare.right_output(command, data)
+    answer = answer_to_day(data) if command == "day" else compare.right_output(command, data)
     if defect == "late" and data:
         time.sleep(60)
     if defect == "price" and NOMINAL in answer.stdout:
@@ -69,11 +69,11 @@ def answered(command, words, data, defect):
     if defect == "replies" and command == "replay":
         answer = answer._replace(stdout=answer.stdout.replace(b",done\n", b",refused,Closed\n", 1))
     if defect == "lower" and command == "clear" and answer.status == 0:
-        answer = answer._replace(stdout=lower(data))
+        answer = answer._replace(stdout=text_of_lower_results(data))
     if defect == "plan" and words == ["--workers", "8", "--cut", "8"]:
         answer = answer._replace(stdout=answer.stdout.replace(b"welfare,", b"welfare,1", 1))
     if "--nodes" in words:
-        answer = limited(answer, words, data, 3 if defect == "nodes" else 2)
+        answer = answer_within_limit(answer, words, data, 3 if defect == "nodes" else 2)
     if defect == "status" and answer.status:
         answer = answer._replace(status=answer.status + 1)
     if defect == "order" and b"results\n" in answer.stdout:
@@ -83,7 +83,7 @@ def answered(command, words, data, defect):
 
 
 def main():
-    answer = answered(sys.argv[1], sys.argv[2:], sys.stdin.buffer.read(), os.environ.get("DAM_DEFECT"))
+    answer = answer_with_defect(sys.argv[1], sys.argv[2:], sys.stdin.buffer.read(), os.environ.get("DAM_DEFECT"))
     sys.stdout.buffer.write(answer.stdout)
     sys.stderr.buffer.write(answer.stderr)
     sys.exit(answer.status)

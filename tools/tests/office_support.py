@@ -52,9 +52,9 @@ class DeskInMemory:
         disk.openings += 1
 
     def reply(self, record):
-        return sealing.reply_of(self.book.apply(heads.command_of(record)))
+        return sealing.reply_of(self.book.apply_or_return_refusal(heads.command_of_record_or_none(record)))
 
-    async def enter(self, records):
+    async def enter_and_return_replies(self, records):
         await asyncio.sleep(0)
         kept, answered = self.disk.ends.pop(0) if self.disk.ends else (None, None)
         replies = []
@@ -72,32 +72,33 @@ class DeskInMemory:
     async def wait_for_fault(self):
         return Ended("as planned")
 
-    async def close(self):
+    async def end_or_kill(self):
         await asyncio.sleep(0)
 
 
-def late(*_):
+def raise_lateness(*_):
     raise AssertionError(f"no end after {SECONDS} seconds")
 
 
-def opener(disk):
+def patch_of_opening(disk):
     async def opened(program, path, periods):
         desk = disk.desk = DeskInMemory(disk, periods)
         return desk, list(disk.records), desk.replies
 
-    return mock.patch.object(Desk, "open", opened)
+    return mock.patch.object(Desk, "start_and_read_records", opened)
 
 
-async def write_published(given):
+async def write_and_return_troubles(given):
     """In place of the programs after a close."""
     given.files.path_of(folder.RESULTS).write_bytes(b"")
+    yield None
 
 
 class Office(unittest.IsolatedAsyncioTestCase):
     def setUp(self):
         if aiohttp is None:
             self.skipTest("python3-aiohttp, python3-jinja2 or python3-cryptography is missing")
-        self.addCleanup(signal.signal, signal.SIGALRM, signal.signal(signal.SIGALRM, late))
+        self.addCleanup(signal.signal, signal.SIGALRM, signal.signal(signal.SIGALRM, raise_lateness))
         self.addCleanup(signal.setitimer, signal.ITIMER_REAL, 0)
         signal.setitimer(signal.ITIMER_REAL, SECONDS, 1)  # again and again, in case that something takes the first for a defect
         room = tempfile.TemporaryDirectory()
@@ -107,23 +108,23 @@ class Office(unittest.IsolatedAsyncioTestCase):
             patch = mock.patch.object(day_writer, name, 0.001)
             patch.start()
             self.addCleanup(patch.stop)
-        self.publish = publishing.write_missing_files
-        patch = mock.patch.object(publishing, "write_missing_files", write_published)
+        self.publish = publishing.write_missing_and_return_troubles
+        patch = mock.patch.object(publishing, "write_missing_and_return_troubles", write_and_return_troubles)
         patch.start()
         self.addCleanup(patch.stop)
 
-    def make(self, periods=24, closes=None, names=NAMES, share=1_000):
+    def write_office(self, periods=24, closes=None, names=NAMES, share=1_000):
         setup.make_office(self.office)
-        setup.make_day(self.office, folder.Terms(DAY, periods, closes or FUTURE, "UTC", dict.fromkeys(names, share)))
+        setup.make_day_or_stop(self.office, folder.Terms(DAY, periods, closes or FUTURE, "UTC", dict.fromkeys(names, share)))
         self.key = self.office.read_key()
 
-    def writer(self, clock=None, log=None):
+    def day_writer_of(self, clock=None, log=None):
         files = folder.DayFolder(self.office.path_of(folder.DAYS) / DAY)
         found, log = programs.Programs("dam", "dam-desk"), log or observed.Log(io.StringIO())
         return day_writer.DayWriter(files, self.key, found, clock or day_writer.Clock(), log, observed.Counts())
 
     @contextlib.asynccontextmanager
-    async def running(self, given):
+    async def running_writer(self, given):
         task = asyncio.create_task(given.write_until_published())
         try:
             await given.is_ready.wait()
@@ -133,22 +134,22 @@ class Office(unittest.IsolatedAsyncioTestCase):
             with contextlib.suppress(asyncio.CancelledError):
                 await task
 
-    async def until(self, holds):
+    async def wait_until(self, holds):
         while not holds():
             await asyncio.sleep(0.001)
 
-    def verify(self, given, receipt):
+    def assert_verified(self, given, receipt):
         """A receipt is right under its own head, and that head is of the journal."""
         self.assertTrue(signing.is_signed(self.key.public_key(), receipt.head))
-        self.assertEqual(merkle.root_of_inclusion(receipt.leaf(), receipt.number - 1, receipt.head.size, receipt.path), receipt.head.root)
+        self.assertEqual(merkle.root_of_inclusion_or_none(receipt.leaf(), receipt.number - 1, receipt.head.size, receipt.path), receipt.head.root)
         self.assertEqual(given.ledger.seal.tree.root(receipt.head.size), receipt.head.root)
 
 
-def commands(*records):
-    return [heads.command_of(record) for record in records]
+def commands_of_records(*records):
+    return [heads.command_of_record_or_none(record) for record in records]
 
 
-def random_record(rng, who, number, periods):
+def draw_record(rng, who, number, periods):
     volumes = ";".join(
         f"{period}:{rng.randint(1, 99_999)}" for period in sorted(rng.sample(range(1, min(periods + 3, 101)), rng.choice([1, 1, 2, 5])))
     )

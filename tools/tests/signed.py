@@ -5,7 +5,7 @@ import unittest
 from pathlib import Path
 from unittest import mock
 
-from support import AUCTION, AUCTION_RESULTS, new_folder, run_tool
+from support import AUCTION, AUCTION_RESULTS, make_folder_for_case, run_tool
 
 from lib.journal import book, journal
 from lib.seal import heads
@@ -23,7 +23,7 @@ NEEDS_CRYPTOGRAPHY = unittest.skipIf(signing is None, "python3-cryptography is m
 
 def sealed_of(data, day=DAY, salts=None, key=None):
     read = journal.parse_journal(data)
-    return sealing.seal_of(read, book.run_commands(read)[1], day, salts or sealing.new_salts(day), key or signing.new_key())
+    return sealing.seal_of(read, book.book_and_refusals(read)[1], day, salts or sealing.draw_salts(day), key or signing.draw_key())
 
 
 def replies_of(data):
@@ -33,19 +33,19 @@ def replies_of(data):
 def verdict_of(data, head, key, links=None):
     """The verdict on the text of a receipt, compared with a head."""
     with mock.patch.object(file_io, "read_bytes", lambda path: data):
-        return receipts.verdict(list(receipts.read_and_judge_receipts("receipts", head, key, links or receipts.Links([], key, []))))
+        return receipts.verdict(list(receipts.add_file_and_return_findings("receipts", head, key, links or receipts.Links([], key, []))))
 
 
 def lines_of(seal, head=None):
-    head = head or seal.head()
-    return [heads.line_of(seal.receipt(number, head)) for number in range(1, head.size + 1)]
+    head = head or seal.signed_head()
+    return [heads.line_bytes_of(seal.receipt(number, head)) for number in range(1, head.size + 1)]
 
 
 class InFolder(unittest.TestCase):
     """A test in a folder of its own, with a key, a journal and its replies."""
 
     def setUp(self):
-        folder = new_folder(self)
+        folder = make_folder_for_case(self)
         self.addCleanup(os.chdir, os.getcwd())
         os.chdir(folder)
         Path("day.csv").write_bytes(AUCTION.read_bytes())

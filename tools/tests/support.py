@@ -20,11 +20,10 @@ TOOLS = TOP / "tools"
 sys.path[:0] = [str(TOOLS), str(TOP / "tests" / "fuzz")]
 
 import compare
-import days
 from lib.journal import book, journal
 from lib.results import results, selection
 from lib.tool import day_files, modules
-from shared import cases as worked
+from shared import cases as worked, days
 
 SECONDS = 300  # that a run may take
 # Three examples, and their results.
@@ -42,28 +41,28 @@ def load_tool(name):
     return module
 
 
-def heed_interrupts(case):
+def set_interrupt_handler(case):
     """Lets a test's processes be interrupted: a shell's command in the background ignores the signal, and one of nohup that of a terminal
     that closes, and so would all that it starts."""
     for number, handler in ((signal.SIGINT, signal.default_int_handler), (signal.SIGHUP, signal.SIG_DFL)):
         case.addCleanup(signal.signal, number, signal.signal(number, handler))
 
 
-def new_folder(case):
+def make_folder_for_case(case):
     """A folder, which is removed after a test."""
     folder = tempfile.TemporaryDirectory()
     case.addCleanup(folder.cleanup)
     return Path(folder.name)
 
 
-def cases(file):
+def read_worked_cases(file):
     """The worked cases of a file, by their names."""
-    return worked.read_named(file)
+    return worked.read_cases_of_file(file)
 
 
-def cleared_cases():
+def read_cleared_cases():
     """The name, the journal and the results of each worked clearing."""
-    return [(name, case.stdin, case.right_stdout) for name, case in cases("clear").items() if case.status == 0]
+    return [(name, case.stdin, case.right_stdout) for name, case in read_worked_cases("clear").items() if case.status == 0]
 
 
 def read_results(example):
@@ -71,33 +70,33 @@ def read_results(example):
     return (worked.FOLDER / f"{example.stem}.stdout").read_bytes()
 
 
-def problem(data):
-    return selection.Problem(book.run_commands(journal.parse_journal(data))[0])
+def problem_of(data):
+    return selection.Problem(book.book_and_refusals(journal.parse_journal(data))[0])
 
 
-def drawn():
+def draw_texts():
     """Random days of few blocks, each with its eligible selections by the plain reading of the rules."""
     for number in itertools.count():
-        day = problem(days.draw_text(random.Random(f"few blocks {number}"), 6).replace(b"close,,,,,,,,\n", b"") + b"close,,,,,,,,\n")
+        day = problem_of(days.draw_text(random.Random(f"few blocks {number}"), 6).replace(b"close,,,,,,,,\n", b"") + b"close,,,,,,,,\n")
         if 0 < len(day.blocks) <= 6:
-            yield day, ranked(day)
+            yield day, ranked_selections(day)
 
 
 # Those that a test has asked for, and the others.
-FOUND, MORE = [], drawn()
+FOUND, MORE = [], draw_texts()
 
 
-def small_problems(count):
+def draw_small_problems(count):
     """Random days of at most six blocks, each with its eligible selections from the best one down. Every test has the same ones."""
     FOUND.extend(itertools.islice(MORE, max(count - len(FOUND), 0)))
     return FOUND[:count]
 
 
-def ranked(day):
+def ranked_selections(day):
     """The eligible selections of a problem, with their welfare, the best one first."""
     subsets = itertools.product([True, False], repeat=len(day.blocks))
     chosen = [frozenset(itertools.compress(range(len(day.blocks)), flags)) for flags in subsets]
-    found = [(selection.eligible_welfare(day, accepted), accepted) for accepted in chosen]
+    found = [(selection.eligible_welfare_or_none(day, accepted), accepted) for accepted in chosen]
     # The selections come from the one that accepts most in front, and the sort keeps that order among equals.
     return sorted(((welfare, accepted) for welfare, accepted in found if welfare is not None), key=lambda pair: -pair[0])
 
@@ -120,7 +119,7 @@ def day_of(data, text):
 
 def results_of(data, accepted):
     """The results of a journal if these places are accepted."""
-    day = problem(data)
+    day = problem_of(data)
     return results.results_text(day, accepted, selection.outcome(day, accepted)).encode()
 
 
@@ -140,7 +139,7 @@ def run_tool(name, *words, data=b"", python=None):
     return ran.returncode, ran.stdout, ran.stderr.decode()
 
 
-def run_help_for_unsaid(name, record, *parts):
+def capture_unsaid_members(name, record, *parts):
     """The members of a record of receipts or an office, and of its parts, that neither docs/FORMATS.md nor its command's help names."""
     page = (TOP / "docs" / "FORMATS.md").read_text().partition("\nThose of `tools/receipts` and `tools/office` have ")[2]
     text = run_tool(name, record["command"], "--help")[1].decode()

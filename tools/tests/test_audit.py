@@ -13,11 +13,11 @@ import unittest.mock
 from fractions import Fraction
 
 import support
-from support import AUCTION, AUCTION_RESULTS, FIRST, QUARTERS, cleared_cases, journal_of, problem, ranked, read_results, results_of
-from support import run_audit, run_tool, small_problems
+from support import AUCTION, AUCTION_RESULTS, FIRST, QUARTERS, journal_of, problem_of, ranked_selections, read_cleared_cases, read_results, results_of
+from support import draw_small_problems, run_audit, run_tool
 
-import days
-from lib.audit import best, verdict
+from shared import days
+from lib.audit import recursive_enumeration, verdict
 from lib.base import rules
 from lib.journal import book, journal
 from lib.results import check, period, results, selection
@@ -31,7 +31,7 @@ NUMBER = re.compile(rb"(?<=,)-?\d+(?=[,\n])")
 
 
 def differences(data, text):
-    return check.results_and_faults(problem(data), text)[1]
+    return check.results_and_faults(problem_of(data), text)[1]
 
 
 def changed_numbers(text):
@@ -44,15 +44,15 @@ def changed_numbers(text):
 
 class Results(unittest.TestCase):
     def test_worked_results_are_accepted(self):
-        for name, data, text in cleared_cases():
+        for name, data, text in read_cleared_cases():
             with self.subTest(name):
                 self.assertEqual(differences(data, text), [])
 
     def test_each_changed_number_is_refused_at_its_line(self):
         """The other checks find each changed number without the sums."""
         refused = 0
-        for name, data, text in cleared_cases():
-            day = problem(data)
+        for name, data, text in read_cleared_cases():
+            day = problem_of(data)
             for other, line in changed_numbers(text):
                 with self.subTest(name, line=line), unittest.mock.patch.object(check.sums, "sum_faults", return_value=()):
                     self.assertRegex("\n".join(check.results_and_faults(day, other)[1]), rf"results line {line}\b")
@@ -64,7 +64,7 @@ class Results(unittest.TestCase):
         orders = [f"submit,A,H{number},hour,{'sell' if number % 2 else 'buy'},{6_000 + 7 * number},18:{number + 1},," for number in range(600)]
         blocks = [f"submit,B,K{number},block,sell,{9_000 + number},18:{10 + number},," for number in range(rules.MOST_BLOCKS)]
         data = journal_of(*orders, *blocks)
-        day, right = problem(data), results_of(data, frozenset()).decode().splitlines()
+        day, right = problem_of(data), results_of(data, frozenset()).decode().splitlines()
         for start, least in (("block,", rules.MOST_BLOCKS), ("hour,", 600)):
             rows = [place for place, line in enumerate(right) if line.startswith(start)]
             self.assertEqual(len(rows), least)
@@ -126,12 +126,12 @@ class Results(unittest.TestCase):
         self.assertIn("block GAS,START: it is accepted and loses 320000 together with its accepted descendants", wrong)
 
     def test_a_family_makes_its_root_good_and_no_child(self):
-        chain = support.problem(support.cases("clear")["chain"].stdin)
+        chain = support.problem_of(support.read_worked_cases("clear")["chain"].stdin)
         self.assertEqual(chain.rescuers, [[1, 2], [2], []])
         for accepted, losers in ({0}, {0: 500}), ({0, 1}, {0: 2_500, 1: 2_000}), ({0, 1, 2}, {}):
             found = selection.outcome(chain, accepted)
             self.assertEqual(selection.losses_of(chain, accepted, found.surpluses), losers)
-        case = support.cases("clear")["rescue-not-upwards"]
+        case = support.read_worked_cases("clear")["rescue-not-upwards"]
         wrong = "\n".join(differences(case.stdin, case.right_stdout.replace(b"K2,rejected", b"K2,accepted")))
         self.assertIn("block A,K2: it is accepted and loses 500", wrong)
         self.assertNotIn("with those", wrong)
@@ -171,14 +171,14 @@ class Results(unittest.TestCase):
         self.assertEqual(set(found), set(range(len(kinds))))
 
     def test_a_selection_that_balances_nowhere_is_refused(self):
-        case = support.cases("clear")["too-large-block"]
+        case = support.read_worked_cases("clear")["too-large-block"]
         wrong = differences(case.stdin, case.right_stdout.replace(b"rejected", b"accepted"))
         self.assertIn("period 1: no execution balances", wrong[0])
 
 
 class Text(unittest.TestCase):
     def test_replies_and_faults_of_the_worked_cases(self):
-        for name, case in support.cases("replay").items():
+        for name, case in support.read_worked_cases("replay").items():
             with self.subTest(name):
                 self.assertEqual(self.replies(case.stdin), (case.right_stdout, case.stderr.texts[0]))
 
@@ -212,16 +212,16 @@ class Text(unittest.TestCase):
                 self.assertEqual(list(records(given)), wanted)
 
     def test_where_records_and_open_quotes_begin(self):
-        from lib.base.text import find_open_quote, placed_records
+        from lib.base.text import open_quote_place_or_none, placed_records
 
         text = b'\r\na,b\r\n\n"c""\n";d\re,"f'
         self.assertEqual(list(placed_records(text)), [(2, [b"a", b"b"]), (8, [b'c"\n;d']), (17, [b"e", b"f"])])
         self.assertEqual(list(placed_records(text, b";"))[1], (8, [b'c"\n', b"d"]))
         for given, place in {b"": None, b'a"\n': None, b'"a"\n"b"': None, text: 8, text[9:]: 4, b'a,"b""c': 2, b'""""": 1"\n"': 10}.items():
             with self.subTest(given):
-                self.assertEqual(find_open_quote(given), place)
-        self.assertEqual(find_open_quote(b'"a";"b', b";"), 4)
-        self.assertEqual(find_open_quote(b'a,"' + b"x" * 200_000), 2)
+                self.assertEqual(open_quote_place_or_none(given), place)
+        self.assertEqual(open_quote_place_or_none(b'"a";"b', b";"), 4)
+        self.assertEqual(open_quote_place_or_none(b'a,"' + b"x" * 200_000), 2)
 
     def test_the_written_journal_reads_back(self):
         for number in range(300):
@@ -273,7 +273,7 @@ class Period(unittest.TestCase):
             near = sorted(price for price in limits if rules.LOWEST_PRICE <= price <= rules.HIGHEST_PRICE)
             prices = sorted({rules.LOWEST_PRICE, *near, rules.HIGHEST_PRICE})
             right = [price for price in prices if any(obeys(orders, executed, price) for executed in balanced)]
-            found = period.clear(orders, net)
+            found = period.clearing_or_none(orders, net)
             self.assertEqual(found is not None, bool(balanced))
             if found:
                 self.assertEqual(right, [price for price in prices if found.low <= price <= found.high])
@@ -282,7 +282,7 @@ class Period(unittest.TestCase):
     def test_execution(self):
         for orders, net in self.drawn():
             balanced = [executed for executed in executions(orders) if balance(orders, net, executed)]
-            found = period.clear(orders, net)
+            found = period.clearing_or_none(orders, net)
             if found:
 
                 def rank(executed):
@@ -293,37 +293,37 @@ class Period(unittest.TestCase):
 
     def test_price_rule(self):
         least, greatest = rules.LOWEST_PRICE, rules.HIGHEST_PRICE
-        self.assertEqual(rules.price_between(least, 5_000)[0], 5_000)
-        self.assertEqual(rules.price_between(6_000, greatest)[0], 6_000)
-        self.assertEqual(rules.price_between(least, greatest)[0], (least + greatest) // 2)
-        self.assertEqual(rules.price_between(-3, 0)[0], -2)
-        self.assertEqual(rules.price_between(200, 9_200)[0], 4_700)
+        self.assertEqual(rules.price_and_case(least, 5_000)[0], 5_000)
+        self.assertEqual(rules.price_and_case(6_000, greatest)[0], 6_000)
+        self.assertEqual(rules.price_and_case(least, greatest)[0], (least + greatest) // 2)
+        self.assertEqual(rules.price_and_case(-3, 0)[0], -2)
+        self.assertEqual(rules.price_and_case(200, 9_200)[0], 4_700)
 
     def test_the_curve_says_the_same(self):
         for orders, _ in self.drawn():
-            curve = best.Curve(orders)
+            curve = recursive_enumeration.Curve(orders)
             for net in range(-16, 17):
-                found = period.clear(orders, net)
-                self.assertEqual(curve.welfare(net), found and found.welfare)
+                found = period.clearing_or_none(orders, net)
+                self.assertEqual(curve.welfare_or_none(net), found and found.welfare)
                 if found:
                     self.assertEqual(curve.supporting_prices(net), (found.low, found.high))
 
 
 class Best(unittest.TestCase):
     def test_enumeration(self):
-        for day, selections in small_problems(200):
-            found, _ = best.enumerate_all(day)
+        for day, selections in draw_small_problems(200):
+            found, _ = recursive_enumeration.find_best_and_how(day)
             self.assertEqual((found.welfare, found.accepted), selections[0])
 
     def test_highs(self):
         if not modules.has_module("scipy"):
             self.skipTest("scipy is missing (Debian's python3-scipy)")
-        from lib.audit import solver
+        from lib.audit import highs_search
 
         tried = 0
-        for day, selections in [*small_problems(80), *self.equal_prices(), *self.equal_blocks()]:
+        for day, selections in [*draw_small_problems(80), *self.equal_prices(), *self.equal_blocks()]:
             for rank, (welfare, accepted) in enumerate(selections[:4]):
-                found, _ = solver.find_better(day, accepted, welfare, Progress("audit", 60))
+                found, _ = highs_search.find_better_and_how(day, accepted, welfare, Progress("audit", 60))
                 self.assertEqual(found is None, rank == 0)
                 if found:
                     self.assertIn((found.welfare, found.accepted), selections[:rank])
@@ -339,8 +339,8 @@ class Best(unittest.TestCase):
             "submit,A,S3,hour,sell,81610,1:10,,",
             "submit,A,K2,block,sell,81610,1:10,,",
         )
-        day = problem(data)
-        yield day, ranked(day)
+        day = problem_of(data)
+        yield day, ranked_selections(day)
 
     def equal_blocks(self):
         """Books in which the later one of two equal blocks is accepted alone: the earlier one has a group or a parent, or the later one has
@@ -351,8 +351,8 @@ class Best(unittest.TestCase):
             ("K1,block,sell,4000,1:10,,", "K2,block,sell,4000,1:10,,", "X,block,sell,1000,2:20,K2,"),
         ):
             orders = ("B1,hour,buy,6000,1:10,,", "B2,hour,buy,6000,2:20,,", *blocks)
-            day = problem(journal_of(*(f"submit,A,{order}" for order in orders)))
-            selections = ranked(day)
+            day = problem_of(journal_of(*(f"submit,A,{order}" for order in orders)))
+            selections = ranked_selections(day)
             accepted = {day.blocks[place].name for place in selections[0][1]}
             self.assertEqual(("K1" in accepted, "K2" in accepted), (False, True), blocks)
             yield day, selections
@@ -373,7 +373,7 @@ class Best(unittest.TestCase):
                 self.assertEqual(run_audit(data, read_results(AUCTION), "--best", "--by", method)[0], 0)
 
     def test_of_equal_selections_the_earlier_block_is_accepted(self):
-        data = support.cases("clear")["two-equal-blocks"].stdin
+        data = support.read_worked_cases("clear")["two-equal-blocks"].stdin
         for method in self.methods():
             with self.subTest(method):
                 status, out, _ = run_audit(data, results_of(data, frozenset({1})), "--best", "--by", method)
@@ -423,7 +423,7 @@ class CommandLine(unittest.TestCase):
         blocks = [f"submit,A,K{number},block,sell,1,1:1,," for number in range(rules.MOST_BLOCKS)]
         data = journal_of(*blocks)
         text = results_of(data, frozenset())
-        wanted = command.DONE if modules.has_module("numpy") or modules.run_for_modules("numpy") else command.FAILED
+        wanted = command.DONE if modules.has_module("numpy") or modules.run_and_see_if_debian_has("numpy") else command.FAILED
         self.assertEqual(run_audit(data, text, "--best")[0], wanted)
 
     def test_a_tool_without_its_parts_has_no_verdict(self):
@@ -495,11 +495,11 @@ class CommandLine(unittest.TestCase):
 
     @unittest.skipUnless(modules.has_module("scipy"), "scipy is missing (Debian's python3-scipy)")
     def test_the_words_for_what_highs_offers(self):
-        from lib.audit import solver
+        from lib.audit import highs_search
 
-        day = problem(AUCTION.read_bytes())
-        accepted = frozenset(results.parse_results(day, read_results(AUCTION))[0].accepted)
-        welfare = selection.eligible_welfare(day, accepted)
+        day = problem_of(AUCTION.read_bytes())
+        accepted = frozenset(results.parse_results_and_faults(day, read_results(AUCTION))[0].accepted)
+        welfare = selection.eligible_welfare_or_none(day, accepted)
         for offers, said in (
             ([None], "HiGHS found none better"),
             ([{0}, None], "HiGHS offers 1 other, which breaks a rule or ranks below"),
@@ -507,8 +507,8 @@ class CommandLine(unittest.TestCase):
         ):
             answers = itertools.chain(offers, itertools.repeat(None))
             told = []
-            with unittest.mock.patch.object(solver.Model, "solve_next", lambda *_: next(answers)):
-                self.assertEqual(solver.find_better(day, accepted, welfare, Progress("audit", 60), told.append), (None, said))
+            with unittest.mock.patch.object(highs_search.Model, "solve_for_selection_or_none", lambda *_: next(answers)):
+                self.assertEqual(highs_search.find_better_and_how(day, accepted, welfare, Progress("audit", 60), told.append), (None, said))
             many = "HiGHS is still searching, and has offered 2 other selections"
             words = ["HiGHS is still searching", "HiGHS is still searching, and has offered 1 other selection", many]
             self.assertEqual(told, words[: len(offers)])
@@ -558,27 +558,27 @@ class CommandLine(unittest.TestCase):
         """Which line stands where, and where it belongs: once for a line that moved, twice for two that were swapped."""
         data, lines = AUCTION.read_bytes(), read_results(AUCTION).splitlines(keepends=True)
 
-        def run_for_faults(*places):
+        def capture_faults(*places):
             *faults, last = run_audit(data, b"".join(lines[place] for place in places))[1].decode().splitlines()
             self.assertEqual(f"{last}\n", NOT_COMPARED)
             return faults
 
         every = list(range(len(lines)))
         self.assertEqual(
-            run_for_faults(*every[:5], 6, 5, *every[7:]), ["results line 6: the line for period 5 stands here and belongs after that for period 4"]
+            capture_faults(*every[:5], 6, 5, *every[7:]), ["results line 6: the line for period 5 stands here and belongs after that for period 4"]
         )
-        first = run_for_faults(1, 0, *every[2:])
+        first = capture_faults(1, 0, *every[2:])
         self.assertEqual(first, ["results line 1: the line for the welfare stands here and belongs after that for the day"])
         self.assertEqual(
-            run_for_faults(*every[:3], 20, *every[4:20], 3, *every[21:]),
+            capture_faults(*every[:3], 20, *every[4:20], 3, *every[21:]),
             [
                 "results line 4: the line for period 19 stands here and belongs after that for period 18",
                 "results line 21: the line for period 2 stands here and belongs after that for period 1",
             ],
         )
         last = "results line 1: the line for block OLD,UNIT-7 stands here and belongs after that for block PUMP,"
-        self.assertTrue(run_for_faults(every[-1], *every[:-1])[0].startswith(last[:80]), run_for_faults(every[-1], *every[:-1]))
-        first = run_for_faults(*every[1:], 0)
+        self.assertTrue(capture_faults(every[-1], *every[:-1])[0].startswith(last[:80]), capture_faults(every[-1], *every[:-1]))
+        first = capture_faults(*every[1:], 0)
         self.assertEqual(first, [f"results line {len(lines)}: the line for the day stands here and belongs before all others"])
 
     def test_results_of_another_journal_are_said_to_be(self):
@@ -680,12 +680,12 @@ class CommandLine(unittest.TestCase):
         self.assertIn(b"buyers pay 885,657.75 EUR, sellers receive 885,657.75 EUR; ", out)
 
     def test_the_words_for_what_was_tried(self):
-        self.assertEqual(best.tried_words(0, 1), "there is no block to select")
-        self.assertEqual(best.tried_words(1, 2), "each of 2 selections was tried")
+        self.assertEqual(recursive_enumeration.tried_words(0, 1), "there is no block to select")
+        self.assertEqual(recursive_enumeration.tried_words(1, 2), "each of 2 selections was tried")
         whole = "each of 16,777,216 selections was tried; 1 would be better if none of its blocks lost"
-        self.assertEqual(best.tried_words(24, 2**24, 1), whole)
-        self.assertEqual(best.tried_words(1, 2, 2), "each of 2 selections was tried; 2 would be better if none of their blocks lost")
-        self.assertEqual(best.tried_words(11, 7), "each of 2,048 selections was tried, of which links and groups admit 7")
+        self.assertEqual(recursive_enumeration.tried_words(24, 2**24, 1), whole)
+        self.assertEqual(recursive_enumeration.tried_words(1, 2, 2), "each of 2 selections was tried; 2 would be better if none of their blocks lost")
+        self.assertEqual(recursive_enumeration.tried_words(11, 7), "each of 2,048 selections was tried, of which links and groups admit 7")
 
     def test_quiet_and_help(self):
         self.assertEqual(run_audit(AUCTION.read_bytes(), read_results(AUCTION), "--quiet"), (0, b"", ""))

@@ -18,7 +18,7 @@ import clearing
 from figures import Figures
 from lib.tool import modules
 
-PEER, THIN = TOP / "bench" / "peer.py", worked.read_named("thin")
+PEER, THIN = TOP / "bench" / "peer.py", worked.read_cases_of_file("thin")
 
 
 class Timed(clearing.TimedBook):
@@ -70,7 +70,7 @@ class Together(unittest.TestCase):
             self.assertEqual(line[1:], ["1 of 40", f"at most {40 // part}", verdict, "slow 1.50 x"])
 
 
-@unittest.skipUnless(modules.has_module("scipy") or modules.run_for_modules("scipy"), "scipy is missing (Debian's python3-scipy)")
+@unittest.skipUnless(modules.has_module("scipy") or modules.run_and_see_if_debian_has("scipy"), "scipy is missing (Debian's python3-scipy)")
 class Peers(unittest.TestCase):
     def check_welfares(self, peer):
         for case in THIN.values():

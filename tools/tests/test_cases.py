@@ -79,7 +79,7 @@ z\\
 
     def test_texts_from_elsewhere(self):
         self.assertEqual(self.one("-- stdin from examples/first-day.csv\n").stdin, (TOP / "examples/first-day.csv").read_bytes())
-        paradox = worked.read_named("clear")["paradox"]
+        paradox = worked.read_cases_of_file("clear")["paradox"]
         case = self.one("-- stdin as in clear/paradox\n-- stdout as in clear/paradox\n")
         self.assertEqual((case.stdin, case.right_stdout), (paradox.stdin, paradox.right_stdout))
 
@@ -148,7 +148,7 @@ z\\
         said = f"run-cases: {self.path}:1: a has no arguments, is there already, or has a part twice\n"
         self.assertEqual((ran.returncode, ran.stdout, ran.stderr), (1, "", said))
         shown = subprocess.run([sys.executable, TOP / "tests/run-cases", "--print", "clear/paradox"], capture_output=True)
-        self.assertEqual(shown.stdout, worked.read_named("clear")["paradox"].stdin)
+        self.assertEqual(shown.stdout, worked.read_cases_of_file("clear")["paradox"].stdin)
 
     def test_the_runner_on_a_mix_up(self):
         for words, said in (
@@ -166,10 +166,10 @@ z\\
                 self.assertNotIn("Traceback", ran.stderr)
 
     def test_the_cases_of_the_repository(self):
-        names = [case.name for case in worked.read_every()]
+        names = [case.name for case in worked.read_all_cases()]
         self.assertEqual(len(names), len(set(names)))
-        used = re.findall(r"^-- stdout from (tests/cases/.*)$", "".join(path.read_text() for path in worked.list_files()), re.MULTILINE)
-        self.assertEqual({TOP / path for path in used} | {*worked.list_files()}, {*worked.FOLDER.iterdir()})
+        used = re.findall(r"^-- stdout from (tests/cases/.*)$", "".join(path.read_text() for path in worked.list_case_files()), re.MULTILINE)
+        self.assertEqual({TOP / path for path in used} | {*worked.list_case_files()}, {*worked.FOLDER.iterdir()})
 
 
 TESTS = """

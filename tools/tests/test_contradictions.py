@@ -30,11 +30,11 @@ ENTRY = "submit,TOWN,K{},hour,buy,{},8:10,,"
 
 def grown(key, prices, sizes, salts=None, day=DAY, periods=24):
     """A journal of one entry for each price, and its heads with these sizes."""
-    seal, signed = sealing.Seal(day, periods, salts or sealing.new_salts(day), key), {}
+    seal, signed = sealing.Seal(day, periods, salts or sealing.draw_salts(day), key), {}
     for number, price in enumerate(prices, 1):
         seal.append(sealing.Entry(ENTRY.format(number, price), heads.DONE, "TOWN"))
         if number in sizes:
-            signed[number] = seal.head()
+            signed[number] = seal.signed_head()
     return seal, signed
 
 
@@ -50,16 +50,16 @@ class Contradictions(InFolder):
     def setUp(self):
         super().setUp()
         self.key = signing.parse_private(Path("key.pem").read_bytes())
-        prices, salts = [100] * 18, sealing.new_salts(DAY)
+        prices, salts = [100] * 18, sealing.draw_salts(DAY)
         for names, own in (("A B C", prices), ("A B F", fork(prices, 17)), ("A2 B2 C2", fork(prices, 1))):
             seal, signed = grown(self.key, own, (6, 9, 18), salts)
             for name, head in zip(names.split(), signed.values()):
-                Path(f"{name}.head").write_bytes(heads.line_of(head))
+                Path(f"{name}.head").write_bytes(heads.line_bytes_of(head))
                 Path(f"{name}.receipts").write_bytes(b"".join(lines_of(seal, head)))
                 if head.size > 6:
-                    Path(f"{name}.extension").write_bytes(heads.line_of(seal.extension(signed[6], head)))
+                    Path(f"{name}.extension").write_bytes(heads.line_bytes_of(seal.require_extension(signed[6], head)))
 
-    def run_for_lines(self, status, *words):
+    def capture_lines(self, status, *words):
         """The lines of a run before the last one, and the last one."""
         *lines, last = self.run_tool(status, *words).splitlines()
         return lines, last
@@ -88,7 +88,7 @@ class Contradictions(InFolder):
             (["verify", "B2.receipts", "--head", "C.head", "--extension", "B.extension"], "B2.receipts line 1", "B.extension", 9),
         ):
             with self.subTest(words):
-                lines, last = self.run_for_lines(1, *words, *KEYS)
+                lines, last = self.capture_lines(1, *words, *KEYS)
                 said = f"{place}: {TREES} {count} entries: two journals, or one journal twice; the other one is in {other}"
                 self.assertIn(said, lines)
                 self.assertTrue(last.startswith("wrong: "), last)
@@ -98,9 +98,9 @@ class Contradictions(InFolder):
     def test_what_grew_is_right(self):
         ends = ["--extension", "B.extension", "--extension", "C.extension"]
         for name, head, count in (("A", "C", 6), ("C", "C", 18), ("B", "B", 9), ("A", "B", 6)):
-            lines, last = self.run_for_lines(0, "verify", f"{name}.receipts", "--head", f"{head}.head", *ends, *KEYS)
+            lines, last = self.capture_lines(0, "verify", f"{name}.receipts", "--head", f"{head}.head", *ends, *KEYS)
             self.assertEqual(last, f"right: {count} receipts of the head of 2026-11-28 with {18 if head == 'C' else 9} entries")
-        lines, last = self.run_for_lines(0, "verify", "A.receipts", "B.receipts", "--head", "B.head", *ends, *KEYS)
+        lines, last = self.capture_lines(0, "verify", "A.receipts", "B.receipts", "--head", "B.head", *ends, *KEYS)
         self.assertEqual(lines, ["the operator has signed a later head too: the head of 2026-11-28 with 18 entries"])
         self.assertEqual(last, "right: 9 receipts of the head of 2026-11-28 with 9 entries; 6 more of the same entries")
 
@@ -108,19 +108,19 @@ class Contradictions(InFolder):
         """Of one size, or of two."""
         for size in (6, 9):
             _, signed = grown(self.key, [100] * size, (size,), periods=96)
-            Path("other.head").write_bytes(heads.line_of(signed[size]))
-            lines, _ = self.run_for_lines(1, "heads", "A.head", "other.head", *KEYS)
+            Path("other.head").write_bytes(heads.line_bytes_of(signed[size]))
+            lines, _ = self.capture_lines(1, "heads", "A.head", "other.head", *KEYS)
             self.assertIn("other.head: the operator signed 2026-11-28 with 96 periods, and with 24, in A.head", lines)
-            lines, _ = self.run_for_lines(1, "verify", "A.receipts", "--head", "other.head", *KEYS)
+            lines, _ = self.capture_lines(1, "verify", "A.receipts", "--head", "other.head", *KEYS)
             self.assertIn("A.receipts line 1: the operator signed 2026-11-28 with 24 periods, and with 96, in other.head", lines)
 
     def test_two_signatures_of_one_head(self):
         """Anyone with the key can make them. They are of one tree."""
-        head, _ = heads.parse_line(Path("A.head").read_bytes(), heads.parse_head)
+        head, _ = heads.parse_value_and_is_written(Path("A.head").read_bytes(), heads.parse_head)
         with mock.patch.object(signing, "is_signed", return_value=True):
             links = receipts.Links([], self.key.public_key(), [])
             for signature in (head.signature, bytes(64)):
-                self.assertTrue(links.add_head("file", head._replace(signature=signature), []))
+                self.assertTrue(links.add_head_if_signed("file", head._replace(signature=signature), []))
         self.assertEqual((links.signed.contradictions(), links.signed.heads()), ([], [unsigned(head)]))
 
     def test_one_number_with_two_entries(self):
@@ -128,7 +128,7 @@ class Contradictions(InFolder):
         first, other = (f"{ENTRY.format(1, price)}, done" for price in (100, 101))
         path = self.append_receipts("ab.jsonl", "A", 1)
         self.append_receipts("ab.jsonl", "B2", 1)
-        lines, last = self.run_for_lines(1, "verify", path, "--head", "C.head", *KEYS)
+        lines, last = self.capture_lines(1, "verify", path, "--head", "C.head", *KEYS)
         said = f"the operator signed entry 1 of 2026-11-28 as {other}; and as {first}, in ab.jsonl line 1"
         self.assertEqual(lines[2:], [f"ab.jsonl line 2: {said}: two journals, or one journal twice"])
         self.assertEqual(last, "wrong: 2 receipts undecided; 1 contradiction; the head of 2026-11-28 with 18 entries")
@@ -136,32 +136,32 @@ class Contradictions(InFolder):
         # one.
         path = self.append_receipts("same.jsonl", "A", 2)
         self.append_receipts("same.jsonl", "C", 2)
-        self.run_for_lines(4, "verify", path, "--head", "C.head", *KEYS)
+        self.capture_lines(4, "verify", path, "--head", "C.head", *KEYS)
         self.append_receipts("fork.jsonl", "A", 2)
-        lines, _ = self.run_for_lines(1, "verify", self.append_receipts("fork.jsonl", "B2", 2), "--head", "C.head", *KEYS)
+        lines, _ = self.capture_lines(1, "verify", self.append_receipts("fork.jsonl", "B2", 2), "--head", "C.head", *KEYS)
         self.assertEqual(lines[-1], f"fork.jsonl line 2: {HASHES} entry 1 of 2026-11-28: {TWICE}; the other one is in fork.jsonl line 1")
         seal, signed = grown(self.key, [100] * 7, (7,))
         Path("again.jsonl").write_bytes(lines_of(seal, signed[7])[1])
-        lines, _ = self.run_for_lines(1, "verify", path, "again.jsonl", "--head", "C.head", *KEYS)
+        lines, _ = self.capture_lines(1, "verify", path, "again.jsonl", "--head", "C.head", *KEYS)
         self.assertIn("again.jsonl line 1: the operator signed entry 2 of 2026-11-28 as", lines[-1])
         self.assertIn("; and with another salt, in same.jsonl line 1: ", lines[-1])
         # Of another day, and of another key: nothing is contradicted.
         seal, signed = grown(self.key, [101] * 7, (7,), day="2026-11-29")
-        foreign, theirs = grown(signing.new_key(), [101] * 7, (7,))
+        foreign, theirs = grown(signing.draw_key(), [101] * 7, (7,))
         Path("others.jsonl").write_bytes(lines_of(seal, signed[7])[0] + lines_of(foreign, theirs[7])[0])
-        lines, _ = self.run_for_lines(1, "verify", self.append_receipts("one.jsonl", "A", 1), "others.jsonl", "--head", "A.head", *KEYS)
+        lines, _ = self.capture_lines(1, "verify", self.append_receipts("one.jsonl", "A", 1), "others.jsonl", "--head", "A.head", *KEYS)
         self.assertFalse([line for line in lines if "the operator signed" in line])
 
     def test_a_changed_receipt_contradicts_nothing(self):
         """Its head is the operator's, and its entry isn't."""
         line = Path("A.receipts").read_bytes().splitlines(keepends=True)[0]
         Path("changed.jsonl").write_bytes(line + line.replace(b",100,", b",101,"))
-        lines, last = self.run_for_lines(1, "verify", "changed.jsonl", "--head", "A.head", *KEYS)
+        lines, last = self.capture_lines(1, "verify", "changed.jsonl", "--head", "A.head", *KEYS)
         self.assertEqual(len(lines), 1)
         self.assertTrue(lines[0].startswith("changed.jsonl line 2: it isn't entry 1 of the head"))
         self.assertEqual(last, "wrong: 1 receipt right; 1 receipt wrong; the head of 2026-11-28 with 6 entries")
         Path("changed.jsonl").write_bytes(Path("F.receipts").read_bytes().splitlines(keepends=True)[0].replace(b",100,", b",101,"))
-        lines, _ = self.run_for_lines(1, "verify", "changed.jsonl", "--head", "C.head", *KEYS)
+        lines, _ = self.capture_lines(1, "verify", "changed.jsonl", "--head", "C.head", *KEYS)
         self.assertIn(f"changed.jsonl line 1: {TREES} 18 entries: two journals, or one journal twice; the other one is in C.head", lines)
 
     def test_the_later_head(self):
@@ -171,30 +171,30 @@ class Contradictions(InFolder):
             files = [self.append_receipts(f"{name}{size}.jsonl", name, *range(1, 7)) for name in others]
             words = ["verify", "A.receipts", *files, "--head", "A.head"]
             words += [word for name in others for word in ("--extension", f"{name}.extension")]
-            lines, _ = self.run_for_lines(0, *words, *KEYS)
+            lines, _ = self.capture_lines(0, *words, *KEYS)
             self.assertEqual(lines, [said.format(size)] if size else [])
             later = json.loads(self.run_tool(0, *words, *KEYS, "--json"))["later"]
             self.assertEqual(later and later["size"], size)
         line = Path("C.receipts").read_bytes().splitlines(keepends=True)[0]
         other, signed = grown(self.key, [100] * 18, (18,), day="2026-11-29")
         Path("others.jsonl").write_bytes(line.replace(b'"size":18', b'"size":19') + lines_of(other, signed[18])[0])
-        lines, _ = self.run_for_lines(1, "verify", "others.jsonl", "--head", "A.head", *KEYS)
+        lines, _ = self.capture_lines(1, "verify", "others.jsonl", "--head", "A.head", *KEYS)
         self.assertFalse([line for line in lines if "later head" in line])
-        lines, _ = self.run_for_lines(0, "verify", "A.receipts", "--head", "A.head", "--extension", "C.extension", *KEYS)
+        lines, _ = self.capture_lines(0, "verify", "A.receipts", "--head", "A.head", "--extension", "C.extension", *KEYS)
         self.assertEqual(lines, [said.format(18)])
 
     def test_extensions_from_two_heads_to_one(self):
         """Both are beginnings of it, so the longer one begins with the shorter one."""
-        seal, signed = grown(self.key, [100] * 18, (6, 9, 18), sealing.new_salts(DAY))
+        seal, signed = grown(self.key, [100] * 18, (6, 9, 18), sealing.draw_salts(DAY))
         for size, head in signed.items():
-            Path(f"{size}.head").write_bytes(heads.line_of(head))
-            Path(f"{size}.extension").write_bytes(heads.line_of(seal.extension(head, signed[18])))
+            Path(f"{size}.head").write_bytes(heads.line_bytes_of(head))
+            Path(f"{size}.extension").write_bytes(heads.line_bytes_of(seal.require_extension(head, signed[18])))
         files, ends = ["6.head", "9.head", "18.head"], ["--extension", "6.extension", "--extension", "9.extension"]
-        self.assertEqual(self.run_for_lines(0, "heads", *files, *ends, *KEYS)[1], "right: 3 heads of 1 day")
-        self.assertEqual(self.run_for_lines(4, "heads", *files, *ends[:2], *KEYS)[1], "undecided: 3 heads of 1 day")
+        self.assertEqual(self.capture_lines(0, "heads", *files, *ends, *KEYS)[1], "right: 3 heads of 1 day")
+        self.assertEqual(self.capture_lines(4, "heads", *files, *ends[:2], *KEYS)[1], "undecided: 3 heads of 1 day")
         Path("six.jsonl").write_bytes(b"".join(lines_of(seal, signed[6])))
-        self.run_for_lines(0, "verify", "six.jsonl", "--head", "9.head", *ends, *KEYS)
-        self.run_for_lines(4, "verify", "six.jsonl", "--head", "9.head", *ends[:2], *KEYS)
+        self.capture_lines(0, "verify", "six.jsonl", "--head", "9.head", *ends, *KEYS)
+        self.capture_lines(4, "verify", "six.jsonl", "--head", "9.head", *ends[:2], *KEYS)
 
     def test_any_extensions(self):
         """Heads are connected exactly if the extensions prove it: of two beginnings of one journal, one begins with the other."""
@@ -205,26 +205,26 @@ class Contradictions(InFolder):
             chosen = chance.sample(every, chance.randrange(12))
             paths = [Path(f"{old}-{new}.json") for old, new in chosen]
             for path, (old, new) in zip(paths, chosen):
-                path.write_bytes(heads.line_of(seal.extension(signed[old], signed[new])))
+                path.write_bytes(heads.line_bytes_of(seal.require_extension(signed[old], signed[new])))
             links, proved = receipts.Links(paths, self.key.public_key(), []), closed(chosen)
             for old, new in every:
-                self.assertEqual(links.leads(signed[old], signed[new]), (old, new) in proved, (chosen, old, new))
+                self.assertEqual(links.has_path(signed[old], signed[new]), (old, new) in proved, (chosen, old, new))
 
     def test_an_extension_that_connects_nothing(self):
         """Anyone can make one of two right heads: the operator isn't at fault, and the rest is as it is without it."""
-        extension, _ = heads.parse_line(Path("C.extension").read_bytes(), heads.parse_extension)
-        Path("no.extension").write_bytes(heads.line_of(extension._replace(path=extension.path[::-1])))
+        extension, _ = heads.parse_value_and_is_written(Path("C.extension").read_bytes(), heads.parse_extension)
+        Path("no.extension").write_bytes(heads.line_bytes_of(extension._replace(path=extension.path[::-1])))
         said = "no.extension: it doesn't connect its heads: its path doesn't lead from the earlier one to the later one"
-        lines, last = self.run_for_lines(4, "verify", "A.receipts", "--head", "C.head", "--extension", "no.extension", *KEYS)
+        lines, last = self.capture_lines(4, "verify", "A.receipts", "--head", "C.head", "--extension", "no.extension", *KEYS)
         self.assertEqual((lines[0], len(lines)), (said, 7))
         self.assertEqual(last, "undecided: 6 receipts undecided; 1 extension undecided; the head of 2026-11-28 with 18 entries")
-        lines, last = self.run_for_lines(4, "heads", "A.head", "--extension", "no.extension", *KEYS)
+        lines, last = self.capture_lines(4, "heads", "A.head", "--extension", "no.extension", *KEYS)
         self.assertEqual((lines[0], last), (said, "undecided: 2 heads of 1 day"))
         # Its heads are the operator's all the same.
-        lines, _ = self.run_for_lines(1, "heads", "C2.head", "--extension", "no.extension", *KEYS)
+        lines, _ = self.capture_lines(1, "heads", "C2.head", "--extension", "no.extension", *KEYS)
         self.assertIn(f"C2.head: {TREES} 18 entries: two journals, or one journal twice; the other one is in no.extension", lines)
         self.run_tool(0, "keys", "other.pem")
-        lines, last = self.run_for_lines(1, "heads", "A.head", "--extension", "no.extension", "--key", "other.pem.pub")
+        lines, last = self.capture_lines(1, "heads", "A.head", "--extension", "no.extension", "--key", "other.pem.pub")
         self.assertEqual(last, "wrong: 0 heads of 0 days")
         self.assertIn("no.extension: the head of 2026-11-28 with 6 entries isn't signed by this key", lines[0])
 
@@ -234,54 +234,54 @@ class Contradictions(InFolder):
         new = signing.parse_private(Path("new.pem").read_bytes())
         for day, status in ((DAY, 1), ("2026-11-29", 0)):
             _, signed = grown(new, [101] * 6, (6,), day=day)
-            Path("new.head").write_bytes(heads.line_of(signed[6]))
-            lines, _ = self.run_for_lines(status, "heads", "A.head", "new.head", *KEYS, "--key", "new.pem.pub")
+            Path("new.head").write_bytes(heads.line_bytes_of(signed[6]))
+            lines, _ = self.capture_lines(status, "heads", "A.head", "new.head", *KEYS, "--key", "new.pem.pub")
             # Each key signs a journal of its own, and one may be a stranger's: nothing else is told.
             said = [line for line in lines if "signed by" not in line and "the last with" not in line]
             self.assertEqual(said, ["new.head: two keys signed 2026-11-28: new.pem.pub, and key.pem.pub in A.head"] if status else [])
             self.assertIn("A.head: the head of 2026-11-28 with 6 entries, signed by key.pem.pub", lines)
             self.assertIn(f"new.head: the head of {day} with 6 entries, signed by new.pem.pub", lines)
         Path("key again.pub").write_bytes(Path("key.pem.pub").read_bytes())
-        self.run_for_lines(0, "heads", "A.head", *KEYS, "--key", "key again.pub")
+        self.capture_lines(0, "heads", "A.head", *KEYS, "--key", "key again.pub")
         made = json.loads(self.run_tool(1, "heads", "A.head", "new.head", *KEYS, "--json"))
         self.assertEqual(made["keys"], ["key.pem.pub", None])
-        lines, _ = self.run_for_lines(1, "heads", "A.head", "new.head", *KEYS)
+        lines, _ = self.capture_lines(1, "heads", "A.head", "new.head", *KEYS)
         self.assertIn("new.head: it isn't signed by this key: it isn't the operator's, or it was changed", lines)
 
     def test_two_keys_of_one_day(self):
         """The heads are of one journal, and may be the same. An extension between two keys is refused; anyone can make one of two days."""
         self.run_tool(0, "keys", "new.pem")
         new, keys = signing.parse_private(Path("new.pem").read_bytes()), [*KEYS, "--key", "new.pem.pub"]
-        extension, _ = heads.parse_line(Path("B.extension").read_bytes(), heads.parse_extension)
-        mixed = extension._replace(new=signing.sign(new, extension.new))
-        Path("again.head").write_bytes(heads.line_of(mixed.new))
-        Path("mixed.extension").write_bytes(heads.line_of(mixed))
+        extension, _ = heads.parse_value_and_is_written(Path("B.extension").read_bytes(), heads.parse_extension)
+        mixed = extension._replace(new=signing.signed_head(new, extension.new))
+        Path("again.head").write_bytes(heads.line_bytes_of(mixed.new))
+        Path("mixed.extension").write_bytes(heads.line_bytes_of(mixed))
         said = "two keys signed 2026-11-28: {}, and {} in {}"
         other, own = said.format("new.pem.pub", "key.pem.pub", "{}"), said.format("key.pem.pub", "new.pem.pub", "{}")
         refused = "mixed.extension: it doesn't connect its heads: they are signed with two keys, key.pem.pub and new.pem.pub"
-        self.assertIn(f"again.head: {other.format('B.head')}", self.run_for_lines(1, "heads", "B.head", "again.head", *keys)[0])
-        self.assertIn(f"B.head: {own.format('again.head')}", self.run_for_lines(1, "heads", "again.head", "B.head", *keys)[0])
-        lines, _ = self.run_for_lines(1, "heads", "A.head", "again.head", "--extension", "mixed.extension", *keys)
+        self.assertIn(f"again.head: {other.format('B.head')}", self.capture_lines(1, "heads", "B.head", "again.head", *keys)[0])
+        self.assertIn(f"B.head: {own.format('again.head')}", self.capture_lines(1, "heads", "again.head", "B.head", *keys)[0])
+        lines, _ = self.capture_lines(1, "heads", "A.head", "again.head", "--extension", "mixed.extension", *keys)
         self.assertIn(refused, lines)
         self.assertIn(f"mixed.extension: {other.format('mixed.extension')}", lines)
         links = receipts.Links(["mixed.extension"], signing.Keys({path: receipts.read_key(path) for path in keys[1::2]}), [])
-        self.assertFalse(links.leads(mixed.old, mixed.new))
-        self.run_for_lines(0, "heads", "A.head", "B.head", "--extension", "B.extension", *keys)
-        mixed = extension._replace(new=signing.sign(new, extension.new._replace(day="2026-11-29")))
-        Path("mixed.extension").write_bytes(heads.line_of(mixed))
-        lines, _ = self.run_for_lines(4, "heads", "A.head", "--extension", "mixed.extension", *keys)
+        self.assertFalse(links.has_path(mixed.old, mixed.new))
+        self.capture_lines(0, "heads", "A.head", "B.head", "--extension", "B.extension", *keys)
+        mixed = extension._replace(new=signing.signed_head(new, extension.new._replace(day="2026-11-29")))
+        Path("mixed.extension").write_bytes(heads.line_bytes_of(mixed))
+        lines, _ = self.capture_lines(4, "heads", "A.head", "--extension", "mixed.extension", *keys)
         self.assertEqual(lines[0], refused)
 
     def write_forked(self):
         """Files of two journals, left and right, that differ in entry 7: heads, receipts, and extensions between any two sizes."""
-        salts = sealing.new_salts(DAY)
+        salts = sealing.draw_salts(DAY)
         for name, prices in (("left", [100] * 18), ("right", fork([100] * 18, 7))):
             seal, signed = grown(self.key, prices, range(1, 19), salts)
             for size, head in signed.items():
-                Path(f"{name}{size}.head").write_bytes(heads.line_of(head))
+                Path(f"{name}{size}.head").write_bytes(heads.line_bytes_of(head))
                 Path(f"{name}{size}.receipts").write_bytes(b"".join(lines_of(seal, head)))
                 for old in range(1, size + 1):
-                    Path(f"{name}{old}-{size}.extension").write_bytes(heads.line_of(seal.extension(signed[old], head)))
+                    Path(f"{name}{old}-{size}.extension").write_bytes(heads.line_bytes_of(seal.require_extension(signed[old], head)))
 
     def test_two_hashes_of_the_same_entries(self):
         """Heads of other sizes, extensions and receipts of equal entries show a fork by the hashes that they have in common."""
@@ -312,7 +312,7 @@ class Contradictions(InFolder):
         ):
             with self.subTest(words):
                 words = [word for one in words for word in (["--extension", one] if one.endswith(".extension") else [one])]
-                lines, last = self.run_for_lines(1, *words, *KEYS)
+                lines, last = self.capture_lines(1, *words, *KEYS)
                 self.assertTrue(last.startswith("wrong: "))
                 told = [line for line in lines if HASHES in line or TREES in line]
                 self.assertEqual(len(told), 1, lines)
@@ -324,23 +324,24 @@ class Contradictions(InFolder):
             ["verify", far, *head],
         ):
             with self.subTest(words):
-                lines, last = self.run_for_lines(4, *words, *KEYS)
+                lines, last = self.capture_lines(4, *words, *KEYS)
                 self.assertTrue(last.startswith("undecided: "))
 
     def test_an_extension_from_the_entries_of_another_head(self):
         """Its path leads to the later head alone. No one can make such a path to heads of one journal, so it proves the fork."""
         self.write_forked()
-        left, right = (heads.parse_line(Path(f"{name}7-18.extension").read_bytes(), heads.parse_extension)[0] for name in ("left", "right"))
-        Path("mixed.extension").write_bytes(heads.line_of(right._replace(old=left.old)))
-        lines, _ = self.run_for_lines(1, "heads", "left7.head", "--extension", "mixed.extension", *KEYS)
+        both = (Path(f"{name}7-18.extension").read_bytes() for name in ("left", "right"))
+        left, right = (heads.parse_value_and_is_written(data, heads.parse_extension)[0] for data in both)
+        Path("mixed.extension").write_bytes(heads.line_bytes_of(right._replace(old=left.old)))
+        lines, _ = self.capture_lines(1, "heads", "left7.head", "--extension", "mixed.extension", *KEYS)
         said = f"mixed.extension: {HASHES} entries 1 to 7 of 2026-11-28: {TWICE}; the other one is in mixed.extension"
         self.assertEqual([line for line in lines if HASHES in line], [said])
-        Path("mixed.extension").write_bytes(heads.line_of(left._replace(new=right.new)))  # the earlier head's: anyone can make one
-        self.run_for_lines(4, "heads", "left7.head", "--extension", "mixed.extension", *KEYS)
+        Path("mixed.extension").write_bytes(heads.line_bytes_of(left._replace(new=right.new)))  # the earlier head's: anyone can make one
+        self.capture_lines(4, "heads", "left7.head", "--extension", "mixed.extension", *KEYS)
 
     def test_any_files_of_two_journals(self):
         """A contradiction is found exactly if two hashes of the same entries are shown, or follow from all that is shown."""
-        chance, salts, most = random.Random("subtrees"), sealing.new_salts(DAY), 16
+        chance, salts, most = random.Random("subtrees"), sealing.draw_salts(DAY), 16
         found = Counter()
         for _ in range(1_500):
             at = chance.randrange(1, most + 1)
@@ -356,10 +357,10 @@ class Contradictions(InFolder):
                 kind = chance.choice(("head", "receipt", "extension"))
                 if kind == "receipt":
                     signed.add_entry(seal.receipt(old, head), place, "")
-                    facts |= {((old - 1, old), tree.hashed(old - 1, old)), *facts_of(tree, merkle.inclusion_parts(old - 1, size))}
+                    facts |= {((old - 1, old), tree.cached_hash(old - 1, old)), *facts_of(tree, merkle.inclusion_parts(old - 1, size))}
                 elif kind == "extension":
                     signed.add_head(ends[old], place, "")
-                    signed.add_extension(seal.extension(ends[old], head), place, "")
+                    signed.add_extension(seal.require_extension(ends[old], head), place, "")
                     facts |= {((0, old), ends[old].root), *(facts_of(tree, merkle.consistency_parts(old, size)) if old < size else ())}
             is_shown = bool(signed.contradictions())
             self.assertEqual(is_shown, is_contradicted(facts, most))
@@ -375,32 +376,32 @@ class Contradictions(InFolder):
             for place in range(3):
                 files = ["A.head", "A2.head"]
                 files.insert(place, name)
-                lines, last = self.run_for_lines(1, "heads", *files, *KEYS)
+                lines, last = self.capture_lines(1, "heads", *files, *KEYS)
                 self.assertIn(f"A2.head: {TREES} 6 entries: {TWICE}; the other one is in A.head", lines)
                 self.assertIn(bad[name == "none.json"].format("a head"), lines)
                 self.assertEqual(last, "wrong: 2 heads of 1 day")
-            lines, last = self.run_for_lines(1, "heads", "A.head", "A2.head", "--extension", name, *KEYS)
+            lines, last = self.capture_lines(1, "heads", "A.head", "A2.head", "--extension", name, *KEYS)
             self.assertIn(bad[name == "none.json"].format("an extension"), lines)
-            self.assertEqual(self.run_for_lines(3, "heads", "A.head", name, *KEYS)[1], "unread: 1 head of 1 day")
+            self.assertEqual(self.capture_lines(3, "heads", "A.head", name, *KEYS)[1], "unread: 1 head of 1 day")
             made = json.loads(self.run_tool(3, "heads", "A.head", name, *KEYS, "--json"))
             self.assertEqual(([head and head["size"] for head in made["heads"]], made["keys"]), ([6, None], ["key.pem.pub", None]))
             words = ["verify", "A.receipts", "A2.receipts", "--head", "A.head", *KEYS]
-            lines, last = self.run_for_lines(1, *words, "--extension", name)
+            lines, last = self.capture_lines(1, *words, "--extension", name)
             self.assertEqual(lines[0], bad[name == "none.json"].format("an extension"))
-            lines, last = self.run_for_lines(1, words[0], "none.jsonl", *words[1:])
+            lines, last = self.capture_lines(1, words[0], "none.jsonl", *words[1:])
             self.assertEqual(lines[0], "none.jsonl: it can't be read: No such file or directory")
             self.assertIn("1 file unread", last)
 
     def test_why_an_extension_connects_nothing(self):
-        extension, _ = heads.parse_line(Path("C.extension").read_bytes(), heads.parse_extension)
-        other, periods = (signing.sign(self.key, extension.new._replace(**more)) for more in ({"day": "2026-11-29"}, {"periods": 25}))
+        extension, _ = heads.parse_value_and_is_written(Path("C.extension").read_bytes(), heads.parse_extension)
+        other, periods = (signing.signed_head(self.key, extension.new._replace(**more)) for more in ({"day": "2026-11-29"}, {"periods": 25}))
         for changed, status, said in (
             (extension._replace(old=extension.new, new=extension.old), 4, "the first one has 18 entries, and the second one 6"),
             (extension._replace(new=other), 4, "they are of two days, 2026-11-28 and 2026-11-29"),
             (extension._replace(new=periods), 1, "they have 24 and 25 periods"),
         ):
-            Path("no.extension").write_bytes(heads.line_of(changed))
-            lines, _ = self.run_for_lines(status, "heads", "A.head", "--extension", "no.extension", *KEYS)
+            Path("no.extension").write_bytes(heads.line_bytes_of(changed))
+            lines, _ = self.capture_lines(status, "heads", "A.head", "--extension", "no.extension", *KEYS)
             self.assertEqual(lines[0], f"no.extension: it doesn't connect its heads: {said}")
 
     def test_receipts_that_the_published_head_contradicts(self):
@@ -410,7 +411,7 @@ class Contradictions(InFolder):
             Path(f"{name}.csv").write_text("".join(f"{ENTRY.format(number, price)}\n" for number, price in enumerate(prices, 1)))
         own = ["--sent", "mine.csv", "--participant", "TOWN"]
         trees = f"{TREES} 6 entries: two journals, or one journal twice"
-        lines, last = self.run_for_lines(1, "verify", "A.receipts", "--head", "A2.head", *own, *KEYS)
+        lines, last = self.capture_lines(1, "verify", "A.receipts", "--head", "A2.head", *own, *KEYS)
         entries = [f"entry {number} of the head of 2026-11-28 with 6 entries: {ENTRY.format(number, 100)}, done" for number in range(1, 7)]
         said = [f"A.receipts line {number}: {entry}; the published head contradicts it: {trees}" for number, entry in enumerate(entries, 1)]
         self.assertEqual(lines, [*said, f"A.receipts line 1: {trees}; the other one is in A2.head"])
@@ -421,18 +422,18 @@ class Contradictions(InFolder):
         self.append_receipts("some.jsonl", "A2", 2, 3, 4, 5, 6)
         self.append_receipts("one.jsonl", "A", 1)
         for files, name in ((["A.receipts", "A2.receipts"], "mine"), (["A.receipts", "A2.receipts"], "other"), (["some.jsonl", "one.jsonl"], "mine")):
-            _, last = self.run_for_lines(1, "verify", *files, "--head", "A2.head", "--sent", f"{name}.csv", "--participant", "TOWN", *KEYS)
+            _, last = self.capture_lines(1, "verify", *files, "--head", "A2.head", "--sent", f"{name}.csv", "--participant", "TOWN", *KEYS)
             self.assertIn("; with a receipt: 6 commands; ", last)
-        lines, last = self.run_for_lines(1, "verify", "one.jsonl", "--head", "A2.head", *own, *KEYS)
+        lines, last = self.capture_lines(1, "verify", "one.jsonl", "--head", "A2.head", *own, *KEYS)
         self.assertEqual([line.split(": ")[1] for line in lines[2:]], [f"sent record {number} is missing in the receipts" for number in range(2, 7)])
         # Those of another participant don't count.
         Path("city.csv").write_text(f"{ENTRY.format(1, 100)}\n".replace("TOWN", "CITY"))
-        lines, _ = self.run_for_lines(1, "verify", "A.receipts", "--head", "A2.head", "--sent", "city.csv", "--participant", "CITY", *KEYS)
+        lines, _ = self.capture_lines(1, "verify", "A.receipts", "--head", "A2.head", "--sent", "city.csv", "--participant", "CITY", *KEYS)
         self.assertTrue(lines[-1].startswith("city.csv: sent record 1 is missing in the receipts: "), lines)
         # The published head ends before an entry; or no book gives the reply.
         self.append_receipts("late.jsonl", "B", *range(1, 8))
         Path("late.csv").write_text("".join(f"{ENTRY.format(number, 100)}\n" for number in range(1, 8)))
-        _, last = self.run_for_lines(1, "verify", "late.jsonl", "--head", "A.head", "--extension", "B.extension", "--sent", "late.csv", *own[2:], *KEYS)
+        _, last = self.capture_lines(1, "verify", "late.jsonl", "--head", "A.head", "--extension", "B.extension", "--sent", "late.csv", *own[2:], *KEYS)
         words = "wrong: 6 receipts right; 1 receipt contrary to the published head; with a receipt: 7 commands; the head of 2026-11-28 with 6 entries"
         self.assertEqual(last, words)
 
@@ -441,13 +442,13 @@ class Contradictions(InFolder):
         self.run_tool(0, "keys", "new.pem")
         for name, key, more in (("periods", self.key, {"periods": 96}), ("keys", signing.parse_private(Path("new.pem").read_bytes()), {})):
             _, signed = grown(key, [100] * 9, (9,), **more)
-            Path(f"{name}.head").write_bytes(heads.line_of(signed[9]))
+            Path(f"{name}.head").write_bytes(heads.line_bytes_of(signed[9]))
         seal, signed = grown(self.key, [100] * 7, (7,))
         Path("again.jsonl").write_bytes(b"".join(lines_of(seal, signed[7])))
-        lines, _ = self.run_for_lines(1, "verify", "A.receipts", "A2.receipts", "again.jsonl", "--head", "A.head", *KEYS)
+        lines, _ = self.capture_lines(1, "verify", "A.receipts", "A2.receipts", "again.jsonl", "--head", "A.head", *KEYS)
         for name in ("periods", "keys"):
-            lines += self.run_for_lines(1, "heads", "A.head", f"{name}.head", *KEYS, "--key", "new.pem.pub")[0]
-        lines += self.run_for_lines(1, "verify", self.append_receipts("two.jsonl", "A", 2), self.append_receipts("more.jsonl", "B2", 2), "--head", "C.head", *KEYS)[0]
+            lines += self.capture_lines(1, "heads", "A.head", f"{name}.head", *KEYS, "--key", "new.pem.pub")[0]
+        lines += self.capture_lines(1, "verify", self.append_receipts("two.jsonl", "A", 2), self.append_receipts("more.jsonl", "B2", 2), "--head", "C.head", *KEYS)[0]
         said = "\n".join(lines)
         page = " ".join((TOP / "docs" / "GUIDE.md").read_text().split())
         for words in ("the published head contradicts it", "the operator signed", "; and with another salt", "two keys signed"):
@@ -463,34 +464,34 @@ class Contradictions(InFolder):
         own = ["--sent", "mine.csv", "--participant", "TOWN"]
         data = Path("A.receipts").read_bytes().splitlines(keepends=True)
         Path("damaged.jsonl").write_bytes(b"".join([data[0], data[1][:100] + b"\n", *data[2:]]))
-        lines, last = self.run_for_lines(3, "verify", "damaged.jsonl", "--head", "A.head", *KEYS)
+        lines, last = self.capture_lines(3, "verify", "damaged.jsonl", "--head", "A.head", *KEYS)
         said = "damaged.jsonl line 2: it isn't a receipt: it isn't JSON in ASCII"
         self.assertEqual((lines, last), ([said], "unread: 5 receipts right; 1 line unread; the head of 2026-11-28 with 6 entries"))
-        lines, last = self.run_for_lines(1, "verify", "damaged.jsonl", "--head", "A.head", *own, *KEYS)
+        lines, last = self.capture_lines(1, "verify", "damaged.jsonl", "--head", "A.head", *own, *KEYS)
         self.assertEqual(lines, [said, f"mine.csv: sent record 2 is missing in the receipts: {ENTRY.format(2, 100)}"])
         words = "wrong: 5 receipts right; 1 line unread; 1 difference from the commands that were sent; the head of 2026-11-28 with 6 entries"
         self.assertEqual(last, words)
-        lines, last = self.run_for_lines(3, "verify", "A.head", "--head", "A.head", *own, *KEYS)
+        lines, last = self.capture_lines(3, "verify", "A.head", "--head", "A.head", *own, *KEYS)
         self.assertEqual(lines[1:], ["mine.csv isn't compared, since no receipt could be read"])
         self.assertEqual(last, "unread: 1 line unread; the head of 2026-11-28 with 6 entries")
         Path("many.jsonl").write_bytes(b"\n" * 10_001)
-        lines, _ = self.run_for_lines(3, "verify", "many.jsonl", "--head", "A.head", *own, *KEYS)
+        lines, _ = self.capture_lines(3, "verify", "many.jsonl", "--head", "A.head", *own, *KEYS)
         self.assertEqual(lines[1:], ["mine.csv isn't compared, since no receipt could be read"])
         Path("empty.jsonl").write_bytes(b"")  # it has no receipt, and that can be read
-        lines, _ = self.run_for_lines(1, "verify", "empty.jsonl", "--head", "A.head", *own, *KEYS)
+        lines, _ = self.capture_lines(1, "verify", "empty.jsonl", "--head", "A.head", *own, *KEYS)
         self.assertEqual(sum(" is missing in the receipts: " in line for line in lines), 6)
 
     def test_a_table_of_orders(self):
         """Its rows are the submits; the audit takes the orders at the end too, and so may find no difference."""
-        seal = sealing.Seal(DAY, 24, sealing.new_salts(DAY), self.key)
+        seal = sealing.Seal(DAY, 24, sealing.draw_salts(DAY), self.key)
         for record in ("submit,TOWN,K,hour,buy,5000,8:100,,", "amend,TOWN,K,,,6000,8:100,,"):
             seal.append(sealing.Entry(record, heads.DONE, "TOWN"))
         for size, price, status in ((1, "50", 0), (1, "60", 1), (2, "60", 1)):
-            head = seal.head(size)
-            Path("own.head").write_bytes(heads.line_of(head))
+            head = seal.signed_head(size)
+            Path("own.head").write_bytes(heads.line_bytes_of(head))
             Path("own.jsonl").write_bytes(b"".join(lines_of(seal, head)))
             Path("mine.csv").write_text(f"participant,order,kind,side,price_eur_mwh,periods,volume_mw\nTOWN,K,hour,buy,{price},8,10\n")
-            lines, last = self.run_for_lines(status, "verify", "own.jsonl", "--head", "own.head", "--sent", "mine.csv", "--participant", "TOWN", *KEYS)
+            lines, last = self.capture_lines(status, "verify", "own.jsonl", "--head", "own.head", "--sent", "mine.csv", "--participant", "TOWN", *KEYS)
             said = "mine.csv is a table of orders, and each row counts as a submit that was sent: after amends or cancels, give records of a journal"
             self.assertEqual(said in lines, status == 1)
             self.assertEqual("; as sent: 1 command" in last, status == 0)
@@ -498,32 +499,32 @@ class Contradictions(InFolder):
     def test_the_names_of_days(self):
         """One day under two names is seen by their lines."""
         _, signed = grown(self.key, [101] * 6, (6,), day="2026.11.28")
-        Path("other.head").write_bytes(heads.line_of(signed[6]))
+        Path("other.head").write_bytes(heads.line_bytes_of(signed[6]))
         days = ["2026-11-28: 2 heads, the last with 9 entries", "2026.11.28: 1 head, the last with 6 entries"]
         words = ["heads", "A.head", "other.head", "B.head", "--extension", "B.extension", *KEYS]
-        self.assertEqual(self.run_for_lines(0, *words), (days, "right: 3 heads of 2 days"))
+        self.assertEqual(self.capture_lines(0, *words), (days, "right: 3 heads of 2 days"))
 
     def test_counts(self):
         """Of several receipts of an entry one counts, and files that aren't right are no receipts."""
         path = self.append_receipts("thrice.jsonl", "A", 1, 1, 1)
         Path("mine.csv").write_text(f"{ENTRY.format(1, 100)}\n")
         for more, said in (([], ""), (["--sent", "mine.csv", "--participant", "TOWN"], "; as sent: 1 command")):
-            _, last = self.run_for_lines(0, "verify", path, "--head", "A.head", *more, *KEYS)
+            _, last = self.capture_lines(0, "verify", path, "--head", "A.head", *more, *KEYS)
             self.assertEqual(last, f"right: 1 receipt of the head of 2026-11-28 with 6 entries; 2 more of the same entries{said}")
         Path("odd.head").write_bytes(Path("A.head").read_bytes().replace(b":", b": "))
         Path("odd.jsonl").write_bytes(b"{}\n")
-        _, last = self.run_for_lines(3, "verify", path, "odd.jsonl", "--head", "odd.head", *KEYS)
+        _, last = self.capture_lines(3, "verify", path, "odd.jsonl", "--head", "odd.head", *KEYS)
         words = "unread: 1 receipt right; 1 file encoding; 1 line unread; 2 more of the same entries; the head of 2026-11-28 with 6 entries"
         self.assertEqual(last, words)
 
     def test_refusals_are_printed(self):
-        seal = sealing.Seal(DAY, 24, sealing.new_salts(DAY), self.key)
+        seal = sealing.Seal(DAY, 24, sealing.draw_salts(DAY), self.key)
         for number, reply in enumerate((heads.DONE, "refused,Closed", "refused,NameTaken"), 1):
             seal.append(sealing.Entry(ENTRY.format(number, 100), reply, "TOWN"))
-        head = seal.head()
-        Path("own.head").write_bytes(heads.line_of(head))
+        head = seal.signed_head()
+        Path("own.head").write_bytes(heads.line_bytes_of(head))
         Path("own.jsonl").write_bytes(b"".join([*reversed(lines_of(seal, head)), lines_of(seal, head)[1]]))
-        lines, last = self.run_for_lines(0, "verify", "own.jsonl", "--head", "own.head", *KEYS)
+        lines, last = self.capture_lines(0, "verify", "own.jsonl", "--head", "own.head", *KEYS)
         said = [f"entry 2: {ENTRY.format(2, 100)}, refused,Closed", f"entry 3: {ENTRY.format(3, 100)}, refused,NameTaken"]
         self.assertEqual(lines, said)
         self.assertEqual(last, "right: 3 receipts of the head of 2026-11-28 with 3 entries, 2 of them refused; 1 more of the same entries")
@@ -536,22 +537,22 @@ class Contradictions(InFolder):
             ("submit,TOWN,K,block,sell,1,23:1;25:1,,", "refused,PeriodOutOfDay", 0),
             ("cancel,TOWN,K,,,,,,", heads.DONE, 0),
         ):
-            seal = sealing.Seal(DAY, 24, sealing.new_salts(DAY), self.key)
+            seal = sealing.Seal(DAY, 24, sealing.draw_salts(DAY), self.key)
             seal.append(sealing.Entry(record, reply, "TOWN"))
-            head = seal.head()
-            Path("own.head").write_bytes(heads.line_of(head))
+            head = seal.signed_head()
+            Path("own.head").write_bytes(heads.line_bytes_of(head))
             Path("own.jsonl").write_bytes(lines_of(seal, head)[0])
             with self.subTest(record):
-                lines, last = self.run_for_lines(status, "verify", "own.jsonl", "--head", "own.head", *KEYS)
+                lines, last = self.capture_lines(status, "verify", "own.jsonl", "--head", "own.head", *KEYS)
                 self.assertEqual("which no book gives" in "".join(lines), status == 1)
                 self.assertEqual(last.startswith("wrong: 1 receipt with an impossible reply; "), status == 1)
                 Path("mine.csv").write_text(f"{record}\n")
-                _, last = self.run_for_lines(status, "verify", "own.jsonl", "--head", "own.head", "--sent", "mine.csv", "--participant", "TOWN", *KEYS)
+                _, last = self.capture_lines(status, "verify", "own.jsonl", "--head", "own.head", "--sent", "mine.csv", "--participant", "TOWN", *KEYS)
                 self.assertIn(f"; {'with a receipt' if status else 'as sent'}: 1 command", last)
 
 
 def facts_of(tree, parts):
-    return {((begin, end), tree.hashed(begin, end)) for begin, end in parts}
+    return {((begin, end), tree.cached_hash(begin, end)) for begin, end in parts}
 
 
 def is_contradicted(facts, most):

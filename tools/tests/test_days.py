@@ -14,10 +14,10 @@ import unittest
 import unittest.mock
 from pathlib import Path
 
-from support import AUCTION, QUARTERS, TOOLS, new_folder, read_results, results_of, run_tool
+from support import AUCTION, QUARTERS, TOOLS, make_folder_for_case, read_results, results_of, run_tool
 
 from lib.audit import day_pairs, days, verdict
-from lib.base import record, text
+from lib.base import audit_record, text
 from lib.results import faults
 from lib.runs import by_program
 from lib.tool import command, file_io
@@ -27,7 +27,7 @@ DATA, TEXT = AUCTION.read_bytes(), read_results(AUCTION)
 
 class Days(unittest.TestCase):
     def setUp(self):
-        self.folder = new_folder(self)
+        self.folder = make_folder_for_case(self)
 
     def write(self, **texts):
         for name, (data, text) in texts.items():
@@ -136,7 +136,7 @@ class Days(unittest.TestCase):
         made = json.loads(out)
         self.assertEqual((status, made["status"], [day["verdict"] for day in made["days"]]), (3, 3, ["right", "unread"]))
         self.assertEqual(out, f"{json.dumps(made, indent=1)}\n")
-        self.assertEqual(made["counts"], {**dict.fromkeys(record.VERDICTS, 0), "right": 1, "unread": 1})
+        self.assertEqual(made["counts"], {**dict.fromkeys(audit_record.VERDICTS, 0), "right": 1, "unread": 1})
         self.assertEqual(made["days"][0]["day"]["periods"], 24)
         self.assertEqual(made["days"][0].keys(), made["days"][1].keys())
         inputs = made["days"][1]["inputs"]
@@ -318,7 +318,7 @@ class Days(unittest.TestCase):
                 unittest.mock.patch.object(subprocess.Popen, "communicate", side_effect=fault, autospec=True) as call,
                 self.assertRaises(fault),
             ):
-                days.run_process(day_pairs.Pair("a", Path("a.csv"), None), [], by_program.Running(), 1)
+                days.capture_status_and_outputs(day_pairs.Pair("a", Path("a.csv"), None), [], by_program.Running(), 1)
             process = call.call_args_list[0].args[0]
             self.addCleanup(process.kill)
             self.assertEqual(process.returncode, -signal.SIGKILL)
@@ -386,7 +386,7 @@ class Days(unittest.TestCase):
 
     def test_memory_or_threads_for_a_day_that_run_out(self):
         pairs, bar = [day_pairs.Pair(name, Path("a.csv"), Path("a.txt")) for name in "ab"], unittest.mock.Mock()
-        for patched, faults in (("run_process", [MemoryError]), ("record_without_verdict", [MemoryError, unittest.mock.DEFAULT])):
+        for patched, faults in (("capture_status_and_outputs", [MemoryError]), ("record_without_verdict", [MemoryError, unittest.mock.DEFAULT])):
             with unittest.mock.patch.object(days, patched, side_effect=faults * 2, wraps=getattr(days, patched)):
                 found = days.run_audits(pairs, ["--none"], 1, bar)
             self.assertEqual([(made["name"], made["status"]) for made in found], [("a", command.FAILED), ("b", command.FAILED)])
@@ -398,22 +398,22 @@ class Days(unittest.TestCase):
     def test_days_with_many_faults(self):
         """The faults of all days aren't in memory together. The record is the same as if they were."""
         wrong = [faults.line_fault("stray", line, None, "'hour,A,NAME,1' doesn't belong here").record() for line in range(3_000)]
-        made = {**record.unread_record(verdict.WRONG, command.DIFFERS, None), "faults": wrong}
+        made = {**audit_record.unread_record(verdict.WRONG, command.DIFFERS, None), "faults": wrong}
         out = json.dumps(made, indent=1).encode() + b"\n"
         pairs = [day_pairs.Pair(f"{number}\udcff", Path("a.csv"), None, "x" if number == 3 else None) for number in range(8)]
-        unread = {"name": "3\\xff", **record.unread_record(verdict.UNREAD, command.NO_INPUT, "x", [("journal", "a.csv")])}
+        unread = {"name": "3\\xff", **audit_record.unread_record(verdict.UNREAD, command.NO_INPUT, "x", [("journal", "a.csv")])}
         wanted = [unread if number == 3 else {"name": f"{number}\\xff", **made} for number in range(8)]
         for words in ({}, {"is_json": True}):
             tracemalloc.start()
             self.addCleanup(tracemalloc.stop)
-            with unittest.mock.patch.object(days, "run_process", return_value=(command.DIFFERS, out, b"")):
+            with unittest.mock.patch.object(days, "capture_status_and_outputs", return_value=(command.DIFFERS, out, b"")):
                 found = days.run_audits(pairs, [], 2, unittest.mock.Mock(), **words)
             self.assertLess(tracemalloc.get_traced_memory()[0], len(out))
             tracemalloc.stop()
             self.assertIn("  3000      0.0  results line 0: 'hour,A,NAME,1' doesn't belong here", list(days.table_lines(found))[1])
-        parts = list(days.record_texts(command.DIFFERS, found))
+        parts = list(days.record_parts(command.DIFFERS, found))
         self.assertLessEqual(max(map(len, parts)), days.PART)
-        self.assertEqual(b"".join(parts).decode(), f"{json.dumps(record.record_of_days(command.DIFFERS, wanted), indent=1)}\n")
+        self.assertEqual(b"".join(parts).decode(), f"{json.dumps(audit_record.record_of_days(command.DIFFERS, wanted), indent=1)}\n")
 
     def test_the_time_grows_with_the_number_of_days(self):
         """While days are audited, the records of others aren't gone through again."""
@@ -426,14 +426,14 @@ class Days(unittest.TestCase):
 
         with unittest.mock.patch.object(days, "run_audit_of_day", side_effect=lambda *_: Counted(status=command.DIFFERS)):
             found = days.run_audits([day_pairs.Pair("a", Path("a.csv"), None)] * 50, [], 2, bar)
-        self.assertEqual((len(found), len(reads), bar.step.call_args.args), (50, 50, (1, "50 wrong")))
+        self.assertEqual((len(found), len(reads), bar.count_and_show.call_args.args), (50, 50, (1, "50 wrong")))
 
     def test_a_record_without_days(self):
         for place in ("/nowhere", self.folder):
             status, out, err = self.audit("--json", place=place)
             made = json.loads(out)
             self.assertEqual((status, made["status"], made["days"], f"audit: {made['message']}\n"), (3, 3, [], err))
-            self.assertEqual(made["counts"], dict.fromkeys(record.VERDICTS, 0))
+            self.assertEqual(made["counts"], dict.fromkeys(audit_record.VERDICTS, 0))
 
     def test_the_first_fault_is_one_line_and_whole(self):
         name = "d" * 200
@@ -441,6 +441,19 @@ class Days(unittest.TestCase):
         _, out, _ = self.audit("--best")
         self.assertNotIn("\\n", out)
         self.assertIn(f"{name}.csv isn't a journal: input: NotDay", out)
+
+    def test_standard_output_is_no_file_of_a_day(self):
+        """Also if it is of a day that a fault comes before, or of none before the shell made it."""
+        self.write(a=(DATA, TEXT), b=(DATA, TEXT))
+        (self.folder / "list").write_text("journal,results\nnone.csv,none.txt\nb.csv,b.txt\n")
+        for place, name in ((self.folder, "a.txt"), (self.folder, "b.csv"), (self.folder / "list", "b.txt"), (self.folder, "new.txt")):
+            for words in ([], ["--json"], ["--quiet"]):
+                path = self.folder / name
+                with self.subTest(place=place, name=name, words=words), path.open("ab") as out:
+                    before = path.read_bytes()
+                    ran = subprocess.run([sys.executable, TOOLS / "audit", *words, "--days", place], stdout=out, stderr=subprocess.PIPE)
+                    said = f"audit: standard output goes to {path}, which is one of the inputs: write to another file\n"
+                    self.assertEqual((ran.returncode, ran.stderr.decode(), path.read_bytes()), (command.NO_INPUT, said, before))
 
     def test_command_lines(self):
         said = f"audit: {self.folder} has no days: a day is NAME.csv with its results NAME.txt\n"

@@ -4,7 +4,7 @@ import random
 import re
 import unittest
 
-from support import AUCTION, TOP, day_of, journal_of, problem, read_results, results_of
+from support import AUCTION, TOP, day_of, journal_of, problem_of, read_results, results_of
 
 from lib.journal import book, journal
 from lib.results import decisions, families, period, selection
@@ -25,7 +25,7 @@ def kinds_and_words(data, accepted):
 
 
 def best_of(data):
-    read, _ = book.run_commands(journal.parse_journal(data))
+    read, _ = book.book_and_refusals(journal.parse_journal(data))
     return Plain(read).best()
 
 # Behind the blocks that would be accepted too.
@@ -38,7 +38,7 @@ class Hand(unittest.TestCase):
         said = r"Say A loses (\d+) EUR at the prices, its child B gains (\d+), and its child C loses (\d+): then A and B are the best family of both"
         loss, gain, other = map(int, re.search(said, page).groups())
         blocks = [f"submit,GAS,{name},block,sell,5000,1:10,{parent}," for name, parent in (("A", ""), ("B", "A"), ("C", "A"))]
-        found = [families.best_family(problem(journal_of(*blocks)), frozenset(), [-loss, gain, -other], place) for place in range(3)]
+        found = [families.best_family_or_none(problem_of(journal_of(*blocks)), frozenset(), [-loss, gain, -other], place) for place in range(3)]
         self.assertEqual([(family.members, family.gain()) for family in found[:2]], [({0, 1}, gain - loss)] * 2)
         self.assertEqual(found[2].members, {0, 1, 2})
 
@@ -204,7 +204,7 @@ class Hand(unittest.TestCase):
         self.assertEqual(set(re.findall(r"^\| `([a-z-]+)` \| (?:hourly order|(?:accepted |rejected )?block) \|", page, re.MULTILINE)), codes)
         found = set()
         for data, _, best in drawn(400):
-            day = problem(data)
+            day = problem_of(data)
             found |= {decision.code for decision in decisions.decisions(day, best, selection.outcome(day, best))}
         right = {"gains", "covered", "loses", "group", "parent", "never", "would-lose", "unbalanced", "less-welfare", "tie"}
         self.assertLessEqual(found, right)
@@ -253,7 +253,7 @@ class Hand(unittest.TestCase):
         """With so much less of the block in the period, and not with a tenth more, the period balances."""
         found = 0
         for data, _, best in drawn(300):
-            day = problem(data)
+            day = problem_of(data)
             for place, decision in enumerate(decisions.decisions(day, best, selection.outcome(day, best))):
                 if decision.code != decisions.UNBALANCED:
                     continue
@@ -262,7 +262,7 @@ class Hand(unittest.TestCase):
                 tenths, orders = round(float(volume) * 10), day.orders[int(number)]
                 net = sum(dict(selection.net_volumes(day.blocks[at].order)).get(int(number), 0) for at in decision.other.accepted)
                 ends = [net - less if side == "buyer" else net + less for less in (tenths, tenths - 1)]
-                is_balanced = [period.clear(orders, end) is not None for end in ends]
+                is_balanced = [period.clearing_or_none(orders, end) is not None for end in ends]
                 self.assertEqual(is_balanced, [True, False])
                 found += 1
         self.assertGreater(found, 10)
@@ -287,7 +287,7 @@ def drawn(count):
             price = 5_000 + 400 * rng.randint(-5, 6)
             lines.append(f"submit,A,K{at},block,{rng.choice(['sell', 'sell', 'buy'])},{price},{volumes},{parent},{group}")
         data = journal_of(*lines)
-        plain = Plain(book.run_commands(journal.parse_journal(data))[0])
+        plain = Plain(book.book_and_refusals(journal.parse_journal(data))[0])
         best = plain.best()
         if len(best) < len(plain.blocks):
             made += 1
@@ -303,7 +303,7 @@ class Random(unittest.TestCase):
     def test_what_is_named_is_the_best_family_and_worth_what_is_told(self):
         seen = dict.fromkeys(["blocks", "families", "losing", "rivals", "orphans", "paradox", "never", "unbalanced"], 0)
         for data, plain, best in drawn(2_000):
-            day = problem(data)
+            day = problem_of(data)
             outcome = selection.outcome(day, best)
             self.assertEqual(outcome.welfare, plain.welfare(best), data)
             for place, decision in enumerate(decisions.decisions(day, best, outcome)):

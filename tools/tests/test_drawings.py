@@ -69,7 +69,7 @@ class Receipt(unittest.TestCase):
         """The marked nodes are those of the inclusion proof."""
         tree = merkle.Tree(merkle.leaf_hash(b"%d" % entry) for entry in range(1, draw_receipt.ENTRIES + 1))
         given = draw_receipt.kinds(dict(draw_receipt.nodes(0, draw_receipt.ENTRIES)))[1]
-        self.assertEqual({tree.hashed(*node) for node in given}, set(tree.inclusion_proof(draw_receipt.OWN - 1)))
+        self.assertEqual({tree.cached_hash(*node) for node in given}, set(tree.inclusion_proof(draw_receipt.OWN - 1)))
 
 
 class Desk(unittest.TestCase):
@@ -89,7 +89,7 @@ class Desk(unittest.TestCase):
         place = len(before) - 1
         self.assertEqual((between[: place + 1], between[:place] + b"+" + between[place + 1 :]), (before, after))
         for old, change in [(before, images.UnsyncedChange(place + 1, between[place + 1 :])), (between, images.UnsyncedChange(place, b"+"))]:
-            found = {images.parse_marked_lines(image) for image in images.torn_files(old, change, random.Random(1))}
+            found = {images.parse_marked_lines(image) for image in images.draw_torn_files(old, change, random.Random(1))}
             self.assertEqual(found, {draw_desk.HELD} | ({images.parse_marked_lines(after)} if change.bytes == b"+" else set()))
 
 
@@ -166,7 +166,7 @@ class Trust(unittest.TestCase):
             for word in words:
                 self.assertIn(word, drawn)
 
-    @unittest.skipUnless(modules.is_debians(), "this isn't Debian's Python")
+    @unittest.skipUnless(modules.is_debian_python(), "this isn't Debian's Python")
     def test_they_need_matplotlib(self):
         words = [sys.executable, "-S", TOP / "docs" / "draw_trust.py", "unit-7", "--draw"]  # -S leaves out Debian's packages
         ran = subprocess.run(words, capture_output=True, text=True)

@@ -21,10 +21,10 @@ import unittest
 from pathlib import Path
 from unittest import mock
 
-from support import AUCTION, AUCTION_RESULTS, TOOLS, TOP, heed_interrupts, journal_of, results_of
+from support import AUCTION, AUCTION_RESULTS, TOOLS, TOP, journal_of, results_of, set_interrupt_handler
 
 from lib.audit import better
-from lib.base import aside, children, ending, place
+from lib.base import child_call, children, ending, place
 from lib.tool import command, modules
 from lib.base.progress import Progress
 from lib.runs import by_program, errors
@@ -78,6 +78,23 @@ def main():
     with drawing.empty_settings():
         days.run_audits(pairs, [], 3, StepBar("audit", 8, "days"))
 command.run_and_exit("audit", main)
+"""
+# A run that has no memory for the rows of a sheet, and prints how many temporary files there are then.
+SHEET = """
+import os
+from lib.base import ending
+ending.guard_tool("table")
+from lib.sheets import sheets
+from lib.tool import command
+def fail(_):
+    print(len(os.listdir(os.environ["TMPDIR"])), flush=True)
+    raise MemoryError
+def main():
+    sheets.import_openpyxl()
+    from openpyxl.worksheet import _writer
+    _writer.WorksheetWriter.write_rows = fail
+    sheets.workbook_bytes_or_refuse({"periods": [["period"], [1]]})
+command.run_and_exit("table", main)
 """
 WORKER = "import os, sys, time; open(os.path.dirname(sys.argv[0]) + '/pids', 'a').write(f'{os.getpid()}\\n'); time.sleep(600)"
 PACKAGES = {"audit": [], "lint": [], "plot": ["matplotlib"], "report": ["matplotlib", "jinja2"], "table": []}
@@ -154,6 +171,15 @@ class Failing(unittest.TestCase):
             "(_ for _ in ()).throw(SystemError('<built-in function a> returned NULL without setting an exception'))",
         ):
             self.assertEqual(self.run_failing(call), said)
+
+    @unittest.skipUnless(modules.has_module("openpyxl"), "openpyxl is missing (Debian's python3-openpyxl)")
+    def test_memory_for_a_sheet(self):
+        """Its temporary file is removed, too."""
+        with tempfile.TemporaryDirectory() as room:
+            words = [sys.executable, "-B", "-c", SHEET]
+            ran = subprocess.run(words, cwd=TOOLS, capture_output=True, text=True, env={**os.environ, "TMPDIR": room})
+            self.assertEqual((ran.returncode, ran.stdout, ran.stderr), (command.FAILED, "1\n", "table: out of memory\n"))
+            self.assertEqual(os.listdir(room), [])
 
     def test_memory_before_a_tool_is_watched(self):
         """If it is enough for Python to read the script, the last line names it; each limit is near the least one that is enough."""
@@ -260,7 +286,7 @@ class Interrupted(unittest.TestCase):
     """Ctrl-C ends a tool with a status of its own, without a traceback."""
 
     def setUp(self):
-        heed_interrupts(self)
+        set_interrupt_handler(self)
 
     def run_interrupted(self, name, *words, number=signal.SIGINT):
         """The end of a tool that gets a signal while it waits for its journal."""
@@ -288,7 +314,7 @@ class Interrupted(unittest.TestCase):
     def test_an_audit_without_a_record(self):
         """docs/FORMATS.md has the statuses with which it prints none."""
         page = " ".join(TOP.joinpath("docs", "FORMATS.md").read_text().split())
-        end = r" or if memory or open files run out at its start\."
+        end = r" or if its memory, stack or files run out at the start\."
         said = re.search(rf"`tools/audit --json` prints a JSON object, even without a verdict, except with statuses ([0-9, and]+),{end}", page)[1]
         ran = subprocess.run([sys.executable, TOOLS / "audit", "--json", ""], capture_output=True)
         found = [(ran.returncode, ran.stdout)]
@@ -463,9 +489,9 @@ class Interrupted(unittest.TestCase):
     def test_a_call_that_keeps_python_from_everything(self):
         """As HiGHS does; its process ends with the tool."""
         call = "lambda tell: (tell(str(os.getpid())), ctypes.PyDLL(None).sleep(600))"
-        shown = "type('', (), {'show_time_or_raise': lambda self, words: print(words, flush=True), 'end': lambda self: None})()"
-        run = f"command.run_and_exit('audit', lambda: aside.run_aside({call}, {shown}, ''))"
-        main = f"import ctypes, os; from lib.base import aside; from lib.tool import command; {run}"
+        shown = "type('', (), {'show_time_or_raise': lambda self, words: print(words, flush=True), 'stop_and_erase': lambda self: None})()"
+        run = f"command.run_and_exit('audit', lambda: child_call.run_in_child({call}, {shown}, ''))"
+        main = f"import ctypes, os; from lib.base import child_call; from lib.tool import command; {run}"
         words = [sys.executable, "-B", "-c", main]
         running = subprocess.Popen(words, stdout=subprocess.PIPE, stderr=subprocess.PIPE, cwd=TOOLS, text=True)
         try:
@@ -481,31 +507,31 @@ class Interrupted(unittest.TestCase):
 
     def test_a_call_that_aborts(self):
         """Code in C says why; the tool has one line of its own."""
-        shown = "type('', (), {'show_time_or_raise': lambda self, words: None, 'end': lambda self: None})()"
+        shown = "type('', (), {'show_time_or_raise': lambda self, words: None, 'stop_and_erase': lambda self: None})()"
         call = "lambda tell: (os.write(2, b'no memory: ABORT'), os.abort())"
         said = "audit: a defect of this tool, please report it: Died: the search ended without an answer: memory may have run out (DAM_DEBUG=1 shows where)\n"
-        run = f"command.run_and_exit('audit', lambda: aside.run_aside({call}, {shown}, ''))"
-        main = f"import os; from lib.base import aside; from lib.tool import command; {run}"
+        run = f"command.run_and_exit('audit', lambda: child_call.run_in_child({call}, {shown}, ''))"
+        main = f"import os; from lib.base import child_call; from lib.tool import command; {run}"
         ran = subprocess.run([sys.executable, "-B", "-c", f"from lib.base import ending; ending.guard_tool('audit'); {main}"], capture_output=True, text=True, cwd=TOOLS)
         self.assertEqual((ran.returncode, ran.stderr), (command.FAILED, said))
 
     def test_a_call_that_dies(self):
-        with self.assertRaisesRegex(aside.Died, "^the search ended without an answer: memory may have run out$"):
-            aside.run_aside(lambda tell: os._exit(1), Progress("audit", SECONDS), "")
-        for fault, status in ((aside.Died("it ended"), command.FAILED), (TimeoutError("it is late"), command.UNDECIDED)):
-            with mock.patch.object(better, "ask_highs", side_effect=fault), self.assertRaises(command.Stop) as stop:
-                better.find_better(None, None, better.HIGHS, None, 1)
+        with self.assertRaisesRegex(child_call.Died, "^the search ended without an answer: memory may have run out$"):
+            child_call.run_in_child(lambda tell: os._exit(1), Progress("audit", SECONDS), "")
+        for fault, status in ((child_call.Died("it ended"), command.FAILED), (TimeoutError("it is late"), command.UNDECIDED)):
+            with mock.patch.object(better, "find_better_and_how_by_highs", side_effect=fault), self.assertRaises(command.Stop) as stop:
+                better.find_better_and_how_or_stop(None, None, better.HIGHS, None, 1)
             self.assertEqual((stop.exception.status, str(stop.exception)), (status, f"the results obey the other rules, but {fault}"))
 
     def test_what_a_call_returns_reports_and_raises(self):
         progress = Progress("audit", SECONDS)
         with mock.patch.object(progress, "show_time_or_raise") as look:
-            self.assertEqual(aside.run_aside(lambda tell: tell("half") or 7, progress, ""), 7)
+            self.assertEqual(child_call.run_in_child(lambda tell: tell("half") or 7, progress, ""), 7)
         look.assert_any_call("half")
         with self.assertRaises(ZeroDivisionError):
-            aside.run_aside(lambda tell: 1 // 0, progress, "")
+            child_call.run_in_child(lambda tell: 1 // 0, progress, "")
         with self.assertRaisesRegex(TimeoutError, "^after 0 seconds, it isn't done: --seconds gives more time$"):
-            aside.run_aside(lambda tell: time.sleep(SECONDS), Progress("audit", 0), "it isn't done")
+            child_call.run_in_child(lambda tell: time.sleep(SECONDS), Progress("audit", 0), "it isn't done")
 
 
 class Written(unittest.TestCase):
@@ -556,12 +582,12 @@ class Children(unittest.TestCase):
         """A process that isn't a tool's can't see it, and so doesn't begin a run."""
         self.addCleanup(signal.signal, signal.SIGCHLD, signal.signal(signal.SIGCHLD, signal.SIG_IGN))
         with self.assertRaisesRegex(errors.Fault, "^/bin/false can't be run: this process ignores SIGCHLD"):
-            by_program.run_program(["/bin/false"], b"")
-        children.heed_children()
-        self.assertEqual(by_program.run_program(["/bin/false"], b"")[0], 1)
+            by_program.run_program_and_relay_lines(["/bin/false"], b"")
+        children.stop_ignoring_children()
+        self.assertEqual(by_program.run_program_and_relay_lines(["/bin/false"], b"")[0], 1)
 
 
-class Start(unittest.TestCase):
+class WithoutPython(unittest.TestCase):
     """The statuses of a tool that doesn't start are those that docs/FORMATS.md says."""
 
     def test_python_does_not_start(self):

@@ -7,9 +7,9 @@ import sys
 import unittest
 from fractions import Fraction
 
-from support import QUARTERS, SUNNY, SUNNY_RESULTS, TOP, book, journal, problem, read_results, run_tool, selection
+from support import QUARTERS, SUNNY, SUNNY_RESULTS, TOP, book, journal, problem_of, read_results, run_tool, selection
 
-from lib.audit import best
+from lib.audit import recursive_enumeration
 
 SCRIPT = TOP / "examples" / "make_sunny_day.py"
 LINE = re.compile(r"`((?:period|hour|block),[^`]*|\d+,(?:done|refused,\w+))`")
@@ -39,7 +39,7 @@ def walk(heading):
 
 def replies(example):
     """The lines that `dam replay` prints, by the audit's reading of the rules."""
-    _, reasons = book.run_commands(journal.parse_journal(example.read_bytes()))
+    _, reasons = book.book_and_refusals(journal.parse_journal(example.read_bytes()))
     return [f"{number},refused,{reason}" if reason else f"{number},done" for number, reason in enumerate(reasons, 1)]
 
 
@@ -48,7 +48,7 @@ class Walk:
 
     def setUp(self):
         self.text = walk(self.heading)
-        self.problem = problem(self.example.read_bytes())
+        self.problem = problem_of(self.example.read_bytes())
         names = {block.name: place for place, block in enumerate(self.problem.blocks)}
         lines = read_results(self.example).decode().splitlines()
         self.accepted = {names[line.split(",")[2]] for line in lines if re.match("block,.*,accepted,", line)}
@@ -104,8 +104,8 @@ class SunnyDay(Walk, unittest.TestCase):
     def test_the_day_without_three_blocks(self):
         """The best selection of the day on which START, STAY and EVENING aren't submitted accepts UNIT-7."""
         lines = SUNNY.read_bytes().splitlines(keepends=True)
-        left = problem(b"".join(line for line in lines if not re.match(b"[a-z]+,GAS,(START|STAY|EVENING),", line)))
-        found, _ = best.enumerate_all(left)
+        left = problem_of(b"".join(line for line in lines if not re.match(b"[a-z]+,GAS,(START|STAY|EVENING),", line)))
+        found, _ = recursive_enumeration.find_best_and_how(left)
         self.assertIn("UNIT-7", {left.blocks[place].name for place in found.accepted})
         self.assertEqual(len(left.blocks), len(self.problem.blocks) - 3)
         self.says_euros(found.welfare)

@@ -185,7 +185,7 @@ class Facts(unittest.TestCase):
         lines = [(line, int(number)) for cell, number in rows for line in re.findall(r"`([a-z]+(?:: [^`]*)?)`", cell)]
         patterns = {re.sub(r"<\\?\w+\\?>", r"\\d+", re.escape(line)): number for line, number in lines}
         counted = set()
-        for case in worked.read_every():
+        for case in worked.read_all_cases():
             line = case.stderr.texts[0].decode().rstrip("\n")
             if line and case.stderr.is_whole:
                 fitting = {number for pattern, number in patterns.items() if re.fullmatch(pattern, line)}
@@ -307,12 +307,12 @@ class Facts(unittest.TestCase):
         self.assertIn(f"A call takes {few} with 100 orders in the book, and {many} with 4,000;", notes)
 
     def test_the_number_of_walked_books(self):
-        """Of each market, the tests draw as many books."""
+        """Of each market, the tests draw as many books. A market may be in several tests."""
         text = (TOP / "tests" / "rattle" / "dam_search" / "src" / "counts.rt.test").read_text()
         (books,) = re.findall(r"^const BOOKS: u64 = (\d+);$", text, re.MULTILINE)
-        markets = re.findall(r"nodes_of(?:_pieces)?\(rt\.alloc\(\), (?:[A-Z]+|larger)\b", text)
-        markets += re.findall(r"\(Bonds::\w+, [\d_]+\)", text)
-        markets += re.findall(r"\((?:[A-Z]+|far|tied\(Bonds::\w+\)), \d+, \d+, [\d_]+\)", text)
+        markets = {*re.findall(r"nodes_of(?:_pieces)?\(rt\.alloc\(\), ([A-Z]+|larger)\b", text)}
+        markets |= {*re.findall(r"\((Bonds::\w+), [\d_]+\)", text)}
+        markets |= {*re.findall(r"\(((?:[A-Z]+|far|tied\(Bonds::\w+\)), \d+, \d+), [\d_]+\)", text)}
         said = re.findall(r"few nodes of (\d+) fixed books", plain(TOP / "docs" / "TESTED.md"))
         self.assertEqual(said, [str(int(books) * len(markets))])
 
@@ -372,7 +372,7 @@ class Facts(unittest.TestCase):
         sizes = dict(tool.reached_sizes(repository))["`run_clear`"]
         counts = {
             r"some (\d+) definitions and types": [len(nodes)],
-            r"some (\d+) lines": [len(tool.few_texts(repository).splitlines())],
+            r"some (\d+) lines": [len(tool.few_text(repository).splitlines())],
             r"contract reaches \(some \[(\d+), in ([\d,]+) lines\]": sizes,
         }
         for said, wanted in counts.items():

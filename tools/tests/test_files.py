@@ -15,7 +15,7 @@ import zipfile
 from pathlib import Path
 from unittest import mock
 
-from support import AUCTION, AUCTION_RESULTS, TOOLS, new_folder, read_results, run_tool
+from support import AUCTION, AUCTION_RESULTS, TOOLS, make_folder_for_case, read_results, run_tool
 
 from lib.base import replacing
 from lib.sheets import tables
@@ -39,7 +39,7 @@ def run_at_a_terminal(name, *words, cwd):
 
 class Files(unittest.TestCase):
     def setUp(self):
-        self.folder = new_folder(self)
+        self.folder = make_folder_for_case(self)
         self.journal, self.results = self.folder / "day.csv", self.folder / "results.txt"
         self.write(AUCTION.read_bytes(), read_results(AUCTION))
 
@@ -89,6 +89,19 @@ class Files(unittest.TestCase):
             words = [sys.executable, TOOLS / "receipts", "heads", "--json", self.journal, "--key", public]
             ran = subprocess.run(words, stdout=out, stderr=subprocess.PIPE)
             self.assertEqual((ran.returncode, said in ran.stderr.decode()), (command.NO_INPUT, True), ran.stderr)
+            # also if another fault comes first
+            absent = self.folder / "absent"
+            for words in (
+                ["receipts", "verify", "--json", self.journal, "--key", public, "--head", absent],
+                ["receipts", "verify", "--json", absent, "--key", public, "--head", absent, "--extension", self.journal],
+                ["receipts", "heads", "--json", absent, self.journal, "--key", absent],
+                ["receipts", "seal", "--json", absent, self.journal, "--key", absent, "--day", "2026-12-01"],
+                ["audit", "--json", absent, self.journal],
+                ["audit", "--json", absent, "--sent", self.journal, "--participant", "GAS"],
+                ["audit", "--json", absent, "--head", absent, "--salts", absent, "--key", absent, "--earlier", self.journal],
+            ):
+                ran = subprocess.run([sys.executable, TOOLS / words[0], *words[1:]], stdout=out, stderr=subprocess.PIPE)
+                self.assertEqual((ran.returncode, said in ran.stderr.decode()), (command.NO_INPUT, True), ran.stderr)
         self.assertEqual(self.journal.read_bytes(), AUCTION.read_bytes())
         # a program that has closed it, and reads a file by dam_tools, may give its number to the file
         code = f"import sys; sys.path.insert(0, {str(TOOLS)!r}); import dam_tools; dam_tools.read_results(*sys.argv[1:])"
@@ -127,7 +140,7 @@ class Files(unittest.TestCase):
         out, old = self.folder / "a.csv", b"old" * 100
         out.write_bytes(old)
         number, limits = out.stat().st_ino, resource.getrlimit(resource.RLIMIT_FSIZE)
-        with mock.patch.object(replacing, "prepare_replacement", side_effect=OSError(errno.EBUSY, "")):
+        with mock.patch.object(replacing, "write_beside_and_return_rename", side_effect=OSError(errno.EBUSY, "")):
             resource.setrlimit(resource.RLIMIT_FSIZE, (1_000, limits[1]))
             try:
                 with self.assertRaisesRegex(OSError, "File too large"):
@@ -236,13 +249,13 @@ class Files(unittest.TestCase):
         for links in (contextlib.nullcontext(), mock.patch.object(os, "link", side_effect=fault)):
             for make in (lambda: own.write_bytes(b"mine"), lambda: own.symlink_to("gone")):
                 with links, contextlib.ExitStack() as cleanups:
-                    put = replacing.prepare_new(own, b"new", cleanups)
+                    put = replacing.write_new_beside_and_return_put(own, b"new", cleanups)
                     make()
                     self.assertRaises(FileExistsError, put)
                 self.assertTrue(own.is_symlink() or own.read_bytes() == b"mine")
                 own.unlink()
             with links, contextlib.ExitStack() as cleanups:
-                replacing.prepare_new(own, b"new", cleanups)()
+                replacing.write_new_beside_and_return_put(own, b"new", cleanups)()
                 self.assertEqual(own.read_bytes(), b"new")
                 self.assertEqual(sorted(path.name for path in self.folder.iterdir()), ["a.csv", "day.csv", "results.txt"])
             own.unlink()
@@ -251,7 +264,7 @@ class Files(unittest.TestCase):
         """On a file system without links."""
         own, limits = self.folder / "a.csv", resource.getrlimit(resource.RLIMIT_FSIZE)
         with mock.patch.object(os, "link", side_effect=OSError(errno.EPERM, "")), contextlib.ExitStack() as cleanups:
-            put = replacing.prepare_new(own, b"new" * 1_000, cleanups)
+            put = replacing.write_new_beside_and_return_put(own, b"new" * 1_000, cleanups)
             resource.setrlimit(resource.RLIMIT_FSIZE, (1_000, limits[1]))
             try:
                 with self.assertRaisesRegex(OSError, "File too large"):

@@ -15,7 +15,7 @@ import support
 import compare
 import doctored
 import fake_dam
-from days import Profiles, periods_by_hour
+from shared.days import Profiles, periods_by_hour
 from lib.base import rules
 from lib.tool import command, modules
 
@@ -35,10 +35,10 @@ class Called:
     def __init__(self, path, seconds=compare.SECONDS):
         self.defect = Path(path).suffix.removeprefix(".")
 
-    def run_for_output(self, words, data):
-        return fake_dam.answered(words[0], words[1:], data, self.defect)
+    def capture_output(self, words, data):
+        return fake_dam.answer_with_defect(words[0], words[1:], data, self.defect)
 
-    def runs_command(self, words):
+    def is_command_of_program(self, words):
         return True
 
 
@@ -216,7 +216,7 @@ class Selections(unittest.TestCase):
         self.assertRegex(out, r"\n\d passed, [1-9]\d* failed\n$")
 
     def test_without_numpy_random_days_have_fewer_blocks(self):
-        with mock.patch.multiple(modules, has_module=lambda module: False, run_for_modules=lambda *modules: False):
+        with mock.patch.multiple(modules, has_module=lambda module: False, run_and_see_if_debian_has=lambda *modules: False):
             status, out = self.selections("--blocks", "7", "--count", "3")
             self.assertEqual((status, out.splitlines()[-1]), (0, "3 passed, 0 failed"), out)
             status, out = self.selections("--blocks", "7", "--count", "3", defect="lower")

@@ -24,7 +24,7 @@ EXAMPLE = re.compile(r"^  (\S*(?:tools/|dam ).*|echo .*)$", re.MULTILINE)
 
 
 class Help(unittest.TestCase):
-    def run_for_examples(self, name):
+    def capture_examples(self, name):
         status, out, _ = run_tool(name, "--help")
         self.assertEqual(status, 0)
         text = out.decode()
@@ -42,7 +42,7 @@ class Help(unittest.TestCase):
                 stand_in = f'PYTHONPATH="{FAKE.parent}" exec "{sys.executable}" "{FAKE}"'
                 program.write_text(f'#!/bin/sh\n{shlex.quote(str(which.BUILT)) if which.BUILT.exists() else stand_in} "$@"\n')
                 program.chmod(0o755)
-                lines = self.run_for_examples(name)
+                lines = self.capture_examples(name)
                 self.assertTrue(any(line.startswith(f"tools/{name} ") for line in lines))
                 for line in lines:
                     shown = re.sub(r"(?<!\S)tools/", f"{shlex.quote(sys.executable)} -B tools/", line)

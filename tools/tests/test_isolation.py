@@ -12,7 +12,7 @@ import unittest
 from pathlib import Path
 from unittest import mock
 
-from support import AUCTION, AUCTION_RESULTS, TOOLS, TOP, new_folder, run_tool
+from support import AUCTION, AUCTION_RESULTS, TOOLS, TOP, make_folder_for_case, run_tool
 
 from lib.base import place, surroundings
 from lib.crates import sources
@@ -25,6 +25,7 @@ STRANGER = 'import os\nos.write(1, b"a stranger\'s module runs\\n")\nopen("ran",
 AGAIN = """
 import os
 import sys
+from unittest import mock
 
 sys.path.insert(0, {tools!r})
 {first}
@@ -34,9 +35,8 @@ if "AGAIN" in os.environ:
     print(any(path.endswith("dist-packages") for path in sys.path))
 else:
     os.environ["AGAIN"] = "yes"
-    modules.has_module = lambda module: False
-    modules.run_for_modules = lambda *modules: True
-    modules.exec_with_modules("numpy")
+    with mock.patch.multiple(modules, has_module=lambda _: False, run_and_see_if_debian_has=lambda *_: True):
+        modules.exec_with_modules("numpy")
 """
 # Settings of dask that make a folder once it is imported, and the variables that have such ones, or keep it from being imported.
 SETTINGS = {"version": 1, "handlers": {"x": {"()": "os.mkdir", "path": "ran"}}}
@@ -52,7 +52,7 @@ ending.guard_tool("program")
 from lib.runs import cluster
 
 cluster.import_dask()
-cluster.load_tls_settings({address!r})
+cluster.read_and_set_tls_settings({address!r})
 import dask.config
 
 print(dask.config.get("distributed.client.preload"), dask.config.get("distributed.comm.tls.client"))
@@ -62,7 +62,7 @@ STRANGE = {"PYTHONSAFEPATH": "1", "PYTHONOPTIMIZE": "2", "MPLBACKEND": "nosuch",
 
 class Isolation(unittest.TestCase):
     def setUp(self):
-        self.folder = new_folder(self)
+        self.folder = make_folder_for_case(self)
         for name in (*PACKAGES, "lib", "argparse", "zipfile"):
             self.folder.joinpath(f"{name}.py").write_text(STRANGER)
 
@@ -232,8 +232,10 @@ class Isolation(unittest.TestCase):
 
     def test_debians_python_is_asked_apart(self):
         """A Python that lacks packages asks Debian's for them; neither looks into the working folder."""
-        code = "import sys\nsys.path.insert(0, {tools!r})\nfrom lib.tool import modules\nmodules.is_debians = lambda: False\n"
-        code += "print(modules.run_for_modules('json'), modules.run_for_modules('json', 'nosuch'), modules.run_for_modules('lib'))\n"
+        code = "import sys\nsys.path.insert(0, {tools!r})\nfrom unittest import mock\nfrom lib.tool import modules\n"
+        asked = ("'json'", "'json', 'nosuch'", "'lib'")
+        shown = ", ".join(f"modules.run_and_see_if_debian_has({words})" for words in asked)
+        code += f"with mock.patch.object(modules, 'is_debian_python', lambda: False):\n    print({shown})\n"
         path = self.folder.parent / f"{self.folder.name}-ask"
         path.write_text(code.format(tools=str(TOOLS)))
         self.addCleanup(path.unlink)
@@ -247,18 +249,18 @@ class Isolation(unittest.TestCase):
         """Without open files or memory nobody knows which packages it has, and without it there are none."""
         for number, is_known in ((errno.ENOENT, True), (errno.EMFILE, False), (errno.ENOMEM, False)):
             fault = OSError(number, os.strerror(number))
-            with mock.patch.object(modules, "is_debians", return_value=False), mock.patch.object(subprocess, "run", side_effect=fault):
+            with mock.patch.object(modules, "is_debian_python", return_value=False), mock.patch.object(subprocess, "run", side_effect=fault):
                 if is_known:
-                    self.assertFalse(modules.run_for_modules("json"))
+                    self.assertFalse(modules.run_and_see_if_debian_has("json"))
                 else:
-                    self.assertRaises(OSError, modules.run_for_modules, "json")
+                    self.assertRaises(OSError, modules.run_and_see_if_debian_has, "json")
 
     def test_a_tool_starts_again_apart(self):
         """By the file of the tool, since the command of an installed one belongs to another Python."""
         main = mock.Mock(__file__=str(TOOLS / "audit"))
         with (
             mock.patch.object(modules, "has_module", return_value=False),
-            mock.patch.object(modules, "run_for_modules", return_value=True),
+            mock.patch.object(modules, "run_and_see_if_debian_has", return_value=True),
             mock.patch.object(os, "execv") as execv,
             mock.patch.dict(sys.modules, {"__main__": main}),
             mock.patch.object(sys, "argv", ["/bin/dam-audit", "--best"]),

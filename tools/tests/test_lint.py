@@ -11,9 +11,9 @@ import unittest
 import unittest.mock
 
 import support
-from support import AUCTION, AUCTION_RESULTS, FIRST, cases, journal_of, run_tool
+from support import AUCTION, AUCTION_RESULTS, FIRST, journal_of, read_worked_cases, run_tool
 
-import days
+from shared import days
 from lib.base import rules
 from lib.journal import book, fields, journal
 from lib.lint import lint
@@ -220,7 +220,7 @@ class Random(unittest.TestCase):
                 self.assertTrue(told, (data, fault))
                 continue
             self.assertEqual(told, [], data)
-            reasons = [reason for reason in book.run_commands(read)[1] if reason]
+            reasons = [reason for reason in book.book_and_refusals(read)[1] if reason]
             refused += len(reasons)
             self.assertEqual([fault.refusal for fault in found], reasons)
             is_open = "Closed" not in reasons and journal.Close() not in read.commands
@@ -242,7 +242,7 @@ class Random(unittest.TestCase):
 class CommandLine(unittest.TestCase):
     def test_worked_cases(self):
         """Also a journal whose last quote isn't closed, which is valid."""
-        for name, case in cases("replay").items():
+        for name, case in read_worked_cases("replay").items():
             with self.subTest(name):
                 found = lint.find_faults(case.stdin, "replay")
                 self.assertEqual(any(not one.refusal for one in found), case.status != 0)
@@ -310,7 +310,7 @@ class CommandLine(unittest.TestCase):
 
     def test_a_name_with_bytes_that_are_not_utf_8(self):
         """No reader of JSON has to take half of a character."""
-        path = support.new_folder(self) / os.fsdecode(b"\xff.csv")
+        path = support.make_folder_for_case(self) / os.fsdecode(b"\xff.csv")
         for status, verdict in ((command.NO_INPUT, "unread"), (command.DONE, "right")):
             found, made, _ = self.record(path)
             self.assertEqual((found, made["verdict"], made["inputs"][0]["file"]), (status, verdict, f"{path.parent}/\\xff.csv"))

@@ -29,7 +29,7 @@ from shared.site import Site
 if modules.has_module("aiohttp"):
     from shared import browser
 
-MISSING = site.missing()
+MISSING = site.missing_packages()
 NEEDS_MKDOCS = unittest.skipIf(MISSING, f"{' and '.join(MISSING)} missing")
 NO_BROWSER = "python3-aiohttp is missing" if not modules.has_module("aiohttp") else None if browser.find_browser() else "chromium is missing"
 SECONDS = 60  # that the index of the search may take
@@ -42,13 +42,13 @@ ITEM = re.compile(r"^ *(?:[-*]|[1-9]\d*\.) +\S", re.MULTILINE)
 
 class Navigation(unittest.TestCase):
     def test_each_page_has_its_place(self):
-        self.assertEqual(navigation.differences(site.of_clone()[0]), [])
+        self.assertEqual(navigation.faults_of_pages(site.read_pages_and_list_pictures()[0]), [])
         self.assertEqual(sum(map(len, navigation.NAVIGATION.values())), len(navigation.TITLES))
 
     def test_a_page_that_comes_or_goes_is_named(self):
         own = {*navigation.TITLES, "docs/NEW.md", "crates/dam_book/README.md"} - {"docs/GUIDE.md"}
         told = ["docs/NEW.md isn't in the table of %s", "docs/GUIDE.md is in the table of %s, and isn't there"]
-        self.assertEqual(navigation.differences(own), [words % "manual/navigation.py" for words in told])
+        self.assertEqual(navigation.faults_of_pages(own), [words % "manual/navigation.py" for words in told])
 
 
 class Pages(unittest.TestCase):
@@ -57,13 +57,13 @@ class Pages(unittest.TestCase):
         # an item of several parts is followed by an empty line
         wanted = "- a\n    b\n    - c\n        d\n\n1. e\n    - f\n\n        g\n    ```sh\n    h\n      - i\n    ```\n"
         wanted += "\n10. k\n    - l\n\nm\n"
-        self.assertEqual(pages.indented(text), wanted)
+        self.assertEqual(pages.with_lists_indented(text), wanted)
 
     def test_a_link_out_of_the_site_becomes_its_words(self):
         text = "[a](b.md#c), [d](../e/f.rs), [g](../README.md), [h\ni](https://j.example), [k](#l)"
         wanted = "[a](b.md#c), d, [g](../README.md), [h\ni](https://j.example), [k](#l)"
-        self.assertEqual(pages.held(text, "docs/m.md", {"docs/b.md", "README.md"}), wanted)
-        self.assertEqual(pages.held("[a](docs/b.md), ![c](c.png)", "README.md", {"docs/b.md", "c.png"}), "[a](docs/b.md), ![c](c.png)")
+        self.assertEqual(pages.without_missing_links(text, "docs/m.md", {"docs/b.md", "README.md"}), wanted)
+        self.assertEqual(pages.without_missing_links("[a](docs/b.md), ![c](c.png)", "README.md", {"docs/b.md", "c.png"}), "[a](docs/b.md), ![c](c.png)")
 
     def test_names_of_definitions_become_links(self):
         targets = {"IsBest": "docs/definitions/dam_hour.md"}
@@ -71,14 +71,14 @@ class Pages(unittest.TestCase):
         link = "definitions/dam_hour"
         wanted = (f"# `IsBest`\n[`IsBest`]({link}.md#IsBest), [`IsBest`](a.md), `IsBester`\n"
                   f'<pre><code>x : <a href="{link}.html#IsBest">IsBest</a> &lt;\n</code></pre>\n```sh\nIsBest\n```\n')
-        self.assertEqual(pages.with_definitions(text, "docs/a.md", targets), wanted)
+        self.assertEqual(pages.with_linked_definitions(text, "docs/a.md", targets), wanted)
 
 
 @unittest.skipUnless(shutil.which("go-md2man"), "go-md2man is missing")
 class ManPages(unittest.TestCase):
     def test_no_word_of_a_page_is_lost(self):
         """But for the heads of tables, most of which become lists."""
-        for name, made in formats.run_for_pages("1.0.0").items():
+        for name, made in formats.capture_man_pages("1.0.0").items():
             text = (TOP / formats.PAGES[name][0]).read_text(encoding="utf-8").partition("\n")[2]
             text = formats.OF_CLONES.sub("", pages.LINK.sub(r"\1", re.sub(r"^\|.*\|\n(?=\|[-|]+\|$)", "", text, flags=re.MULTILINE)))
             own = re.sub(r"\]\(#[^)]*\)|^```\w+$", "", with_installed_commands(text), flags=re.MULTILINE).upper()
@@ -90,10 +90,10 @@ class ManPages(unittest.TestCase):
         """Wide tables are lists: their first cell, and the others with their heads."""
         table = "| Line | When | What to do |\n|---|---|---|\n| `a` | one | two |\n| `b` | three | |\n"
         wide = table.replace("three", "three " * 20).replace("two", "two " * 20)
-        self.assertEqual(formats.TABLE.sub(formats.listed, table), table)
+        self.assertEqual(formats.TABLE.sub(formats.as_list_if_wide, table), table)
         listed = f"`a`\n: one; What to do: {'two ' * 20}".rstrip() + f"\n\n`b`\n: {'three ' * 20}".rstrip() + "\n\n"
-        self.assertEqual(formats.TABLE.sub(formats.listed, wide), listed)
-        for name, made in formats.run_for_pages("1.0.0").items():
+        self.assertEqual(formats.TABLE.sub(formats.as_list_if_wide, wide), listed)
+        for name, made in formats.capture_man_pages("1.0.0").items():
             self.assertIn(f".SH NAME\n.PP\n{name} \\- ", made.decode().replace(" - ", " \\- "))
 
 
@@ -114,7 +114,7 @@ class Made(unittest.TestCase):
         name = re.sub(r"README\.md$", "index.md", name)
         return self.site.pages[self.site.folder / name.replace(".md", ".html")]
 
-    def run_for_definitions(self):
+    def capture_definitions(self):
         """Each definition of the list, with its crate, module and sentence."""
         listed = run_tool("reading-list", "--definitions")[1].decode()
         for crate, module, body in re.findall(r"^## `(\w+)/specs/(\w+)\.antt`\n(.*?)(?=^## |\Z)", listed, re.MULTILINE | re.DOTALL):
@@ -147,7 +147,7 @@ class Made(unittest.TestCase):
 
     def test_nothing_of_a_page_is_lost(self):
         """Each block of text, each item of a list and each table of a page are in the site."""
-        own = site.of_clone()[0]
+        own = site.read_pages_and_list_pictures()[0]
         for name in [*own, *sorted(navigation.TITLES)]:
             if name == navigation.NOTATION:
                 continue
@@ -161,11 +161,11 @@ class Made(unittest.TestCase):
 
     def test_each_definition_has_its_text_and_links_both_ways(self):
         repository, seen = Repository(TOP), 0
-        for crate, module, name in self.run_for_definitions():
+        for crate, module, name in self.capture_definitions():
             made = self.page(f"{navigation.DEFINITIONS}/{crate}.md")
             with self.subTest(name, crate=crate):
                 self.assertIn(name, made.places)
-                self.assertIn(repository.definitions(crate, module)[name].strip("\n"), made.block_texts())
+                self.assertIn(repository.read_definitions(crate, module)[name].strip("\n"), made.block_texts())
             seen += 1
         self.assertGreater(seen, 400)
         self.assertIn("definitions/dam_hour.html#IsBest", self.page("docs/THEOREM.md").links)
@@ -232,9 +232,9 @@ async def searched(page, words):
 
 async def read(case, top, widths):
     """Reads the site at some widths, light or dark: pages don't scroll sideways, the search finds, and the navigation leads on."""
-    async with browser.open_in_browser(f"{top}index.html") as page:
+    async with browser.running_browser_tab(f"{top}index.html") as page:
         for width in widths:
-            await page.set_screen(width, scheme := WIDTHS[width])
+            await page.set_screen_size(width, scheme := WIDTHS[width])
             for name in WIDE:
                 await shown(page, top + re.sub(r"README\.md$", "index.md", name).replace(".md", ".html"))
                 case.assertEqual(await page.evaluate("document.body.dataset.mdColorScheme"), SCHEMES[scheme], name)

@@ -18,7 +18,7 @@ import unittest.mock
 from pathlib import Path
 
 import support
-from support import AUCTION, FIRST, QUARTERS, journal_of, new_folder, read_results
+from support import AUCTION, FIRST, QUARTERS, journal_of, make_folder_for_case, read_results
 
 import dam_tools
 from dam_tools.lib.runs import by_library, by_program, engine, which
@@ -59,7 +59,7 @@ def ends(process):
 
 class Many(unittest.TestCase):
     def setUp(self):
-        self.folder = new_folder(self)
+        self.folder = make_folder_for_case(self)
         self.program = self.write_script("dam", f'PYTHONPATH="{FAKE.parent}" exec "{sys.executable}" "{FAKE}" "$@"')
 
     def write_script(self, name, line):
@@ -131,7 +131,7 @@ class Many(unittest.TestCase):
 
     def run_interrupted(self, code, environment, begun):
         """The lines of a program that is interrupted once something has begun."""
-        support.heed_interrupts(self)
+        support.set_interrupt_handler(self)
         environment = {**os.environ, "PYTHONPATH": str(support.TOOLS), **environment}
         running = subprocess.Popen([sys.executable, "-B", "-c", code], env=environment, stderr=subprocess.PIPE, start_new_session=True)
         try:
@@ -218,7 +218,7 @@ class Many(unittest.TestCase):
         self.assertEqual((found, said.getvalue() == f"{begin}{end}\n"), (read_results(AUCTION), True), said.getvalue()[:200])
         for call in dam_tools.clear, dam_tools.replay:
             other = self.write_script("other", "exec head -c 60000000 /dev/zero")
-            with self.assertRaisesRegex(dam_tools.Fault, f"^{other} printed more than {by_program.MOST_PRINTED:,} bytes$"):
+            with self.assertRaisesRegex(dam_tools.Fault, f"^{other} printed more than {by_program.MOST_PRINTED_BYTES:,} bytes$"):
                 call(AUCTION, other)
         self.assertLess(tracemalloc.get_traced_memory()[1], 8 << 20)
 
@@ -252,7 +252,7 @@ class Many(unittest.TestCase):
             self.assertEqual(list(found), list(map(read_results, given)))
             library = self.compile_library(ECHO.replace("    return found;", "    usleep(1000);\n    return found;"))
             texts = [str(number).encode() * 1_000 for number in range(100, 200)]
-            self.assertEqual(list(threads.map(lambda text: by_library.run_library(library, text), texts)), texts)
+            self.assertEqual(list(threads.map(lambda text: by_library.call_and_return_output(library, text), texts)), texts)
 
     def test_a_fault_has_each_status_of_the_page(self):
         formats, python = ((support.TOP / "docs" / name).read_text() for name in ("FORMATS.md", "PYTHON.md"))
@@ -325,17 +325,17 @@ class Many(unittest.TestCase):
 
     def test_a_bar_is_for_terminals(self):
         results = iter(())
-        self.assertIs(engine.stepping_bar(results), results)
+        self.assertIs(engine.iterate_with_bar(results), results)
         with unittest.mock.patch.object(sys, "stderr", unittest.mock.Mock(isatty=lambda: True)):
-            self.assertIs(engine.stepping_bar(results, quiet=True), results)
+            self.assertIs(engine.iterate_with_bar(results, quiet=True), results)
             with unittest.mock.patch.dict(sys.modules, {"tqdm": None}):
-                self.assertIs(engine.stepping_bar(results), results)
+                self.assertIs(engine.iterate_with_bar(results), results)
             if modules.has_module("tqdm"):
-                self.assertIsNot(engine.stepping_bar(results), results)
+                self.assertIsNot(engine.iterate_with_bar(results), results)
 
     @unittest.skipUnless(which.BUILT.exists(), "the program isn't built")
     def test_the_built_program(self):
-        cases = support.cleared_cases()
+        cases = support.read_cleared_cases()
         texts = [data for _, data, _ in cases]
         found = list(dam_tools.clear_many(texts, program=which.BUILT))
         for (name, _, wanted), day in zip(cases, found, strict=True):

@@ -3,8 +3,8 @@
 import re
 import unittest
 
-from support import TOP, cases, journal
-from lib.audit import best
+from support import TOP, journal, read_worked_cases
+from lib.audit import recursive_enumeration
 from lib.base import rules
 from lib.journal import book
 from lib.results import results, selection
@@ -71,9 +71,9 @@ def cited():
 
 def cleared(*submits):
     lines = ["day,24,,,,,,,", *(f"submit,{submit}" for submit in submits), "close,,,,,,,,"]
-    closed, _ = book.run_commands(journal.parse_journal("".join(f"{line}\n" for line in lines).encode()))
+    closed, _ = book.book_and_refusals(journal.parse_journal("".join(f"{line}\n" for line in lines).encode()))
     problem = selection.Problem(closed)
-    found, _ = best.enumerate_all(problem)
+    found, _ = recursive_enumeration.find_best_and_how(problem)
     return results.results_text(problem, found.accepted, selection.outcome(problem, found.accepted)).splitlines()
 
 
@@ -98,20 +98,20 @@ class Market(unittest.TestCase):
         self.assertIn("| In `tests/cases/market.txt` |", table)
         named = [(file or "market", name) for name, file in re.findall(r"\| `([\w-]+)`(?: of `(\w+)\.txt`)? \|$", table, re.MULTILINE)]
         self.assertIn(("clear", "paradox"), named)
-        pairs = {name.rpartition("-")[0] for name in cases("market")}
+        pairs = {name.rpartition("-")[0] for name in read_worked_cases("market")}
         self.assertEqual(pairs, {name for file, name in named if file == "market"})
         for file, name in named:
             for case in [f"{name}-before", f"{name}-after"] if file == "market" else [name]:
-                self.assertIn(case, cases(file))
+                self.assertIn(case, read_worked_cases(file))
 
     def test_the_cases_come_out(self):
         """The table's entry for each pair; `./check` compares the program with these cases."""
         for name, before, after in CASES:
             for when, lines in ("before", before), ("after", after):
                 with self.subTest(name, when=when):
-                    case = cases("market")[f"{name}-{when}"]
+                    case = read_worked_cases("market")[f"{name}-{when}"]
                     self.assertEqual(missing(lines, case.right_stdout.decode().splitlines()), [])
-        self.assertEqual({name for name, _, _ in CASES}, {name.rpartition("-")[0] for name in cases("market")})
+        self.assertEqual({name for name, _, _ in CASES}, {name.rpartition("-")[0] for name in read_worked_cases("market")})
 
     def test_the_examples_come_out(self):
         town = "CITY,TOWN,hour,buy,5000,1:20,,"

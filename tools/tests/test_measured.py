@@ -53,7 +53,7 @@ class Benchmarks(unittest.TestCase):
 
 class Measured(unittest.TestCase):
     def test_the_page_is_made_of_the_kept_figures(self):
-        self.assertEqual(page.PAGE.read_text(encoding="utf-8"), page.read_figures_into_page())
+        self.assertEqual(page.PAGE.read_text(encoding="utf-8"), page.read_and_compose_page())
 
     def test_every_kept_file_is_of_a_part_and_a_run(self):
         parts = [row[0] for row in page.read_rows(page.KEPT / "runs.csv")]
@@ -91,11 +91,11 @@ class Measured(unittest.TestCase):
 
     def test_the_parts_of_each_machine(self):
         runs = [["quick", "old"], ["thin", "new"], ["desk", "new"], ["looks", "old"], ["office", "old"]]
-        self.assertEqual(page.sentences_by_value(runs, 1, "ran on {}"), "`thin` and `desk` ran on new.\nThe other parts ran on old.\n")
-        self.assertEqual(page.sentences_by_value(runs[1:3], 1, "ran on {}"), "All parts ran on new.\n")
+        self.assertEqual(page.text_of_values(runs, 1, "ran on {}"), "`thin` and `desk` ran on new.\nThe other parts ran on old.\n")
+        self.assertEqual(page.text_of_values(runs[1:3], 1, "ran on {}"), "All parts ran on new.\n")
         runs += [["growth", "own"], ["workers", "new"], ["blocks", "old"]]
         said = "`growth` ran on own.\n`thin`, `desk` and `workers` ran on new.\nThe other parts ran on old.\n"
-        self.assertEqual(page.sentences_by_value(runs, 1, "ran on {}"), said)
+        self.assertEqual(page.text_of_values(runs, 1, "ran on {}"), said)
 
     def test_a_span(self):
         self.assertEqual(page.span_text(["1.90 x", "1.20 x", "1.5 x"]), "1.20 to 1.90 x")
@@ -114,7 +114,7 @@ class Measured(unittest.TestCase):
                 with unittest.mock.patch.dict("os.environ", {"PEER_LIMIT": "5", "BEFORE_IS": "that of yesterday"}):
                     page.write_kept_figures(["blocks"])
                     of_peers = [page.query_facts_of_run(part)[-1] for part in ("blocks", "thin")]
-                text = page.read_figures_into_page()
+                text = page.read_and_compose_page()
         peers = "HiGHS (of SciPy 13) and CBC (10): the time of solving alone, at most 5 s"  # the lengths of the packages' names
         self.assertEqual(of_peers, [f"{peers}; the program before is that of yesterday"] * 2)
         self.assertIn(f"Notes: (1) {peers}; (2) the program before is that of yesterday.", " ".join(text.split()))

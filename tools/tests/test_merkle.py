@@ -87,7 +87,7 @@ class Merkle(unittest.TestCase):
         for size in range(1, MOST + 1):
             for place in range(size):
                 path = self.tree.inclusion_proof(place, size)
-                self.assertEqual(merkle.root_of_inclusion(LEAVES[place], place, size, path), self.roots[size])
+                self.assertEqual(merkle.root_of_inclusion_or_none(LEAVES[place], place, size, path), self.roots[size])
 
     def test_a_path_fits_one_leaf_and_place(self):
         for size in range(1, 40):
@@ -95,13 +95,13 @@ class Merkle(unittest.TestCase):
                 path = self.tree.inclusion_proof(place, size)
                 for other in range(size):
                     if other != place:
-                        self.assertNotEqual(merkle.root_of_inclusion(LEAVES[other], place, size, path), self.roots[size])
-                        self.assertNotEqual(merkle.root_of_inclusion(LEAVES[place], other, size, path), self.roots[size])
+                        self.assertNotEqual(merkle.root_of_inclusion_or_none(LEAVES[other], place, size, path), self.roots[size])
+                        self.assertNotEqual(merkle.root_of_inclusion_or_none(LEAVES[place], other, size, path), self.roots[size])
                 for wrong in (path[:-1] if path else None, [*path, LEAVES[0]]):
                     if wrong is not None:
-                        self.assertNotEqual(merkle.root_of_inclusion(LEAVES[place], place, size, wrong), self.roots[size])
-                self.assertIsNone(merkle.root_of_inclusion(LEAVES[place], size, size, path))
-                self.assertIsNone(merkle.root_of_inclusion(LEAVES[place], -1, size, path))
+                        self.assertNotEqual(merkle.root_of_inclusion_or_none(LEAVES[place], place, size, wrong), self.roots[size])
+                self.assertIsNone(merkle.root_of_inclusion_or_none(LEAVES[place], size, size, path))
+                self.assertIsNone(merkle.root_of_inclusion_or_none(LEAVES[place], -1, size, path))
 
     def test_each_pair_of_sizes(self):
         for size in range(MOST + 1):
@@ -139,16 +139,16 @@ class Merkle(unittest.TestCase):
         """It is the root of these leaves, and the neighbour of a right half is shown with what both make."""
         for size in range(1, 70):
             for place in range(size):
-                self.check_shown(merkle.shown_by_inclusion(LEAVES[place], place, size, self.tree.inclusion_proof(place, size)), size)
+                self.check_shown(merkle.hashes_shown_by_inclusion(LEAVES[place], place, size, self.tree.inclusion_proof(place, size)), size)
             for old in range(1, size):
                 path = self.tree.consistency_proof(old, size)
-                shown = merkle.shown_by_consistency(old, self.roots[old], size, self.roots[size], path)
+                shown = merkle.hashes_shown_by_consistency(old, self.roots[old], size, self.roots[size], path)
                 self.check_shown(shown, size)
                 self.assertEqual(shown[0, old], self.roots[old])
-                unbound = merkle.shown_by_consistency(old, LEAVES[0], size, LEAVES[0], path)
+                unbound = merkle.hashes_shown_by_consistency(old, LEAVES[0], size, LEAVES[0], path)
                 self.assertEqual(unbound, {} if old & (old - 1) else {(0, old): LEAVES[0]})  # a subtree of both is the old root itself
-                self.assertEqual(merkle.shown_by_consistency(old, self.roots[old], size, self.roots[size], path[:-1]), {})
-                self.assertEqual(merkle.shown_by_consistency(size, self.roots[size], old, self.roots[old], path), {})
+                self.assertEqual(merkle.hashes_shown_by_consistency(old, self.roots[old], size, self.roots[size], path[:-1]), {})
+                self.assertEqual(merkle.hashes_shown_by_consistency(size, self.roots[size], old, self.roots[old], path), {})
 
     def check_shown(self, shown, size):
         self.assertEqual(shown[0, size], self.roots[size])
@@ -164,10 +164,10 @@ class Merkle(unittest.TestCase):
             for old in range(1, size):
                 path, wrong = self.tree.consistency_proof(old, size), merkle.leaf_hash(b"wrong")
                 is_whole = old & (old - 1) == 0
-                shown = merkle.shown_by_consistency(old, wrong, size, self.roots[size], path)
+                shown = merkle.hashes_shown_by_consistency(old, wrong, size, self.roots[size], path)
                 self.assertEqual(shown.get((0, old)), wrong if is_whole else self.roots[old])
                 self.assertEqual((0, size) in shown, not is_whole)
-                shown = merkle.shown_by_consistency(old, self.roots[old], size, wrong, path)
+                shown = merkle.hashes_shown_by_consistency(old, self.roots[old], size, wrong, path)
                 self.assertEqual(shown[0, old], self.roots[old])
                 self.assertNotIn((0, size), shown)
                 for (begin, end), hashed in shown.items():

@@ -15,7 +15,7 @@ import unittest.mock
 from pathlib import Path
 
 import support
-from support import AUCTION, AUCTION_RESULTS, FIRST, TOP, new_folder, read_results
+from support import AUCTION, AUCTION_RESULTS, FIRST, TOP, make_folder_for_case, read_results
 
 import dam_tools
 from dam_tools.lib.runs import which
@@ -28,7 +28,7 @@ FAKE = support.TOOLS / "tests" / "fake_dam.py"
 
 class Module(unittest.TestCase):
     def setUp(self):
-        self.program = new_folder(self) / "dam"
+        self.program = make_folder_for_case(self) / "dam"
         self.program.write_text(f'#!/bin/sh\nPYTHONPATH="{FAKE.parent}" exec "{sys.executable}" "{FAKE}" "$@"\n')
         self.program.chmod(0o755)
 
@@ -99,7 +99,7 @@ class Module(unittest.TestCase):
         journal = dam_tools.read_journal(FIRST)
         self.assertEqual(dam_tools.records(journal, "commands")[12]["reason"], "PeriodOutOfDay")
         day = dam_tools.read_results(AUCTION.read_bytes(), read_results(AUCTION))
-        text = sheets.table_text(tables.orders(day)).encode()
+        text = sheets.table_text(tables.order_rows(day)).encode()
         made = dam_tools.journal_of_orders(text)
         self.assertEqual(dam_tools.clear(made, program=self.program).published.welfare, day.published.welfare)
 

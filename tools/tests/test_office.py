@@ -13,7 +13,7 @@ import unittest
 from pathlib import Path
 from unittest import mock
 
-from office_support import DAY, LATEST, LENGTHS, NAMES, SECONDS, Disk, Office, aiohttp, commands, opener, random_record
+from office_support import DAY, LATEST, LENGTHS, NAMES, SECONDS, Disk, Office, aiohttp, commands_of_records, draw_record, patch_of_opening
 from support import TOOLS
 
 from lib.base import rules
@@ -35,13 +35,13 @@ TEMPLATES = TOOLS / "lib" / "report" / "templates"
 class Crashes(Office):
     async def client(self, rng, who, count, periods, held, acknowledged):
         """Sends commands, some in one request, and sends each again until it is acknowledged; sometimes again after that."""
-        records = [random_record(rng, who, number, periods) for number in range(1, count + 1)]
+        records = [draw_record(rng, who, number, periods) for number in range(1, count + 1)]
         first = 1
         while first <= count:
             many = records[first - 1 : first - 1 + rng.choice([1, 1, 1, 3, 7])]
             try:
                 given = held[0]
-                entries = await asyncio.wait_for(asyncio.shield(given.submit(who, first, commands(*many))), 5)
+                entries = await asyncio.wait_for(asyncio.shield(given.submit_or_refuse(who, first, commands_of_records(*many))), 5)
             except (refusals.Refused, asyncio.TimeoutError) as fault:
                 wrong = refusals.Fault.NUMBER_USED, refusals.Fault.NUMBER_AHEAD, refusals.Fault.MALFORMED
                 self.assertNotIn(getattr(fault, "fault", None), wrong)
@@ -53,14 +53,14 @@ class Crashes(Office):
                 self.assertEqual(acknowledged.setdefault((who, number), (record, entry)), (record, entry))
                 receipt = given.ledger.receipt(entry)
                 self.assertEqual((receipt.record, receipt.number), (record, entry))
-                self.verify(given, receipt)
+                self.assert_verified(given, receipt)
             first = max(1, first - 2) if rng.random() < 0.2 else first + len(many)
         return records
 
     async def run_with_crashes(self, seed, periods):
         rng, disk, acknowledged = random.Random(f"office {seed}"), Disk(), {}
-        held = [self.writer()]
-        with opener(disk):
+        held = [self.day_writer_of()]
+        with patch_of_opening(disk):
             tasks = [asyncio.create_task(held[0].write_until_published())]
             clients = [
                 asyncio.create_task(self.client(random.Random(f"{seed} {who}"), who, 40, periods, held, acknowledged)) for who in NAMES
@@ -74,7 +74,7 @@ class Crashes(Office):
                     tasks[-1].cancel()
                     await asyncio.gather(tasks[-1], return_exceptions=True)
                     held[0].queue.refuse_all(refusals.Fault.UNAVAILABLE, "no answer came")
-                    held[0] = self.writer()
+                    held[0] = self.day_writer_of()
                     tasks.append(asyncio.create_task(held[0].write_until_published()))
             sent = dict(zip(NAMES, await asyncio.wait_for(asyncio.gather(*clients), SECONDS)))
             tasks[-1].cancel()
@@ -85,60 +85,60 @@ class Crashes(Office):
         for seed, periods in enumerate(LENGTHS):
             with self.subTest(periods=periods):
                 self.setUp()
-                self.make(periods)
+                self.write_office(periods)
                 disk, last, sent, acknowledged = await self.run_with_crashes(seed, periods)
                 for who, records in sent.items():
                     self.assertEqual([record for record in disk.records if record.split(",")[1] == who], records)
                 for (who, number), (record, entry) in acknowledged.items():
-                    self.assertEqual((disk.records[entry - 1], last.ledger.entry(who, number)[0]), (record, entry))
+                    self.assertEqual((disk.records[entry - 1], last.ledger.entry_record_and_reply(who, number)[0]), (record, entry))
                 read = journal.parse_journal(b"".join(f"{line}\n".encode() for line in [f"day,{periods},,,,,,,", *disk.records]))
-                replies = [sealing.reply_of(why) for why in book.run_commands(read)[1]]
+                replies = [sealing.reply_of(why) for why in book.book_and_refusals(read)[1]]
                 self.assertEqual([entry.reply for entry in last.ledger.seal.entries], replies)
                 self.assertGreater(disk.openings, 4)
 
     async def test_a_receipt_is_the_same_after_a_crash(self):
-        self.make()
+        self.write_office()
         disk = Disk()
-        with opener(disk):
-            async with self.running(self.writer()) as given:
-                entries = await given.submit("GAS", 1, commands("submit,GAS,A,hour,buy,1,1:1,,", "cancel,GAS,B,,,,,,"))
-                before = [heads.line_of(given.ledger.receipt(entry)) for entry in entries]
-                await given.submit("A", 1, commands("cancel,A,B,,,,,,"))
-                self.assertEqual([heads.line_of(given.ledger.receipt(entry)) for entry in entries], before)
-            async with self.running(self.writer()) as given:
-                again = await given.submit("GAS", 1, commands("submit,GAS,A,hour,buy,1,1:1,,", "cancel,GAS,B,,,,,,"))
-                self.assertEqual([heads.line_of(given.ledger.receipt(entry)) for entry in again], before)
+        with patch_of_opening(disk):
+            async with self.running_writer(self.day_writer_of()) as given:
+                entries = await given.submit_or_refuse("GAS", 1, commands_of_records("submit,GAS,A,hour,buy,1,1:1,,", "cancel,GAS,B,,,,,,"))
+                before = [heads.line_bytes_of(given.ledger.receipt(entry)) for entry in entries]
+                await given.submit_or_refuse("A", 1, commands_of_records("cancel,A,B,,,,,,"))
+                self.assertEqual([heads.line_bytes_of(given.ledger.receipt(entry)) for entry in entries], before)
+            async with self.running_writer(self.day_writer_of()) as given:
+                again = await given.submit_or_refuse("GAS", 1, commands_of_records("submit,GAS,A,hour,buy,1,1:1,,", "cancel,GAS,B,,,,,,"))
+                self.assertEqual([heads.line_bytes_of(given.ledger.receipt(entry)) for entry in again], before)
         self.assertEqual(len(disk.records), 3)
 
     async def test_a_token_that_was_revoked_enters_nothing_more(self):
         """Also a command that waits; what is entered already is answered."""
-        self.make()
+        self.write_office()
         disk, rights = Disk(), [True]
-        with opener(disk):
-            async with self.running(self.writer()) as given:
-                await given.submit("GAS", 1, commands("cancel,GAS,A,,,,,,"))
-                waiting = given.submit("GAS", 2, commands("cancel,GAS,B,,,,,,"), lambda: rights[0])
+        with patch_of_opening(disk):
+            async with self.running_writer(self.day_writer_of()) as given:
+                await given.submit_or_refuse("GAS", 1, commands_of_records("cancel,GAS,A,,,,,,"))
+                waiting = given.submit_or_refuse("GAS", 2, commands_of_records("cancel,GAS,B,,,,,,"), lambda: rights[0])
                 rights[0] = False
                 with self.assertRaises(refusals.Refused) as caught:
                     await waiting
                 self.assertEqual(caught.exception.fault, refusals.Fault.TOKEN)
-                self.assertEqual(await given.submit("GAS", 1, commands("cancel,GAS,A,,,,,,"), lambda: rights[0]), [1])
+                self.assertEqual(await given.submit_or_refuse("GAS", 1, commands_of_records("cancel,GAS,A,,,,,,"), lambda: rights[0]), [1])
         self.assertEqual(len(disk.records), 1)
 
     async def test_tokens_that_cant_be_read_lose_no_request_and_no_close(self):
-        self.make()
+        self.write_office()
         disk = Disk()
 
         def unreadable():
             raise faults.pop()
 
         faults = [command.Stop("damaged"), OSError(errno.EMFILE, "too many open files")]
-        with opener(disk):
-            given = self.writer()
+        with patch_of_opening(disk):
+            given = self.day_writer_of()
             task = asyncio.create_task(given.write_until_published())
             await given.is_ready.wait()
-            waiting = [given.submit(who, 1, commands(f"cancel,{who},A,,,,,,"), unreadable) for who in ("GAS", "LONGNAME")]
-            behind = given.submit("A", 1, commands("cancel,A,A,,,,,,"))
+            waiting = [given.submit_or_refuse(who, 1, commands_of_records(f"cancel,{who},A,,,,,,"), unreadable) for who in ("GAS", "LONGNAME")]
+            behind = given.submit_or_refuse("A", 1, commands_of_records("cancel,A,A,,,,,,"))
             given.begin_close()
             for one in waiting:
                 with self.assertRaises(refusals.Refused) as caught:
@@ -148,25 +148,25 @@ class Crashes(Office):
         self.assertEqual((disk.records, given.fault), (["cancel,A,A,,,,,,", "close,,,,,,,,"], None))
 
     def test_a_statement_is_kept_as_it_is_sent(self):
-        self.make()
-        files = self.office.list_days()[DAY]
+        self.write_office()
+        files = self.office.list_folders_by_day()[DAY]
         found = published.Published(files)
-        self.assertIsNone(found.read_statement_text("GAS"))
+        self.assertIsNone(found.read_and_cache_text_or_none("GAS"))
         rows = [{"participant": who, "code": "tie", "why": "would gain 1.00 EUR at the prices, but x"} for who in ("GAS", "A")]
         files.path_of(folder.STATEMENT).write_text(json.dumps({"day": {"welfare_eur": 1, "periods": 24}, "rows": rows}))
         files.path_of(folder.RESULTS).write_bytes(b"")
-        first = found.read_statement_text("GAS")
+        first = found.read_and_cache_text_or_none("GAS")
         self.assertEqual((json.loads(first)["day"], len(json.loads(first)["rows"])), ({"periods": 24}, 1))
-        self.assertIs(found.read_statement_text("GAS"), first)
+        self.assertIs(found.read_and_cache_text_or_none("GAS"), first)
         with mock.patch.object(published, "MOST_TEXTS", 1):
-            found.read_statement_text("A")
+            found.read_and_cache_text_or_none("A")
             self.assertEqual(len(found.texts), 1)
         files.path_of(folder.OPEN_JOURNAL).write_bytes(b"")
-        self.assertEqual(json.loads(found.read_statement_text("GAS")), {"day": {"welfare_eur": 1, "periods": 24}, "rows": rows[:1]})
+        self.assertEqual(json.loads(found.read_and_cache_text_or_none("GAS")), {"day": {"welfare_eur": 1, "periods": 24}, "rows": rows[:1]})
 
     def test_the_statements_of_a_full_day_take_little_memory(self):
-        self.make()
-        files = self.office.list_days()[DAY]
+        self.write_office()
+        files = self.office.list_folders_by_day()[DAY]
         volumes = [period + 0.5 for period in range(100)]
         rows = [{"participant": "GAS", "code": None, "why": None, "volume_mw": volumes} for _ in range(2_000)]
         files.path_of(folder.STATEMENT).write_text(json.dumps({"day": {}, "rows": rows}))
@@ -174,13 +174,13 @@ class Crashes(Office):
         found = published.Published(files)
         tracemalloc.start()
         self.addCleanup(tracemalloc.stop)
-        self.assertEqual(json.loads(found.read_statement_text("A"))["rows"], [])
+        self.assertEqual(json.loads(found.read_and_cache_text_or_none("A"))["rows"], [])
         kept, size = tracemalloc.get_traced_memory()[0], files.path_of(folder.STATEMENT).stat().st_size
         self.assertLess(kept, 2 * size)
-        self.assertEqual(json.loads(found.read_statement_text("GAS"))["rows"], rows)
+        self.assertEqual(json.loads(found.read_and_cache_text_or_none("GAS"))["rows"], rows)
 
     async def test_many_receipts_are_written_in_turns(self):
-        self.make()
+        self.write_office()
         turns, seen = [0], set()
 
         async def others():
@@ -188,46 +188,46 @@ class Crashes(Office):
                 turns[0] += 1
                 await asyncio.sleep(0)
 
-        with opener(Disk()):
-            async with self.running(self.writer()) as given:
-                await given.submit("GAS", 1, commands(*(f"cancel,GAS,{number},,,,,," for number in range(100))))
+        with patch_of_opening(Disk()):
+            async with self.running_writer(self.day_writer_of()) as given:
+                await given.submit_or_refuse("GAS", 1, commands_of_records(*(f"cancel,GAS,{number},,,,,," for number in range(100))))
                 task = asyncio.create_task(others())
-                with mock.patch.object(heads, "line_of", lambda value: seen.add(turns[0]) or b"\n"):
+                with mock.patch.object(heads, "line_bytes_of", lambda value: seen.add(turns[0]) or b"\n"):
                     answer = await web.Web.answer_receipts(None, given, list(range(1, 101)))
                 task.cancel()
         self.assertEqual(len(answer.body), 100)
         self.assertGreater(len(seen), 10)
 
     async def test_a_desk_that_contradicts_the_ledger_stops_the_day(self):
-        self.make()
+        self.write_office()
         disk = Disk()
-        with opener(disk):
-            async with self.running(self.writer()) as given:
-                await given.submit("GAS", 1, commands("cancel,GAS,A,,,,,,", "cancel,GAS,B,,,,,,"))
+        with patch_of_opening(disk):
+            async with self.running_writer(self.day_writer_of()) as given:
+                await given.submit_or_refuse("GAS", 1, commands_of_records("cancel,GAS,A,,,,,,", "cancel,GAS,B,,,,,,"))
                 disk.records.pop()
                 disk.ends.append((0, 0))
                 with self.assertRaises(refusals.Refused) as caught:
-                    await given.submit("GAS", 3, commands("cancel,GAS,C,,,,,,"))
+                    await given.submit_or_refuse("GAS", 3, commands_of_records("cancel,GAS,C,,,,,,"))
                 self.assertEqual(caught.exception.fault, refusals.Fault.UNAVAILABLE)
                 self.assertIn("doesn't begin with the 2 entries", given.fault)
                 self.assertEqual(given.state, "stopped")
                 self.assertFalse(given.is_ready.is_set())
                 with self.assertRaises(refusals.Refused):
-                    given.submit("GAS", 3, commands("cancel,GAS,C,,,,,,"))
+                    given.submit_or_refuse("GAS", 3, commands_of_records("cancel,GAS,C,,,,,,"))
 
     async def test_an_idle_desk_that_ends_is_opened_again(self):
-        self.make()
+        self.write_office()
         disk, log = Disk(), io.StringIO()
-        with opener(disk):
-            async with self.running(self.writer(log=observed.Log(log))) as given:
-                await given.submit("GAS", 1, commands("cancel,GAS,A,,,,,,"))
+        with patch_of_opening(disk):
+            async with self.running_writer(self.day_writer_of(log=observed.Log(log))) as given:
+                await given.submit_or_refuse("GAS", 1, commands_of_records("cancel,GAS,A,,,,,,"))
                 self.assertTrue(given.is_healthy)
-                with mock.patch.object(Desk, "open", side_effect=Ended("unreadable")):
+                with mock.patch.object(Desk, "start_and_read_records", side_effect=Ended("unreadable")):
                     disk.desk.end.set()
-                    await self.until(lambda: "unreadable" in log.getvalue())
+                    await self.wait_until(lambda: "unreadable" in log.getvalue())
                     self.assertFalse(given.is_healthy)
-                await self.until(lambda: given.is_healthy)
-                self.assertEqual(await given.submit("GAS", 2, commands("cancel,GAS,B,,,,,,")), [2])
+                await self.wait_until(lambda: given.is_healthy)
+                self.assertEqual(await given.submit_or_refuse("GAS", 2, commands_of_records("cancel,GAS,B,,,,,,")), [2])
         self.assertGreater(disk.openings, 1)
 
     async def test_a_day_is_right_again_once_a_batch_is_entered_or_there_is_room(self):
@@ -239,33 +239,33 @@ class Crashes(Office):
 
         for enters in (True, False):
             self.setUp()
-            self.make()
+            self.write_office()
             disk = Disk()
             disk.ends = [(0, 0)] * day_writer.MOST_ENDS
-            with opener(disk), mock.patch.object(folder.DayFolder, "require_room", need_room):
-                async with self.running(self.writer()) as given:
+            with patch_of_opening(disk), mock.patch.object(folder.DayFolder, "require_room", need_room):
+                async with self.running_writer(self.day_writer_of()) as given:
                     with self.assertRaises(refusals.Refused):
-                        await given.submit("GAS", 1, commands("cancel,GAS,A,,,,,,"))
+                        await given.submit_or_refuse("GAS", 1, commands_of_records("cancel,GAS,A,,,,,,"))
                     await given.is_ready.wait()
                     await asyncio.sleep(0.02)
                     self.assertFalse(given.is_healthy)
                     if enters:
-                        await given.submit("GAS", 1, commands("cancel,GAS,A,,,,,,"))
+                        await given.submit_or_refuse("GAS", 1, commands_of_records("cancel,GAS,A,,,,,,"))
                         self.assertTrue(given.is_healthy)
                     else:
                         full.clear()
-                        await self.until(lambda: given.is_healthy)
+                        await self.wait_until(lambda: given.is_healthy)
 
     async def test_a_batch_at_which_the_desk_always_ends_is_answered(self):
-        self.make()
+        self.write_office()
         disk = Disk()
         disk.ends = [(0, 0)] * day_writer.MOST_ENDS
-        with opener(disk):
-            async with self.running(self.writer()) as given:
+        with patch_of_opening(disk):
+            async with self.running_writer(self.day_writer_of()) as given:
                 with self.assertRaises(refusals.Refused) as caught:
-                    await given.submit("GAS", 1, commands("cancel,GAS,A,,,,,,"))
+                    await given.submit_or_refuse("GAS", 1, commands_of_records("cancel,GAS,A,,,,,,"))
                 self.assertEqual(caught.exception.fault, refusals.Fault.UNAVAILABLE)
-                await given.submit("GAS", 1, commands("cancel,GAS,A,,,,,,"))
+                await given.submit_or_refuse("GAS", 1, commands_of_records("cancel,GAS,A,,,,,,"))
         self.assertEqual(disk.records, ["cancel,GAS,A,,,,,,"])
 
 
@@ -274,17 +274,17 @@ class Crashes(Office):
         records = [f"cancel,GAS,{name},,,,,," for name in "AB"]
         for ends in ((0, 0), (1, 0)):
             self.setUp()
-            self.make()
+            self.write_office()
             disk = Disk()
             disk.ends = [ends]
-            with opener(disk):
-                given = self.writer()
+            with patch_of_opening(disk):
+                given = self.day_writer_of()
                 task = asyncio.create_task(given.write_until_published())
                 await given.is_ready.wait()
-                first = given.submit("GAS", 1, commands(records[0]))
+                first = given.submit_or_refuse("GAS", 1, commands_of_records(records[0]))
                 while not given.queue.batch:
                     await asyncio.sleep(0)
-                second = given.submit("GAS", 2, commands(records[1]))
+                second = given.submit_or_refuse("GAS", 2, commands_of_records(records[1]))
                 given.begin_close()
                 self.assertEqual(await asyncio.gather(first, second), [[1], [2]])
                 await task
@@ -307,8 +307,8 @@ class Opening(unittest.IsolatedAsyncioTestCase):
             Path(room, "journal").write_text(f"day,24,,,,,,,\n{records}")
             program.write_text(f'#!/bin/sh\n[ "$1" != --journal ] || exec cat {room}/journal\ncat "$1"\nexec cat > {room}/given\n')
             program.chmod(0o755)
-            desk, shown, replies = await asyncio.wait_for(Desk.open(program, path, 24), LATEST)
-            await desk.close()
+            desk, shown, replies = await asyncio.wait_for(Desk.start_and_read_records(program, path, 24), LATEST)
+            await desk.end_or_kill()
             given = Path(room, "given").read_text()
         self.assertEqual((shown, replies), (records.splitlines(), [f"refused,{reason}"] * len(shown)))
         self.assertEqual((desk.size, given), (len(shown), "day,24,,,,,,,\n\n"))
@@ -319,7 +319,7 @@ class Opening(unittest.IsolatedAsyncioTestCase):
             program.write_text("#!/bin/sh\nexec >&-\nexec sleep 3600\n")
             program.chmod(0o755)
             with mock.patch.multiple("lib.office.desk", ANSWER_SECONDS=0.5, END_SECONDS=0.5):
-                opening = asyncio.create_task(Desk.open(program, Path(room, "day.desk"), 24))
+                opening = asyncio.create_task(Desk.start_and_read_records(program, Path(room, "day.desk"), 24))
                 ended, _ = await asyncio.wait([opening], timeout=LATEST)
                 opening.cancel()
         self.assertEqual(ended, {opening})
@@ -330,11 +330,11 @@ class Opening(unittest.IsolatedAsyncioTestCase):
         pipes = dict.fromkeys(("stdin", "stdout", "stderr"), asyncio.subprocess.PIPE)
         with self.assertNoLogs("asyncio", "ERROR"):
             desk = Desk(await asyncio.create_subprocess_exec("sleep", "3600", **pipes), 0)
-            entered = desk.enter(["x" * 2**20])
+            entered = desk.enter_and_return_replies(["x" * 2**20])
             asyncio.get_running_loop().call_later(0.1, desk.process.kill)
             with self.assertRaisesRegex(Ended, "^the desk was ended by signal 9: no fault line$"):
                 await entered.__anext__()
-            await desk.close()
+            await desk.end_or_kill()
             del desk, entered
             gc.collect()
 
@@ -342,7 +342,7 @@ class Opening(unittest.IsolatedAsyncioTestCase):
 @unittest.skipUnless(aiohttp, "aiohttp is missing (Debian's python3-aiohttp)")
 class Description(unittest.TestCase):
     def test_its_faults_are_those_of_requests(self):
-        schema = json.loads(fixed_files.openapi_text(is_demo=False))["components"]["schemas"]["Fault"]
+        schema = json.loads(fixed_files.read_openapi_text(is_demo=False))["components"]["schemas"]["Fault"]
         of_any = refusals.Fault.METHOD, refusals.Fault.DEFECT
         self.assertEqual(schema["properties"]["fault"]["enum"], [fault.word for fault in refusals.Fault if fault not in of_any])
 

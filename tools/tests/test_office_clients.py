@@ -17,7 +17,7 @@ import unittest
 from pathlib import Path
 from unittest import mock
 
-from office_support import DAY, aiohttp, commands
+from office_support import DAY, aiohttp
 from support import AUCTION, AUCTION_RESULTS, QUARTERS, QUARTERS_RESULTS, SUNNY, SUNNY_RESULTS, TOOLS, run_tool
 
 from dam_tools import office as client
@@ -51,7 +51,7 @@ class Requests(unittest.TestCase):
                         value = {"what": "cancel", "order": name}
                     case _:
                         continue
-                line = journal.command_record(given)
+                line = journal.command_record_text(given)
                 self.assertEqual(requests.parse_commands(json.dumps(value).encode(), requests.JSON, who), [given])
                 self.assertEqual(requests.parse_commands(line.encode(), requests.RECORDS, who), [given])
                 self.assertEqual(requests.parse_commands(f"{line}\r\n{line}\n".encode(), requests.RECORDS, who), [given, given])
@@ -102,9 +102,9 @@ class Requests(unittest.TestCase):
             day = {"periods": 24, "hourly_surplus_eur": "1.00", "block_surplus_eur": "2.00"}
             for name, text in ((folder.RESULTS, ""), (folder.STATEMENT, json.dumps({"day": day, "rows": []}))):
                 files.path_of(name).write_text(text)
-            self.assertEqual(published.Published(files).read_statement("GAS")["day"], {"periods": 24})
+            self.assertEqual(published.Published(files).read_and_cache_statement_or_none("GAS")["day"], {"periods": 24})
             files.path_of(folder.OPEN_JOURNAL).touch()
-            self.assertEqual(published.Published(files).read_statement("GAS")["day"], day)
+            self.assertEqual(published.Published(files).read_and_cache_statement_or_none("GAS")["day"], day)
 
     def test_tables(self):
         table = b"participant,order,kind,side,price_eur_mwh,periods,volume_mw\nGAS,A,hour,buy,12.50,8,30\n"
@@ -153,13 +153,13 @@ class Requests(unittest.TestCase):
 
     def test_a_table_is_read_in_a_process_of_its_own(self):
         table = b"participant,order,kind,side,price_eur_mwh,periods,volume_mw\nGAS,A,block,buy,12.50,%d,30\n"
-        read = lambda data, periods=24: asyncio.run(reader.run_for_table_records_and_notes(data, "GAS", periods))
+        read = lambda data, periods=24: asyncio.run(reader.capture_table_records_and_notes(data, "GAS", periods))
         self.assertEqual(read(table % 8), (["submit,GAS,A,block,buy,1250,8:300,,"], []))
         self.assertEqual(read(table % 100, 100)[0], ["submit,GAS,A,block,buy,1250,100:300,,"])
         with self.assertRaisesRegex(requests.BadRequest, "there is no period 100$"):
             read(table % 100, 96)
         child = (table % 8).replace(b"mw\n", b"mw,parent\n").replace(b",30\n", b",30,BASE\n")
-        linked = asyncio.run(reader.run_for_table_records_and_notes(child, "GAS", 24, [("BASE", "block")]))
+        linked = asyncio.run(reader.capture_table_records_and_notes(child, "GAS", 24, [("BASE", "block")]))
         self.assertEqual(linked, (["submit,GAS,A,block,buy,1250,8:300,BASE,"], []))
         with self.assertRaisesRegex(requests.BadRequest, "you have no order BASE, neither in the book nor in a line above$"):
             read(child)
@@ -325,10 +325,10 @@ class Clients(unittest.TestCase):
         self.assertEqual([path.rpartition("/")[2] for path in self.server.asked if "since" not in path], ["4"] * 3)
 
     def test_prices(self):
-        self.assertEqual(client.prices_of(b"day,24\nperiod,1,500,30\nperiod,2,-1,0\n"), [(1, 500, 30), (2, -1, 0)])
+        self.assertEqual(client.parse_prices(b"day,24\nperiod,1,500,30\nperiod,2,-1,0\n"), [(1, 500, 30), (2, -1, 0)])
         for data in (b"", b"<html>", b"period,1,x,1\n", b"\xff"):
             with self.subTest(data=data), self.assertRaisesRegex(client.OfficeFault, "isn't an office's"):
-                client.prices_of(data)
+                client.parse_prices(data)
 
 
 class AsyncClients(Clients):

@@ -11,7 +11,7 @@ import unittest
 from types import SimpleNamespace
 from unittest import mock
 
-from office_support import DAY, NAMES, PAST, Disk, Office, commands, opener
+from office_support import DAY, NAMES, PAST, Disk, Office, commands_of_records, patch_of_opening
 
 from lib.seal import heads
 from lib.tool import command
@@ -28,52 +28,52 @@ class Closing(Office):
         return day_writer.Clock(lambda: self.now)
 
     async def test_the_close_comes_once_after_all_that_came_in_time(self):
-        self.make(closes=datetime.datetime.fromtimestamp(5_000, datetime.timezone.utc))
+        self.write_office(closes=datetime.datetime.fromtimestamp(5_000, datetime.timezone.utc))
         disk, clock = Disk(), self.clock(4_999)
-        with opener(disk):
-            given = self.writer(clock)
+        with patch_of_opening(disk):
+            given = self.day_writer_of(clock)
             task = asyncio.create_task(given.write_until_published())
             await given.is_ready.wait()
-            waiting = [given.submit(who, 1, commands(f"cancel,{who},A,,,,,,")) for who in NAMES]
+            waiting = [given.submit_or_refuse(who, 1, commands_of_records(f"cancel,{who},A,,,,,,")) for who in NAMES]
             self.now = 5_000
             with self.assertRaises(refusals.Refused) as caught:
-                given.submit("GAS", 2, commands("cancel,GAS,B,,,,,,"))
+                given.submit_or_refuse("GAS", 2, commands_of_records("cancel,GAS,B,,,,,,"))
             self.assertEqual(caught.exception.fault, refusals.Fault.CLOSED)
             self.now = 4_000  # set back: it doesn't open again
             with self.assertRaises(refusals.Refused):
-                given.submit("GAS", 2, commands("cancel,GAS,B,,,,,,"))
+                given.submit_or_refuse("GAS", 2, commands_of_records("cancel,GAS,B,,,,,,"))
             self.assertEqual(await asyncio.gather(*waiting), [[1], [2], [3]])
             await task
             self.assertEqual(given.state, "results")
-            self.assertEqual(await given.submit("GAS", 1, commands("cancel,GAS,A,,,,,,")), [2])  # sent again, after the close
+            self.assertEqual(await given.submit_or_refuse("GAS", 1, commands_of_records("cancel,GAS,A,,,,,,")), [2])  # sent again, after the close
         self.assertEqual(disk.records, [*(f"cancel,{who},A,,,,,," for who in NAMES), "close,,,,,,,,"])
-        with opener(disk):  # and not after a start with a clock that is set back either
-            given = self.writer(self.clock(4_000))
+        with patch_of_opening(disk):  # and not after a start with a clock that is set back either
+            given = self.day_writer_of(self.clock(4_000))
             await given.write_until_published()
             with self.assertRaises(refusals.Refused) as caught:
-                given.submit("GAS", 2, commands("cancel,GAS,B,,,,,,"))
+                given.submit_or_refuse("GAS", 2, commands_of_records("cancel,GAS,B,,,,,,"))
             self.assertEqual(caught.exception.fault, refusals.Fault.CLOSED)
         self.assertEqual(disk.records.count("close,,,,,,,,"), 1)
 
     async def test_a_start_after_the_time_closes_before_it_enters_anything(self):
-        self.make(closes=PAST)
+        self.write_office(closes=PAST)
         disk = Disk()
         disk.ends = [(0, 0), (1, 0)]  # the desk ends before the close, and after it is on the disk
-        with opener(disk):
-            given = self.writer()
+        with patch_of_opening(disk):
+            given = self.day_writer_of()
             with self.assertRaises(refusals.Refused):
-                given.submit("GAS", 1, commands("cancel,GAS,A,,,,,,"))
+                given.submit_or_refuse("GAS", 1, commands_of_records("cancel,GAS,A,,,,,,"))
             await given.write_until_published()
         self.assertEqual((disk.records, given.state), (["close,,,,,,,,"], "results"))
 
     async def closed(self):
         """A closed day with its files."""
-        self.make()
-        with opener(Disk()), mock.patch.object(publishing, "run_for_output", mock.AsyncMock(return_value=b"{}")):
-            given = self.writer()
+        self.write_office()
+        with patch_of_opening(Disk()), mock.patch.object(publishing, "capture_output_or_raise", mock.AsyncMock(return_value=b"{}")):
+            given = self.day_writer_of()
             task = asyncio.create_task(given.write_until_published())
             await given.is_ready.wait()
-            await given.submit("GAS", 1, commands("cancel,GAS,A,,,,,,"))
+            await given.submit_or_refuse("GAS", 1, commands_of_records("cancel,GAS,A,,,,,,"))
             given.begin_close()
             await task
             await publishing.write_journal_and_head(given)
@@ -82,10 +82,10 @@ class Closing(Office):
 
     async def shows_nothing(self):
         """A stopped day doesn't show the results, which may have been changed."""
-        again = self.writer()
+        again = self.day_writer_of()
         await again.write_until_published()
         request, admitting = SimpleNamespace(path=f"/days/{DAY}/results"), SimpleNamespace(require_writer=lambda request: again)
-        admitting.require_unstopped = functools.partial(admission.Admission.require_unstopped, admitting)
+        admitting.require_unstopped_writer = functools.partial(admission.Admission.require_unstopped_writer, admitting)
         for answer in (web.Web.answer_prices, web.Web.answer_published):
             with self.assertRaises(refusals.Refused) as caught:
                 await answer(SimpleNamespace(admission=admitting), request)
@@ -96,7 +96,7 @@ class Closing(Office):
         kept = {name: files.read_file(name) for name in (folder.RESULTS, folder.STATEMENT, folder.SUMS)}
 
         async def fault():
-            again = self.writer()
+            again = self.day_writer_of()
             await again.write_until_published()
             return again.fault
 
@@ -127,7 +127,7 @@ class Closing(Office):
                 raise OSError(errno.ENOSPC, "full")
             put(path, data)
 
-        with mock.patch.object(publishing, "run_for_output", mock.AsyncMock(return_value=b"{}")):
+        with mock.patch.object(publishing, "capture_output_or_raise", mock.AsyncMock(return_value=b"{}")):
             with mock.patch.object(folder, "write_synced", ends), self.assertRaises(OSError):
                 await publishing.write_statement(given)
             self.assertEqual((given.files.read_file(folder.SUMS), given.published.is_whole), (kept, False))
@@ -136,7 +136,7 @@ class Closing(Office):
 
     async def test_a_published_day_is_that_of_its_head(self):
         given = await self.closed()
-        begins, ends, load = threading.Event(), threading.Event(), published.read_into_ledger
+        begins, ends, load = threading.Event(), threading.Event(), published.read_published_ledger
 
         def slow(*words):
             made = load(*words)
@@ -144,8 +144,8 @@ class Closing(Office):
             ends.wait()
             return made
 
-        with mock.patch.object(published, "read_into_ledger", slow):
-            again = self.writer()
+        with mock.patch.object(published, "read_published_ledger", slow):
+            again = self.day_writer_of()
             task = asyncio.create_task(again.write_until_published())
             await asyncio.to_thread(begins.wait)
             self.assertEqual((again.is_known.is_set(), again.ledger.size), (False, 0))  # no part of the journal is seen
@@ -155,10 +155,10 @@ class Closing(Office):
             ends.set()
             await task
         self.assertTrue(again.is_known.is_set())
-        self.assertEqual((again.fault, heads.line_of(again.ledger.head())), (None, given.files.read_file(folder.HEAD)))
+        self.assertEqual((again.fault, heads.line_bytes_of(again.ledger.signed_head())), (None, given.files.read_file(folder.HEAD)))
         journal_file, kept = given.files.path_of(folder.JOURNAL), given.files.read_file(folder.JOURNAL)
         journal_file.write_bytes(kept.replace(b"GAS,A,", b"GAS,B,"))
-        again = self.writer()
+        again = self.day_writer_of()
         await again.write_until_published()
         self.assertIn("isn't of the journal", again.fault or "")
         replies = given.files.read_file(folder.REPLIES)
@@ -172,21 +172,21 @@ class Closing(Office):
                 if damage is not None:
                     self.assertNotEqual(damage, whole)
                     given.files.path_of(name).write_bytes(damage)
-                again = self.writer()
+                again = self.day_writer_of()
                 await again.write_until_published()
                 with self.subTest(name=name, damage=damage):
                     self.assertEqual(again.fault, "journal.csv, replies.txt or head.json is missing or damaged")
             given.files.path_of(name).write_bytes(whole)
-        again = self.writer()
+        again = self.day_writer_of()
         await again.write_until_published()
         self.assertIsNone(again.fault)
         given.files.remove(folder.HEAD)
-        again = self.writer()
+        again = self.day_writer_of()
         await again.write_until_published()
         self.assertEqual(again.fault, "journal.csv, replies.txt or head.json is missing or damaged")
 
     async def test_a_day_whose_files_cant_be_made_isnt_right(self):
-        self.make()
+        self.write_office()
         step, faults = publishing.write_journal_and_head, [OSError(errno.ENOSPC, "full")] * 2
 
         async def sign(given):
@@ -199,10 +199,10 @@ class Closing(Office):
             rights.append(given.is_healthy)
 
         rights, log = [], io.StringIO()
-        with opener(Disk()), mock.patch.object(publishing, "write_missing_files", self.publish), mock.patch.multiple(
+        with patch_of_opening(Disk()), mock.patch.object(publishing, "write_missing_and_return_troubles", self.publish), mock.patch.multiple(
             publishing, FIRST_PAUSE=0.001, write_journal_and_head=sign, write_results=made, write_statement=made
         ):
-            given = self.writer(log=observed.Log(log))
+            given = self.day_writer_of(log=observed.Log(log))
             task = asyncio.create_task(given.write_until_published())
             await given.is_ready.wait()
             given.begin_close()
@@ -219,43 +219,55 @@ class Closing(Office):
 
         steps = mock.patch.multiple(publishing, write_journal_and_head=made, write_results=made, write_statement=made)
         with steps, mock.patch.object(publishing.asyncio, "sleep", note_pause):
-            await self.publish(mock.Mock())
+            troubles = [trouble async for trouble in self.publish(mock.Mock())]
+        self.assertEqual(troubles, 3 * ["[Errno 28] full", "[Errno 28] full", None])
         self.assertEqual(pauses, 3 * [publishing.FIRST_PAUSE, 2 * publishing.FIRST_PAUSE])
 
     async def test_the_states_of_a_day(self):
         """The office and the command status, which has the files alone, have the same words."""
-        self.make()
+        self.write_office()
         disk = Disk()
 
         def touch_and_read_states():
             given.files.path_of(folder.DESK).touch()
-            records = mock.patch.object(operate.asyncio, "run", lambda _: ["day", *disk.records])
-            with mock.patch.object(operate, "run_for_records", mock.Mock()), records:
-                return given.state, operate.read_day_state(given.files, "dam-desk")["state"]
+            records = mock.patch.object(operate.asyncio, "run", lambda _: ["day,24,,,,,,,", *disk.records])
+            with mock.patch.object(operate, "capture_records", mock.Mock()), records:
+                return given.state, operate.capture_day_record_or_stop(given.files, "dam-desk")["state"]
 
-        with opener(disk), mock.patch.object(publishing, "write_missing_files", self.held):
-            given = self.writer()
+        with patch_of_opening(disk), mock.patch.object(publishing, "write_missing_and_return_troubles", self.held):
+            given = self.day_writer_of()
             task = asyncio.create_task(given.write_until_published())
             await given.is_ready.wait()
             self.assertEqual(touch_and_read_states(), ("open", "open"))
             operate.write_request(given.files, folder.CLOSE_NOW)
             given.begin_close()
             self.assertEqual(touch_and_read_states(), ("closing", "closing"))
-            await self.until(lambda: given.ledger.is_closed)
+            await self.wait_until(lambda: given.ledger.is_closed)
             self.assertEqual(touch_and_read_states(), ("closed", "closed"))
             given.files.path_of(folder.RESULTS).write_bytes(b"")
             self.assertEqual(touch_and_read_states(), ("results", "results"))
-            operate.write_publish_request(DAY, given.files)
+            operate.write_publish_request_or_stop(DAY, given.files)
             self.assertEqual(touch_and_read_states(), ("published", "published"))
             task.cancel()
             await asyncio.gather(task, return_exceptions=True)
 
+    def test_records_that_are_no_journal_have_no_state(self):
+        self.write_office()
+        files = self.office.list_folders_by_day()[DAY]
+        files.path_of(folder.DESK).touch()
+        for records, fault in ((["day,24"], "FieldCount in record 1"), (["day,24,,,,,,,", "close,A,,,,,,,"], "BadField in record 2 field 2")):
+            shown = mock.patch.object(operate.asyncio, "run", lambda _: records)
+            with mock.patch.object(operate, "capture_records", mock.Mock()), shown, self.assertRaises(command.Stop) as caught:
+                operate.capture_day_record_or_stop(files, "dam-desk")
+            self.assertEqual(str(caught.exception), f"the journal of {DAY} can't be read: input: {fault}")
+
     async def held(self, _):
         await asyncio.Event().wait()
+        yield None
 
     def test_a_close_says_why_it_waits(self):
-        self.make()
-        files = self.office.list_days()[DAY]
+        self.write_office()
+        files = self.office.list_folders_by_day()[DAY]
         for served, room, words in (
             (False, None, []),
             (True, None, [f"{DAY} has no head yet: the office's log says why"]),
@@ -270,23 +282,23 @@ class Closing(Office):
             ):
                 if served:
                     with self.assertRaises(command.Stop) as caught:
-                        operate.close_and_wait_for_results(self.office, DAY, files)
+                        operate.close_and_wait_or_stop(self.office, DAY, files)
                     self.assertEqual(caught.exception.status, command.UNDECIDED)
                 else:
-                    self.assertFalse(operate.close_and_wait_for_results(self.office, DAY, files))
+                    self.assertFalse(operate.close_and_wait_or_stop(self.office, DAY, files))
             self.assertEqual(len(said), len(words))
             for line, part in zip(said, words):
                 self.assertIn(part, line)
         self.assertTrue(files.has(folder.CLOSE_NOW))  # the request stays
 
     async def test_the_operator_closes_early(self):
-        self.make()
+        self.write_office()
         disk = Disk()
-        with opener(disk):
-            given = self.writer()
+        with patch_of_opening(disk):
+            given = self.day_writer_of()
             task = asyncio.create_task(given.write_until_published())
             await given.is_ready.wait()
-            await given.submit("GAS", 1, commands("cancel,GAS,A,,,,,,"))
+            await given.submit_or_refuse("GAS", 1, commands_of_records("cancel,GAS,A,,,,,,"))
             operate.write_request(given.files, folder.CLOSE_NOW)
             await task
         self.assertEqual(disk.records, ["cancel,GAS,A,,,,,,", "close,,,,,,,,"])

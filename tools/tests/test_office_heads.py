@@ -7,7 +7,7 @@ import os
 import unittest
 from unittest import mock
 
-from office_support import DAY, Disk, Office, commands, opener
+from office_support import DAY, Disk, Office, commands_of_records, patch_of_opening
 
 from lib.seal import heads
 from lib.tool import command
@@ -26,22 +26,22 @@ class SignedHeads(Office):
     RECORDS = tuple(f"cancel,GAS,{name},,,,,," for name in "ABC")
 
     async def entered(self, disk):
-        self.make()
-        with opener(disk):
-            async with self.running(self.writer()) as given:
-                await given.submit("GAS", 1, commands(*self.RECORDS))
+        self.write_office()
+        with patch_of_opening(disk):
+            async with self.running_writer(self.day_writer_of()) as given:
+                await given.submit_or_refuse("GAS", 1, commands_of_records(*self.RECORDS))
         return given.files.path_of(folder.SIGNED)
 
     async def started(self, disk):
         """The fault of a start, after which the same records are in the desk's file as before."""
         records = list(disk.records)
-        with opener(disk):
-            given = self.writer()
+        with patch_of_opening(disk):
+            given = self.day_writer_of()
             task = asyncio.create_task(given.write_until_published())
-            await self.until(lambda: given.fault or given.is_ready.is_set())
+            await self.wait_until(lambda: given.fault or given.is_ready.is_set())
             if given.fault:
                 with self.assertRaises(refusals.Refused):
-                    given.submit("GAS", 9, commands("cancel,GAS,Z,,,,,,"))
+                    given.submit_or_refuse("GAS", 9, commands_of_records("cancel,GAS,Z,,,,,,"))
             task.cancel()
             await asyncio.gather(task, return_exceptions=True)
         self.assertEqual(disk.records, records)
@@ -51,7 +51,7 @@ class SignedHeads(Office):
         disk = Disk()
         path = await self.entered(disk)
         kept, before = path.read_bytes(), list(disk.records)
-        self.assertEqual(heads.parse_line(kept, heads.parse_head)[0].size, 3)
+        self.assertEqual(heads.parse_value_and_is_written(kept, heads.parse_head)[0].size, 3)
         other = [*before[:1], "cancel,GAS,OTHER,,,,,,", *before[2:]]
         for records, fault in (([], "LostEntries"), (before[:2], "LostEntries"), (other, "OtherEntries"), (before, None)):
             disk.records[:] = records
@@ -81,7 +81,7 @@ class SignedHeads(Office):
         kept, own = path.read_bytes(), self.key
         for name in (folder.SIGNED, folder.HEAD):
             path = path.replace(path.with_name(name))
-            self.key = signing.new_key()
+            self.key = signing.draw_key()
             self.assertEqual(await self.started(disk), f"OtherKey: the head in {name} isn't signed by operator.pem, or was changed")
             self.assertEqual(path.read_bytes(), kept)
             self.key = own
@@ -91,63 +91,63 @@ class SignedHeads(Office):
             self.assertIsNone(await self.started(disk))
         path.unlink()
         path.with_name(folder.SIGNED).unlink()  # which the last start wrote
-        self.key = signing.new_key()
+        self.key = signing.draw_key()
         self.assertIsNone(await self.started(disk))
 
     async def test_nothing_is_entered_while_the_newest_head_isnt_kept(self):
-        self.make()
+        self.write_office()
         full = mock.patch.object(newest.os, "replace", mock.Mock(side_effect=OSError(errno.ENOSPC, "No space left on device")))
-        with opener(Disk()), mock.patch.object(newest, "PAUSE", 0.001):
-            async with self.running(self.writer()) as given:
+        with patch_of_opening(Disk()), mock.patch.object(newest, "PAUSE", 0.001):
+            async with self.running_writer(self.day_writer_of()) as given:
                 with full:
-                    await given.submit("GAS", 1, commands("cancel,GAS,A,,,,,,"))
-                    await self.until(lambda: not given.is_healthy)
+                    await given.submit_or_refuse("GAS", 1, commands_of_records("cancel,GAS,A,,,,,,"))
+                    await self.wait_until(lambda: not given.is_healthy)
                     with self.assertRaises(refusals.Refused) as caught:
-                        given.submit("GAS", 2, commands("cancel,GAS,B,,,,,,"))
+                        given.submit_or_refuse("GAS", 2, commands_of_records("cancel,GAS,B,,,,,,"))
                     self.assertEqual(caught.exception.fault, refusals.Fault.UNAVAILABLE)
-                    self.assertEqual(await given.submit("GAS", 1, commands("cancel,GAS,A,,,,,,")), [1])  # which is entered
-                await self.until(lambda: given.is_healthy)
-                self.assertEqual(await given.submit("GAS", 2, commands("cancel,GAS,B,,,,,,")), [2])
-                await self.until(lambda: given.newest.written is given.newest.head)
+                    self.assertEqual(await given.submit_or_refuse("GAS", 1, commands_of_records("cancel,GAS,A,,,,,,")), [1])  # which is entered
+                await self.wait_until(lambda: given.is_healthy)
+                self.assertEqual(await given.submit_or_refuse("GAS", 2, commands_of_records("cancel,GAS,B,,,,,,")), [2])
+                await self.wait_until(lambda: given.newest.written is given.newest.head)
                 with full:
-                    await given.submit("GAS", 3, commands("cancel,GAS,C,,,,,,"))
-                    await self.until(lambda: not given.is_healthy)
+                    await given.submit_or_refuse("GAS", 3, commands_of_records("cancel,GAS,C,,,,,,"))
+                    await self.wait_until(lambda: not given.is_healthy)
                     given.begin_close()  # which needs no head
-                    await self.until(lambda: given.ledger.is_closed)
+                    await self.wait_until(lambda: given.ledger.is_closed)
 
     async def test_a_stopped_day_says_so_and_isnt_closed(self):
         disk = Disk()
         await self.entered(disk)
         disk.records.pop()
-        records = mock.patch.object(operate.asyncio, "run", lambda _: ["day", *disk.records])
-        with mock.patch.object(operate, "run_for_records", mock.Mock()), records:
-            self.assertEqual(operate.read_status(self.office, "dam-desk")["days"][0]["state"], "open")
-            with opener(disk), self.office.holding():
-                given = self.writer()
+        records = mock.patch.object(operate.asyncio, "run", lambda _: ["day,24,,,,,,,", *disk.records])
+        with mock.patch.object(operate, "capture_records", mock.Mock()), records:
+            self.assertEqual(operate.capture_status_record(self.office, "dam-desk")["days"][0]["state"], "open")
+            with patch_of_opening(disk), self.office.holding():
+                given = self.day_writer_of()
                 await given.write_until_published()
-                found = operate.read_status(self.office, "dam-desk")
+                found = operate.capture_status_record(self.office, "dam-desk")
                 self.assertEqual(found["days"][0]["state"], "stopped")
                 self.assertRegex(list(operate.status_lines(found))[2], "^  stopped: LostEntries: the desk's journal has 2 entries")
                 with self.assertRaisesRegex(command.Stop, f"^{DAY} is stopped, and wasn't closed: LostEntries"):
-                    operate.close_and_wait_for_results(self.office, DAY, given.files)
+                    operate.close_and_wait_or_stop(self.office, DAY, given.files)
             self.assertFalse(given.files.has(folder.CLOSE_NOW))
-            self.assertEqual(operate.read_status(self.office, "dam-desk")["days"][0]["state"], "open")
+            self.assertEqual(operate.capture_status_record(self.office, "dam-desk")["days"][0]["state"], "open")
         disk.records.append(self.RECORDS[-1])
         self.assertIsNone(await self.started(disk))
         self.assertFalse(given.files.has(folder.STOPPED_DAY))
 
     async def test_an_opening_shows_the_entries_and_the_replies_that_were_answered(self):
-        self.make()
-        with opener(Disk()):
-            async with self.running(self.writer()) as given:
-                await given.submit("GAS", 1, commands(*self.RECORDS))
+        self.write_office()
+        with patch_of_opening(Disk()):
+            async with self.running_writer(self.day_writer_of()) as given:
+                await given.submit_or_refuse("GAS", 1, commands_of_records(*self.RECORDS))
                 records, replies = map(list, zip(*((entry.record, entry.reply) for entry in given.ledger.seal.entries)))
-                given.ledger.enter_rest_of_journal(records, replies)
+                given.ledger.enter_rest_of_journal_or_raise(records, replies)
                 others = [record.replace("GAS", "OIL") for record in records], ["done"] * 3
                 self.assertNotIn("done", replies)
                 for changed in ((others[0], replies), (records, others[1]), (records[:2], replies[:2])):
                     with self.subTest(changed), self.assertRaisesRegex(Contradiction, "journal doesn't begin with the 3 entries"):
-                        given.ledger.enter_rest_of_journal(*changed)
+                        given.ledger.enter_rest_of_journal_or_raise(*changed)
                 self.assertEqual(given.ledger.size, 3)
 
     async def test_a_start_notes_the_head_of_the_journal_that_it_serves(self):
@@ -155,7 +155,7 @@ class SignedHeads(Office):
         path = await self.entered(disk)
         path.unlink()
         self.assertIsNone(await self.started(disk))
-        self.assertEqual(newest.read_signed_head(path, self.key).size, 3)
+        self.assertEqual(newest.read_signed_head_or_none(path, self.key).size, 3)
 
     async def test_a_head_that_is_not_whole_is_named(self):
         """The journal can't be compared with it."""
@@ -175,87 +175,87 @@ class SignedHeads(Office):
         self.assertIn(folder.HEAD, await self.started(disk))
 
     async def test_the_file_is_soon_the_newest_head_and_never_an_older_one(self):
-        self.make()
-        with opener(Disk()), mock.patch.object(newest, "PAUSE", 0.01):
-            async with self.running(self.writer()) as given:
+        self.write_office()
+        with patch_of_opening(Disk()), mock.patch.object(newest, "PAUSE", 0.01):
+            async with self.running_writer(self.day_writer_of()) as given:
                 for number, record in enumerate(self.RECORDS, 1):
-                    await given.submit("GAS", number, commands(record))
-                    await self.until(lambda: given.newest.written is not None and given.newest.written.size == number)
-                    found = newest.read_signed_head(given.files.path_of(folder.SIGNED), self.key)
-                    self.assertEqual((found, found.root), (given.ledger.head(), given.ledger.seal.tree.root(number)))
-                given.newest.note_head(given.ledger.head(1))
+                    await given.submit_or_refuse("GAS", number, commands_of_records(record))
+                    await self.wait_until(lambda: given.newest.written is not None and given.newest.written.size == number)
+                    found = newest.read_signed_head_or_none(given.files.path_of(folder.SIGNED), self.key)
+                    self.assertEqual((found, found.root), (given.ledger.signed_head(), given.ledger.seal.tree.root(number)))
+                given.newest.note_head(given.ledger.signed_head(1))
                 self.assertEqual(given.newest.head.size, 3)
 
     async def test_an_orderly_end_has_the_head_of_a_batch_that_is_still_signed(self):
-        self.make()
-        sign = Ledger.sign_ahead
+        self.write_office()
+        sign = Ledger.sign_and_cache_heads
 
         async def slow(*args):
             await asyncio.sleep(0.05)
             await sign(*args)
 
-        with opener(Disk()), mock.patch.object(Ledger, "sign_ahead", slow):
-            async with self.running(self.writer()) as given:
-                given.submit("GAS", 1, commands(*self.RECORDS))
-                await self.until(lambda: given.ledger.size == 3)
-        self.assertEqual(newest.read_signed_head(given.files.path_of(folder.SIGNED), self.key).size, 3)
+        with patch_of_opening(Disk()), mock.patch.object(Ledger, "sign_and_cache_heads", slow):
+            async with self.running_writer(self.day_writer_of()) as given:
+                given.submit_or_refuse("GAS", 1, commands_of_records(*self.RECORDS))
+                await self.wait_until(lambda: given.ledger.size == 3)
+        self.assertEqual(newest.read_signed_head_or_none(given.files.path_of(folder.SIGNED), self.key).size, 3)
 
     async def test_the_file_is_written_seldom_and_its_faults_are_logged_once(self):
-        self.make()
+        self.write_office()
         log = io.StringIO()
-        with opener(Disk()):
-            async with self.running(self.writer(log=observed.Log(log))) as given:
+        with patch_of_opening(Disk()):
+            async with self.running_writer(self.day_writer_of(log=observed.Log(log))) as given:
                 given.files.path_of(f".{folder.SIGNED}").mkdir()
                 with mock.patch.object(newest, "PAUSE", 0.001), mock.patch.object(os, "replace", wraps=os.replace) as replaced:
-                    await given.submit("GAS", 1, commands(self.RECORDS[0]))
+                    await given.submit_or_refuse("GAS", 1, commands_of_records(self.RECORDS[0]))
                     await asyncio.sleep(0.05)
                     self.assertEqual((log.getvalue().count("signed head not kept"), replaced.call_count), (1, 0))
                     given.files.path_of(f".{folder.SIGNED}").rmdir()
-                    await self.until(lambda: given.newest.written is not None)
+                    await self.wait_until(lambda: given.newest.written is not None)
                 with mock.patch.object(newest, "PAUSE", 60), mock.patch.object(os, "replace", wraps=os.replace) as replaced:
-                    await self.until(given.newest.task.done)
+                    await self.wait_until(given.newest.task.done)
                     for number, record in enumerate(self.RECORDS[1:], 2):
-                        await given.submit("GAS", number, commands(record))
+                        await given.submit_or_refuse("GAS", number, commands_of_records(record))
                     await asyncio.sleep(0.05)
                     self.assertLessEqual(replaced.call_count, 1)
-        self.assertEqual(newest.read_signed_head(given.files.path_of(folder.SIGNED), self.key).size, 3)  # at an orderly end
+        self.assertEqual(newest.read_signed_head_or_none(given.files.path_of(folder.SIGNED), self.key).size, 3)  # at an orderly end
 
 
 class Numbers(Office):
     async def refused(self, given, who, first, *records):
         with self.assertRaises(refusals.Refused) as caught:
-            await given.submit(who, first, commands(*records))
+            await given.submit_or_refuse(who, first, commands_of_records(*records))
         return caught.exception.fault, caught.exception.more
 
     async def test_each_number_is_used_once(self):
-        self.make(share=5)
+        self.write_office(share=5)
         first, second, third = (f"cancel,GAS,{name},,,,,," for name in "ABC")
         disk, used, ahead = Disk(), refusals.Fault.NUMBER_USED, refusals.Fault.NUMBER_AHEAD
-        with opener(disk):
-            async with self.running(self.writer()) as given:
+        with patch_of_opening(disk):
+            async with self.running_writer(self.day_writer_of()) as given:
                 self.assertEqual(await self.refused(given, "GAS", 2, first), (ahead, {"next": 1}))
-                self.assertEqual(await given.submit("GAS", 1, commands(first, second)), [1, 2])
-                self.assertEqual(await given.submit("GAS", 1, commands(first, second)), [1, 2])
-                self.assertEqual(await given.submit("GAS", 2, commands(second, third)), [2, 3])
+                self.assertEqual(await given.submit_or_refuse("GAS", 1, commands_of_records(first, second)), [1, 2])
+                self.assertEqual(await given.submit_or_refuse("GAS", 1, commands_of_records(first, second)), [1, 2])
+                self.assertEqual(await given.submit_or_refuse("GAS", 2, commands_of_records(second, third)), [2, 3])
                 self.assertEqual(await self.refused(given, "GAS", 2, first), (used, {"number": 2, "next": 4}))
                 self.assertEqual(await self.refused(given, "GAS", 3, second, first), (used, {"number": 3, "next": 4}))
                 self.assertEqual(await self.refused(given, "GAS", 1, first, third), (used, {"number": 2, "next": 4}))
                 self.assertEqual(await self.refused(given, "GAS", 2, second, first, third), (used, {"number": 3, "next": 4}))
                 self.assertEqual(await self.refused(given, "GAS", 4, first, first, first), (refusals.Fault.SHARE_USED, {"next": 4}))
                 with self.assertRaisesRegex(refusals.Refused, "^you may enter 5 commands on this day, and have entered 3$"):
-                    await given.submit("GAS", 4, commands(first, first, first))
+                    await given.submit_or_refuse("GAS", 4, commands_of_records(first, first, first))
                 self.assertEqual((await self.refused(given, "OTHER", 1, "cancel,OTHER,A,,,,,,"))[0], refusals.Fault.SHARE_USED)
-                self.assertEqual(await given.submit("A", 1, commands("cancel,A,A,,,,,,")), [4])
+                self.assertEqual(await given.submit_or_refuse("A", 1, commands_of_records("cancel,A,A,,,,,,")), [4])
         self.assertEqual(disk.records, [first, second, third, "cancel,A,A,,,,,,"])
 
     async def test_requests_that_wait_together(self):
         """The same request twice, another one under its number, and the numbers after it in any order, all before the first is entered."""
-        self.make()
+        self.write_office()
         first, second, third = (f"cancel,GAS,{name},,,,,," for name in "ABC")
-        with opener(Disk()):
-            async with self.running(self.writer()) as given:
+        with patch_of_opening(Disk()):
+            async with self.running_writer(self.day_writer_of()) as given:
                 waiting = [
-                    given.submit("GAS", number, commands(*records))
+                    given.submit_or_refuse("GAS", number, commands_of_records(*records))
                     for number, *records in ((1, first), (1, first), (1, second), (2, second), (1, first, third), (3, third))
                 ]
                 found = await asyncio.gather(*waiting, return_exceptions=True)

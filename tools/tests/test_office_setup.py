@@ -16,9 +16,10 @@ import unittest
 from pathlib import Path
 from unittest import mock
 
-from office_support import DAY, FUTURE, NAMES, SECONDS, Disk, Office, commands, opener
-from support import AUCTION, TOOLS, TOP, run_help_for_unsaid, run_tool
+from office_support import DAY, FUTURE, NAMES, SECONDS, Disk, Office, commands_of_records, patch_of_opening
+from support import AUCTION, TOOLS, TOP, capture_unsaid_members, run_tool
 
+from lib.base import async_child
 from lib.sheets import sheets
 from lib.tool import command, modules
 
@@ -84,11 +85,11 @@ class Setup(Office):
         self.assertEqual(run_tool("office", "init", path, "--day", "2099-11-29", *words)[:2], (command.NO_INPUT, b""))
         status, out, _ = run_tool("office", "init", path, "--day", "2099-11-30", *words)
         self.assertEqual((status, [line[:5] for line in out.splitlines()[-1:]]), (command.DONE, [b"WIND."]))
-        self.assertEqual(sorted(self.office.list_days()), ["2099-11-29", "2099-11-30"])
+        self.assertEqual(sorted(self.office.list_folders_by_day()), ["2099-11-29", "2099-11-30"])
 
     def test_two_at_once_make_one_office(self):
         """The key that each prints is the stored one."""
-        made, printed = signing.new_key, []
+        made, printed = signing.draw_key, []
 
         def init():
             setup.make_office(self.office)
@@ -101,14 +102,14 @@ class Setup(Office):
             return made()
 
         other = threading.Thread(target=init)
-        with mock.patch.object(signing, "new_key", overtaken):
+        with mock.patch.object(signing, "draw_key", overtaken):
             init()
             other.join()
         self.assertEqual(printed, [self.office.path_of(folder.PUBLIC).read_text()] * 2)
 
     def test_two_at_once_make_one_day(self):
         """The other makes no token, which nobody would see."""
-        self.make()
+        self.write_office()
         terms, seen = folder.Terms("2026-11-30", 24, FUTURE, "UTC", {}), []
 
         def make():
@@ -132,7 +133,7 @@ class Setup(Office):
 
     def write_and_read_participants(self, text):
         self.table.write_text(text)
-        return setup.read_participants(self.table)
+        return setup.read_shares_and_print_notes(self.table)
 
     def test_tokens_that_can_not_be_printed(self):
         """The day is there, so it is said how the participants get others."""
@@ -147,7 +148,7 @@ class Setup(Office):
             os.close(stdout)
             said = b"%s was made; renew prints a new token for each participant whose token wasn't printed" % day.encode()
             self.assertEqual((ran.returncode, ran.stderr.splitlines()), (command.NO_INPUT, [b"office: " + said, *last]))
-            self.assertIn(day, self.office.list_days())
+            self.assertIn(day, self.office.list_folders_by_day())
 
     def test_a_public_key_of_another_key_is_seen(self):
         """By a start, and by a further day before it is made and a token is printed."""
@@ -157,7 +158,7 @@ class Setup(Office):
         public = self.office.path_of(folder.PUBLIC)
         kept = public.read_bytes()
         self.write_and_read_participants("participant\nGAS\nWIND\n")
-        for other in (signing.public_text(signing.new_key()), b"", kept[:-30]):
+        for other in (signing.public_bytes(signing.draw_key()), b"", kept[:-30]):
             public.write_bytes(other)
             with self.subTest(other=other):
                 with self.assertRaisesRegex(command.Stop, "operator.pem.pub isn't the public key of operator.pem"):
@@ -165,7 +166,7 @@ class Setup(Office):
                 status, out, err = run_tool("office", "init", self.office.path, "--day", "2099-11-30", *words)
                 self.assertEqual((status, out), (command.NO_INPUT, b""))
                 self.assertIn("isn't the public key of operator.pem", err)
-                self.assertEqual(list(self.office.list_days()), ["2099-11-29"])
+                self.assertEqual(list(self.office.list_folders_by_day()), ["2099-11-29"])
         public.write_bytes(kept.replace(b"\n", b"\r\n"))
         self.assertEqual(self.office.require_public_text(self.office.read_key()).split(), kept.decode().split())
 
@@ -233,7 +234,7 @@ class Setup(Office):
         path = self.office.path.parent / "p.xlsx"
         path.write_bytes(b"PK\x03\x04\xff")
         with self.assertRaisesRegex(command.Stop, "p.xlsx: line 1: the Excel workbook can't be read"):
-            setup.read_participants(path)
+            setup.read_shares_and_print_notes(path)
 
     def test_a_workbook_of_participants_is_read(self):
         if not modules.has_module("openpyxl"):
@@ -247,12 +248,12 @@ class Setup(Office):
         status, out, err = run_tool("office", "init", self.office.path, *words)
         self.assertEqual((status, err), (command.DONE, f"office: note: {path}: of 2 sheets, 'Sheet' was read\n"))
         self.assertEqual(list(json.loads(out)["tokens"]), ["A", "GAS"])
-        self.assertEqual(self.office.list_days()["2099-11-29"].read_terms().shares, {"A": 100, "GAS": 9_899})
+        self.assertEqual(self.office.list_folders_by_day()["2099-11-29"].read_terms().shares, {"A": 100, "GAS": 9_899})
         made["Sheet"].append(["OIL", "=1+1"])
         made.save(path)
         said = "line 5, column commands: '=1\\+1' is a formula that was saved without its value: .*\n  of 2 sheets, 'Sheet' was read$"
         with self.assertRaisesRegex(command.Stop, said):
-            setup.read_participants(path)
+            setup.read_shares_and_print_notes(path)
 
     def test_a_table_without_the_column_is_named(self):
         for text in ("GAS\nWIND\n", "name,commands\nGAS,1\n", "", "participants\nGAS\n"):
@@ -268,7 +269,7 @@ class Setup(Office):
         self.write_and_read_participants("participant\nA\nOIL\n")
         terms, made = setup.make_or_extend_office(self.office, self.args(day=later[1], participants=path))
         self.assertEqual((list(made), list(terms.shares)), (["OIL"], ["A", "OIL"]))
-        self.assertEqual(list(self.office.list_days()), list(later))
+        self.assertEqual(list(self.office.list_folders_by_day()), list(later))
         with self.assertRaisesRegex(command.Stop, "already"):
             setup.make_or_extend_office(self.office, self.args(day=later[1]))
         self.assertEqual([path.name for path in self.office.path_of(folder.DAYS).iterdir() if path.name.startswith(".")], [])
@@ -276,7 +277,7 @@ class Setup(Office):
     def test_the_demo_has_the_orders_of_the_guide_and_more(self):
         guide = (AUCTION.parent / "guide" / "1-hour.csv").read_text().splitlines()
         self.assertEqual(demo.GUIDE, [record for record in guide[1:-1] if ",GAS," not in record])
-        found = commands(*demo.ORDERS)
+        found = commands_of_records(*demo.ORDERS)
         shares = setup.require_shares(dict.fromkeys(demo.PARTICIPANTS))
         self.assertLessEqual({one.who for one in found}, set(shares) - {"GAS"})
         for side in ("buy", "sell"):
@@ -287,9 +288,9 @@ class Setup(Office):
         for seconds in ("0", "-1", "86401", "1.5", "x"):
             self.assertEqual(run_tool("office", "demo", "--no-browser", "--seconds", seconds)[0], command.COMMAND_LINE, seconds)
         closed = mock.AsyncMock(side_effect=refusals.Refused(refusals.Fault.CLOSED, "closed"))
-        writer = mock.Mock(is_ready=mock.Mock(wait=mock.AsyncMock()), submit=closed)
+        writer = mock.Mock(is_ready=mock.Mock(wait=mock.AsyncMock()), submit_or_refuse=closed)
         with self.assertRaisesRegex(command.Stop, r"^the demo's own orders weren't entered \(closed\): give more --seconds$") as raised:
-            asyncio.run(demo.enter_orders(writer))
+            asyncio.run(demo.enter_orders_or_stop(writer))
         self.assertEqual(raised.exception.status, command.COMMAND_LINE)
 
     def test_the_command_line(self):
@@ -326,7 +327,7 @@ class Setup(Office):
         """The first `--` ends the options, and each further one is a word: a day `--` isn't the only day, which could not be opened again."""
         self.write_and_read_participants("participant\nGAS\n")
         run_tool("office", "init", self.office.path, "--day", "2099-11-29", "--close", "12:00", "--participants", self.table)
-        (day,) = self.office.list_days().values()
+        (day,) = self.office.list_folders_by_day().values()
         for name in ("close", "publish"):
             for words in ([self.office.path, "--", "--"], ["--", self.office.path, "--"]):
                 said = "office: there is no day --: there is 2099-11-29\n"
@@ -345,7 +346,7 @@ class Setup(Office):
     def test_the_words_on_a_day_with_results(self):
         self.write_and_read_participants("participant\nGAS\n")
         run_tool("office", "init", self.office.path, "--day", "2099-11-29", "--close", "12:00", "--participants", self.table)
-        (day,) = self.office.list_days().values()
+        (day,) = self.office.list_folders_by_day().values()
         day.path_of(folder.RESULTS).touch()
         for name, said in (
             ("close", b"2099-11-29 is closed, and has its results\n"),
@@ -359,14 +360,14 @@ class Setup(Office):
         seen = []
         for name, *more in (["init", *words], ["revoke", "GAS"], ["renew", "GAS"], ["close"], ["status", "--desk", "true"], ["publish"]):
             if name == "publish":
-                (file,) = (files.path_of(folder.RESULTS) for files in self.office.list_days().values())
+                (file,) = (files.path_of(folder.RESULTS) for files in self.office.list_folders_by_day().values())
                 file.touch()
             made = json.loads(run_tool("office", name, self.office.path, *more, "--json")[1])
             parts = [part for day in made.get("days", []) for part in (day, *(of_one for of_one in day["commands"].values()))]
             seen += parts
             with self.subTest(name):
                 self.assertEqual((made["status"], made["message"]), (0, None))
-                self.assertEqual(run_help_for_unsaid("office", made, *parts), set())
+                self.assertEqual(capture_unsaid_members("office", made, *parts), set())
         self.assertEqual(len(seen), 2)
 
     def test_the_events_of_the_page(self):
@@ -399,10 +400,10 @@ class Setup(Office):
 
     def test_a_fault_of_the_disk_names_the_file(self):
         self.addCleanup(os.umask, os.umask(0o077))
-        self.make()
+        self.write_office()
         room = self.office.path.parent
         self.write_and_read_participants("participant\nGAS\n")
-        tokens.Register(self.office.path_of(folder.PARTICIPANTS)).write_new_participants(["GAS"])
+        tokens.Register(self.office.path_of(folder.PARTICIPANTS)).write_and_return_new_tokens(["GAS"])
         words = ["--day", "2099-11-28", "--close", "12:00", "--participants", room / "p.csv"]
         day = self.office.path_of(folder.DAYS) / DAY
         for path, asked in (
@@ -424,7 +425,7 @@ class Setup(Office):
         full = OSError(errno.ENOSPC, "No space left on device")
         for fault in (full, OSError(errno.ENOSPC, full.strerror, ".dam-0123")):
             with mock.patch.object(folder.replacing, "write_replacing", side_effect=fault), self.assertRaises(OSError) as caught:
-                self.make()
+                self.write_office()
             self.assertRegex(caught.exception.filename, "operator.pem")
             self.assertEqual(command.status_and_message(caught.exception)[0], command.NO_INPUT)
             self.assertIn(f"{caught.exception.filename} can't be used: No space", command.status_and_message(caught.exception)[1])
@@ -437,7 +438,7 @@ class Setup(Office):
 
     def test_a_file_is_on_the_disk_before_it_has_its_name(self):
         """And the folder with the name after that: a crash leaves the old file or the whole new one."""
-        self.make()
+        self.write_office()
         path, data, calls, rename = self.office.path / "results.txt", b"new" * 100, [], os.rename
 
         def synced(number):
@@ -456,18 +457,18 @@ class Setup(Office):
             self.assertEqual(calls, [("sync", made, data), ("rename", made, path), ("sync", path.parent, False)], old)
 
     async def test_a_day_that_cant_be_read_is_named_and_the_others_are_served(self):
-        self.make()
+        self.write_office()
         later = "2026-11-30"
-        setup.make_day(self.office, folder.Terms(later, 24, FUTURE, "UTC", dict.fromkeys(NAMES, 10)))
-        salts = self.office.list_days()[DAY].path_of(folder.SALTS)
+        setup.make_day_or_stop(self.office, folder.Terms(later, 24, FUTURE, "UTC", dict.fromkeys(NAMES, 10)))
+        salts = self.office.list_folders_by_day()[DAY].path_of(folder.SALTS)
         kept = salts.read_bytes()
         salts.unlink()
         salts.mkdir()
         log = io.StringIO()
-        with opener(Disk()), mock.patch.object(serving, "LOOK_SECONDS", 0.001):
+        with patch_of_opening(Disk()), mock.patch.object(serving, "LOOK_SECONDS", 0.001):
             served = serving.Office(self.office, programs.Programs("dam", "dam-desk"), observed.Log(log))
             task = asyncio.create_task(served.take_up_days_forever())
-            await self.until(lambda: later in served.writers)
+            await self.wait_until(lambda: later in served.writers)
             await served.writers[later].is_ready.wait()
             await asyncio.sleep(0.02)
             self.assertFalse(served.is_healthy)
@@ -476,26 +477,26 @@ class Setup(Office):
             self.assertIn(str(salts), said[0]["fault"])
             salts.rmdir()
             salts.write_bytes(kept)
-            await self.until(lambda: DAY in served.writers)
+            await self.wait_until(lambda: DAY in served.writers)
             await served.writers[DAY].is_ready.wait()
-            await self.until(lambda: served.is_healthy)
+            await self.wait_until(lambda: served.is_healthy)
             task.cancel()
             await asyncio.gather(task, return_exceptions=True)
             await served.stop_days()
 
     async def looked(self):
         """The reasons why days aren't served, after one look, and the days that are."""
-        with opener(Disk()):
+        with patch_of_opening(Disk()):
             served = serving.Office(self.office, programs.Programs("dam", "dam-desk"), observed.Log(io.StringIO()))
-            missed = served.take_up_days()
+            missed = served.take_up_days_and_return_missed()
             await served.stop_days()
         return missed, list(served.writers)
 
     async def test_a_day_with_a_damaged_file_is_named_and_the_others_are_served(self):
-        self.make()
+        self.write_office()
         later = "2026-11-30"
-        setup.make_day(self.office, folder.Terms(later, 24, FUTURE, "UTC", dict.fromkeys(NAMES, 10)))
-        files = self.office.list_days()[DAY]
+        setup.make_day_or_stop(self.office, folder.Terms(later, 24, FUTURE, "UTC", dict.fromkeys(NAMES, 10)))
+        files = self.office.list_folders_by_day()[DAY]
         for name in (folder.TERMS, folder.SALTS):
             kept = files.read_file(name)
             for damage in (b"", b"{\n", b"[]\n", b"{}\n", b"\xff", kept[:40]):
@@ -508,9 +509,9 @@ class Setup(Office):
         self.assertEqual(await self.looked(), ({}, [DAY, later]))
 
     async def test_a_day_whose_folder_cant_be_read_is_named_and_the_others_are_served(self):
-        self.make()
+        self.write_office()
         later = "2026-11-30"
-        setup.make_day(self.office, folder.Terms(later, 24, FUTURE, "UTC", dict.fromkeys(NAMES, 10)))
+        setup.make_day_or_stop(self.office, folder.Terms(later, 24, FUTURE, "UTC", dict.fromkeys(NAMES, 10)))
         has = folder.DayFolder.has
 
         def denied(files, name):
@@ -524,39 +525,39 @@ class Setup(Office):
         self.assertIn("Permission denied", missed[DAY])
 
     async def test_damaged_tokens_are_named_and_no_defect_of_a_request(self):
-        self.make()
+        self.write_office()
         path, log = self.office.path_of(folder.PARTICIPANTS), io.StringIO()
-        token = tokens.Register(path).write_new_participants(["GAS"])["GAS"]
+        token = tokens.Register(path).write_and_return_new_tokens(["GAS"])["GAS"]
         kept = path.read_bytes()
         asked = mock.Mock(match_info={"who": "GAS"}, headers={"Authorization": f"Bearer {token}"}, remote="127.0.0.1")
-        with opener(Disk()), mock.patch.object(serving, "LOOK_SECONDS", 0.001):
+        with patch_of_opening(Disk()), mock.patch.object(serving, "LOOK_SECONDS", 0.001):
             served = serving.Office(self.office, programs.Programs("dam", "dam-desk"), observed.Log(log))
             answers = admission.Admission(served, budgets.Budgets(behind_proxy=False))
             task = asyncio.create_task(served.take_up_days_forever())
-            await self.until(lambda: DAY in served.writers and served.writers[DAY].is_ready.is_set() and served.is_healthy)
-            self.assertEqual(answers.require_authorized(asked), "GAS")
+            await self.wait_until(lambda: DAY in served.writers and served.writers[DAY].is_ready.is_set() and served.is_healthy)
+            self.assertEqual(answers.require_authorized_participant(asked), "GAS")
             for damage in (b"{", b"[1]", None):
                 path.unlink(missing_ok=True)
                 if damage is not None:
                     path.write_bytes(damage)
                 with self.subTest(damage=damage), self.assertRaises(refusals.Refused) as caught:
-                    answers.require_authorized(asked)
+                    answers.require_authorized_participant(asked)
                 self.assertEqual(caught.exception.fault, refusals.Fault.UNAVAILABLE)
-                await self.until(lambda: not served.is_healthy)
+                await self.wait_until(lambda: not served.is_healthy)
                 said = json.loads(log.getvalue().splitlines()[-1])
                 self.assertEqual((said["event"], said["day"]), ("not served", None))
                 self.assertIn(str(path), said["fault"])
                 path.write_bytes(kept)
-                await self.until(lambda: served.is_healthy)
-                self.assertEqual(answers.require_authorized(asked), "GAS")
+                await self.wait_until(lambda: served.is_healthy)
+                self.assertEqual(answers.require_authorized_participant(asked), "GAS")
             task.cancel()
             await asyncio.gather(task, return_exceptions=True)
             await served.stop_days()
 
     def test_a_damaged_file_is_no_defect_of_the_tool(self):
         self.addCleanup(os.umask, os.umask(0o077))
-        self.make()
-        terms, participants = self.office.list_days()[DAY].path_of(folder.TERMS), self.office.path_of(folder.PARTICIPANTS)
+        self.write_office()
+        terms, participants = self.office.list_folders_by_day()[DAY].path_of(folder.TERMS), self.office.path_of(folder.PARTICIPANTS)
         for path, kind in ((terms, "the terms of a day"), (participants, "the digests of the participants' tokens")):
             kept = path.read_bytes()
             for damage in (b"{", b"[" * 100_000, *others(json.loads(kept))):
@@ -569,8 +570,8 @@ class Setup(Office):
     def test_where_the_terms_of_a_day_are_odd(self):
         """The fault names the member."""
         self.addCleanup(os.umask, os.umask(0o077))
-        self.make()
-        path = self.office.list_days()[DAY].path_of(folder.TERMS)
+        self.write_office()
+        path = self.office.list_folders_by_day()[DAY].path_of(folder.TERMS)
         kept = path.read_bytes()
         value = json.loads(kept)
         periods, zone = "periods should be one of 23, 24, 25, 92, 96, 100, and is ", "zone should be a time zone of this system, and is "
@@ -614,7 +615,7 @@ class Setup(Office):
         with mock.patch("lib.tool.modules.has_zone", return_value=False):
             self.check_odd_terms(path, kept, f'{zone}"UTC"', False)
         path.write_bytes(kept)
-        self.assertEqual(self.office.list_days()[DAY].read_terms().json_value(), value)
+        self.assertEqual(self.office.list_folders_by_day()[DAY].read_terms().json_value(), value)
 
     def check_odd_terms(self, path, data, words, by_status=True):
         """Terms whose fault has these words."""
@@ -622,7 +623,7 @@ class Setup(Office):
         said = f"{path} can't be used: it isn't the terms of a day: {words}"
         with self.subTest(words):
             with self.assertRaises(command.Stop) as fault:
-                self.office.list_days()[DAY].read_terms()
+                self.office.list_folders_by_day()[DAY].read_terms()
             self.assertEqual(str(fault.exception), said)
             if by_status:
                 status, _, err = run_tool("office", "status", self.office.path, "--desk", "true")
@@ -630,10 +631,10 @@ class Setup(Office):
 
     def test_the_status_has_the_other_days_of_one_that_cant_be_read(self):
         self.addCleanup(os.umask, os.umask(0o077))
-        self.make()
+        self.write_office()
         later = "2026-11-30"
-        setup.make_day(self.office, folder.Terms(later, 24, FUTURE, "UTC", dict.fromkeys(NAMES, 10)))
-        self.office.list_days()[DAY].path_of(folder.TERMS).write_bytes(b"{")
+        setup.make_day_or_stop(self.office, folder.Terms(later, 24, FUTURE, "UTC", dict.fromkeys(NAMES, 10)))
+        self.office.list_folders_by_day()[DAY].path_of(folder.TERMS).write_bytes(b"{")
         status, out, err = run_tool("office", "status", self.office.path, "--desk", "true")
         self.assertEqual((status, out.decode().splitlines()[1]), (command.NO_INPUT, f"{DAY}: can't be read"))
         self.assertTrue(out.decode().splitlines()[2].startswith(f"{later}: open, 0 entries"))
@@ -644,14 +645,14 @@ class Setup(Office):
         self.assertIn("terms.json can't be used", made["days"][0]["fault"])
 
     def test_what_root_makes_is_the_owners(self):
-        self.make()
+        self.write_office()
         later = "2026-11-30"
         with mock.patch.object(os, "geteuid", return_value=0), mock.patch.object(os, "chown") as chown:
-            setup.make_day(self.office, folder.Terms(later, 24, FUTURE, "UTC", dict.fromkeys(NAMES, 10)))
+            setup.make_day_or_stop(self.office, folder.Terms(later, 24, FUTURE, "UTC", dict.fromkeys(NAMES, 10)))
             with self.office.holding():
                 pass
-            tokens.Register(self.office.path_of(folder.PARTICIPANTS)).write_new_participants(["GAS"])
-            operate.write_request(self.office.list_days()[later], folder.CLOSE_NOW)
+            tokens.Register(self.office.path_of(folder.PARTICIPANTS)).write_and_return_new_tokens(["GAS"])
+            operate.write_request(self.office.list_folders_by_day()[later], folder.CLOSE_NOW)
         owner = os.stat(self.office.path)
         self.assertEqual({call.args[1:] for call in chown.call_args_list}, {(owner.st_uid, owner.st_gid)})
         given = [call.args[0] for call in chown.call_args_list]
@@ -693,20 +694,20 @@ class Setup(Office):
         made.chmod(0o755)
         tracemalloc.start()
         self.addCleanup(tracemalloc.stop)
-        for call in (programs.run_for_output(str(made), "clear", data=b"x" * 300_000), desk.run_for_records(str(made), "file")):
+        for call in (programs.capture_output_or_raise(str(made), "clear", data=b"x" * 300_000), desk.capture_records(str(made), "file")):
             with self.assertRaises((programs.ProgramFailed, desk.Ended)) as raised:
                 asyncio.run(call)
-            self.assertTrue(str(raised.exception).endswith("ended with status 3: begin\n" + "x" * (desk.MOST_FAULT - len("begin\n"))))
+            self.assertTrue(str(raised.exception).endswith("ended with status 3: begin\n" + "x" * (async_child.MOST_FAULT - len("begin\n"))))
         self.assertLess(tracemalloc.get_traced_memory()[1], 8 << 20)
         made.write_text("#!/bin/sh\nexec head -c 3000000 /dev/zero\n")
-        with mock.patch.object(desk, "MOST_PRINTED", 2_000_000):
-            for call in (programs.run_for_output(str(made), "clear"), desk.run_for_records(str(made), "file")):
+        with mock.patch.object(async_child, "MOST_PRINTED_BYTES", 2_000_000):
+            for call in (programs.capture_output_or_raise(str(made), "clear"), desk.capture_records(str(made), "file")):
                 with self.assertRaisesRegex(OSError, f"it printed 2,000,000 bytes or more: '{made}'$"):
                     asyncio.run(call)
 
     def test_how_a_program_ended(self):
-        self.assertEqual(desk.end_words(4), "ended with status 4")
-        self.assertEqual(desk.end_words(-9), "was ended by signal 9")
+        self.assertEqual(async_child.end_words(4), "ended with status 4")
+        self.assertEqual(async_child.end_words(-9), "was ended by signal 9")
 
     def test_the_proxy_of_the_examples_has_the_limits_of_the_office(self):
         """It is in front of the port of the unit, and limits addresses as an office without a proxy does."""

@@ -27,7 +27,7 @@ except ImportError:  # without python3-aiohttp and the like, whose tests are ski
 
 class Tokens(Office):
     def test_tokens_are_random_hashed_and_one_participants(self):
-        self.make()
+        self.write_office()
         register = tokens.Register(self.office.path_of(folder.PARTICIPANTS))
         made = {who: register.write_new_token(who) for who in NAMES}
         text = self.office.path_of(folder.PARTICIPANTS).read_text()
@@ -47,7 +47,7 @@ class Tokens(Office):
         self.assertTrue(served.is_token_of("GAS", new) and not served.is_token_of("GAS", made["GAS"]))
 
     def test_a_new_token_counts_also_within_the_resolution_of_the_file_s_time(self):
-        self.make()
+        self.write_office()
         path = self.office.path_of(folder.PARTICIPANTS)
         register, served = tokens.Register(path), tokens.Register(path)
         old = register.write_new_token("GAS")
@@ -60,14 +60,14 @@ class Tokens(Office):
 
     def test_no_change_of_the_tokens_is_lost(self):
         """Several processes change them at the same time: here threads, each with the file for itself."""
-        self.make()
+        self.write_office()
         path = self.office.path_of(folder.PARTICIPANTS)
         names = [[thread + number for number in "VWXYZ"] for thread in "ABCDEFGH"]
         made = {}
 
         def change(own):
             register = tokens.Register(path)
-            made.update(register.write_new_participants(own[1:]))
+            made.update(register.write_and_return_new_tokens(own[1:]))
             made[own[0]] = register.write_new_token(own[0])
             register.write_revoked(own[1])
 
@@ -79,7 +79,7 @@ class Tokens(Office):
         register = tokens.Register(path)
         for own in names:
             self.assertEqual([register.is_token_of(who, made[who]) for who in own], [True, False, True, True, True])
-        self.assertEqual(register.write_new_participants(names[0]), {})
+        self.assertEqual(register.write_and_return_new_tokens(names[0]), {})
 
     def test_each_connection_may_be_sent_a_file(self):
         """Slow downloads leave files for the close."""
@@ -95,7 +95,7 @@ class Tokens(Office):
     def test_files_are_the_owners_alone(self):
         before = os.umask(0o077)
         self.addCleanup(os.umask, before)
-        self.make()
+        self.write_office()
         for path in [self.office.path, *self.office.path.rglob("*")]:
             self.assertEqual(stat.S_IMODE(path.stat().st_mode) & 0o077, 0, path)
         self.office.path_of(folder.KEY).chmod(0o644)
@@ -120,9 +120,9 @@ class Tokens(Office):
         self.assertEqual(sources[3], sources[4])
 
     async def test_the_length_of_the_records_of_a_table_counts(self):
-        self.make()
+        self.write_office()
         office = serving.Office(self.office, programs.Programs("dam", "dam-desk"), observed.Log(io.StringIO()))
-        office.writers[DAY] = self.writer()
+        office.writers[DAY] = self.day_writer_of()
         office.writers[DAY].is_known.set()
         made = web.Web(office)
         made.budgets.reads = guards.Buckets(0.001, budgets.MOST_READS, lambda: 0.0)
@@ -134,13 +134,13 @@ class Tokens(Office):
         content = argparse.Namespace(is_eof=lambda: True)
         asked = argparse.Namespace(headers=headers, match_info={"who": "GAS", "day": DAY}, content=content)
         asked.transport, asked.read = content, mock.AsyncMock(return_value=b"x")
-        with mock.patch.object(reader, "run_for_table_records_and_notes", read):
+        with mock.patch.object(reader, "capture_table_records_and_notes", read):
             answer = await made.answer_table(asked)
         self.assertEqual(json.loads(answer.text)["notes"], [])
         self.assertLess(made.budgets.reads.tokens_left("GAS"), budgets.MOST_READS - budgets.READS_OF_TABLE - 150)
 
     async def test_limits_of_strangers_are_those_of_their_network(self):
-        self.make()
+        self.write_office()
         office = serving.Office(self.office, programs.Programs("dam", "dam-desk"), observed.Log(io.StringIO()))
         made = web.Web(office)
         protocol = argparse.Namespace(is_deaf=False)
@@ -152,7 +152,7 @@ class Tokens(Office):
         found = []
         for number in range(budgets.MOST_GUESSES + 5):
             with self.assertRaises(refusals.Refused) as caught:
-                made.admission.require_authorized(asked(number, {"who": "GAS"}))
+                made.admission.require_authorized_participant(asked(number, {"who": "GAS"}))
             found.append(caught.exception.fault)
         self.assertEqual((found[0], found[-1]), (refusals.Fault.TOKEN, refusals.Fault.TOO_FAST))
         made.budgets.looks = guards.Buckets(0.001, 3, lambda: 0.0)
@@ -163,7 +163,7 @@ class Tokens(Office):
 
     async def test_an_expectation_passes_no_limit(self):
         """Also at a path or a method that the office doesn't know. It isn't repeated; a client that waits before its body is answered."""
-        self.make()
+        self.write_office()
         office = serving.Office(self.office, programs.Programs("dam", "dam-desk"), observed.Log(io.StringIO()))
         made = web.Web(office)
         made.budgets.looks = guards.Buckets(0.001, 4, lambda: 0.0)
@@ -195,22 +195,22 @@ class Tokens(Office):
     def test_guesses_are_slowed_down_and_others_are_not(self):
         now = [0.0]
         buckets = guards.Buckets(1, 3, lambda: now[0])
-        self.assertEqual([buckets.take_unless_in_debt("a") > 0 for _ in range(5)], [False, False, False, True, True])
-        self.assertEqual(buckets.take_unless_in_debt("b"), 0)
+        self.assertEqual([buckets.charge_and_return_seconds_to_wait("a") > 0 for _ in range(5)], [False, False, False, True, True])
+        self.assertEqual(buckets.charge_and_return_seconds_to_wait("b"), 0)
         now[0] = 1.0
-        self.assertEqual([buckets.take_unless_in_debt("a") > 0 for _ in range(2)], [False, True])
-        self.assertEqual(buckets.take_unless_in_debt("c", 1_000), 0)
-        self.assertGreater(buckets.take_unless_in_debt("c"), 900)
+        self.assertEqual([buckets.charge_and_return_seconds_to_wait("a") > 0 for _ in range(2)], [False, True])
+        self.assertEqual(buckets.charge_and_return_seconds_to_wait("c", 1_000), 0)
+        self.assertGreater(buckets.charge_and_return_seconds_to_wait("c"), 900)
         buckets.charge("c", 1_000)
-        self.assertGreater(buckets.take_unless_in_debt("c"), 1_900, "what is charged is owed, also in debt")
+        self.assertGreater(buckets.charge_and_return_seconds_to_wait("c"), 1_900, "what is charged is owed, also in debt")
         with mock.patch.object(guards, "MOST_BUCKETS", 5):
             for number in range(100):
                 now[0] += 10_000
-                buckets.take_unless_in_debt(number)
+                buckets.charge_and_return_seconds_to_wait(number)
             self.assertLessEqual(len(buckets.held), 6)
-            buckets.take_unless_in_debt("d", 2)
+            buckets.charge_and_return_seconds_to_wait("d", 2)
             for number in range(100):
-                buckets.take_unless_in_debt(number)
+                buckets.charge_and_return_seconds_to_wait(number)
         self.assertEqual(buckets.tokens_left("d"), 1, "many names don't fill a bucket again")
 
 

@@ -1,13 +1,44 @@
-"""The packages of tools/lib: each imports only those that its docstring names, nothing private crosses, and no two import each other."""
+"""The packages of tools/lib: each imports only those that its docstring names, nothing private crosses, and no two import each other.
+And the modules of all folders: no definition hides another one, and each name that is asked of a module is one that it defines."""
 
 import ast
+import collections
 import re
 import unittest
+from pathlib import Path
 
+import asked_names
 from support import TOP
 
 LIB = TOP / "tools" / "lib"
 PACKAGES = sorted(path.parent.name for path in LIB.glob("*/__init__.py"))
+MODULES = [*LIB.rglob("*.py"), *(TOP / "bench").glob("*.py"), *(TOP / "tests").rglob("*.py"), *(TOP / "tools" / "tests").glob("*.py")]
+# Code that asks for stale names, each once, and for names that modules have, or that no module is asked for.
+STALE = """
+import compare
+from lib.base import stale_1, text
+from lib.journal.book import Book, stale_2
+from lib import journal as of_journals
+
+text.mw, text.stale_3, of_journals.book.Book, of_journals.stale_4, compare.stale_5
+Book.copy, Book.stale_6
+text.stale_7 = text.mw
+mock.patch.object(text, "mw"), mock.patch.object(text, "stale_8"), mock.patch.object(Book, "stale_9")
+mock.patch.multiple(text, mw=1, stale_10=2), mock.patch.multiple("lib.base.text", stale_11=2)
+mock.patch("lib.base.text.mw"), unittest.mock.patch("lib.base.text.stale_12"), mock.patch("sys.stderr", 1)
+setattr(text, "stale_13", 1), getattr(text, "stale_14"), getattr(text, "other", None)
+CODE = "from lib.tool import modules\\nmodules.has_module({words}), modules.stale_15\\n"
+
+
+def words(text):
+    return text.other, [journal.other for journal in text], json.other
+
+
+def later():
+    from lib.results import results
+
+    return results.stale_16, lambda: results.stale_17, text.stale_18
+"""
 MAY = re.compile(r"^It may import: (.*)\.$", re.MULTILINE)
 
 
@@ -15,6 +46,14 @@ def allowed(package):
     """The packages that a docstring names."""
     (words,) = MAY.findall(ast.get_docstring(ast.parse((LIB / package / "__init__.py").read_text())))
     return set() if words == "nothing of tools/lib" else set(words.split(", "))
+
+
+def files_in_python():
+    """The files in Python, with the scripts that start it. Folders that a clone ignores are left out."""
+    folders = [TOP / name for name in ("bench", "docs", "examples", "library", "manual", "package", "tests", "tools")]
+    for path in [*TOP.iterdir(), *(path for folder in folders for path in folder.rglob("*"))]:
+        if path.is_file() and (path.suffix == ".py" or not path.suffix and re.match(rb"#!.*python", path.read_bytes()[:80])):
+            yield path.resolve()
 
 
 def imports(path):
@@ -38,6 +77,14 @@ def private_names(tree):
             yield f"{node.value.id}.{node.attr}"
 
 
+def hidden_names(tree):
+    """The names that a module or a class gives to several of its classes or functions, of which the last hides the others."""
+    for node in ast.walk(tree):
+        if isinstance(node, (ast.Module, ast.ClassDef)):
+            names = [one.name for one in node.body if isinstance(one, (ast.ClassDef, ast.FunctionDef, ast.AsyncFunctionDef))]
+            yield from (name for name, count in collections.Counter(names).items() if count > 1)
+
+
 class Packages(unittest.TestCase):
     def test_every_module_is_in_a_package(self):
         self.assertEqual([path.name for path in LIB.glob("*.py")], ["__init__.py"])
@@ -56,10 +103,24 @@ class Packages(unittest.TestCase):
 
     def test_no_private_name_is_asked_of_another_module(self):
         self.assertEqual(list(private_names(ast.parse("from ..journal import book\nbook._rows, book.rows, self._rows"))), ["book._rows"])
-        users = [*LIB.rglob("*.py"), *(TOP / "bench").glob("*.py"), *(TOP / "tests").rglob("*.py"), *(TOP / "tools" / "tests").glob("*.py")]
-        for path in users:
+        for path in MODULES:
             with self.subTest(path=str(path.relative_to(TOP))):
                 self.assertEqual(list(private_names(ast.parse(path.read_text()))), [])
+
+    def test_no_definition_hides_another(self):
+        twice = "def a(): pass\nclass A:\n    def b(self): pass\n    def a(self): pass\n    def b(self): pass\nclass A: pass\n"
+        self.assertEqual(list(hidden_names(ast.parse(twice))), ["A", "b"])
+        for path in MODULES:
+            with self.subTest(path=str(path.relative_to(TOP))):
+                self.assertEqual(list(hidden_names(ast.parse(path.read_text()))), [])
+
+    def test_names_asked_of_modules_are_theirs(self):
+        """Among others, in this file: the scan finds each stale name of STALE."""
+        for path in files_in_python():
+            planted = [f"stale_{number}" for number in range(1, 19)] if path == Path(__file__).resolve() else []
+            with self.subTest(path=str(path.relative_to(TOP))):
+                asked = asked_names.asked_names_of_text(path.read_text(), path.parent)
+                self.assertEqual([name for name, is_there in asked if not is_there], planted)
 
     def test_the_notes_have_each_package(self):
         rows = re.findall(r"^\| (`.*?`) \|", (TOP / "tools" / "NOTES.md").read_text(), re.MULTILINE)

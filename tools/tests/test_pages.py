@@ -11,7 +11,7 @@ from pathlib import Path
 
 from support import AUCTION, AUCTION_RESULTS, SUNNY, TOP, book, journal, read_results, run_tool, selection
 
-from lib.audit import best
+from lib.audit import recursive_enumeration
 from lib.crates.specs import Repository
 from shared.pages import read_links, read_prose
 
@@ -275,7 +275,7 @@ class Pages(unittest.TestCase):
         quoted = re.search(r"^```text\n(day,24,.*?)^```$", (TOP / "README.md").read_text(), re.MULTILINE | re.DOTALL)[1].splitlines()
         lines, commands = SUNNY.read_text().splitlines(), [line.split("  ")[0] for line in quoted]
         self.assertEqual((len(commands), commands), (6, [line for line in lines if line in commands]))
-        _, reasons = book.run_commands(journal.parse_journal(SUNNY.read_bytes()))
+        _, reasons = book.book_and_refusals(journal.parse_journal(SUNNY.read_bytes()))
         refused = [lines[place + 1] for place, reason in enumerate(reasons) if reason]
         self.assertEqual(refused, [line.split("  ")[0] for line in quoted if "  refused: " in line])
 
@@ -292,10 +292,10 @@ class Pages(unittest.TestCase):
         table = re.search(r"```text\n(participant,order,.*?)```", (TOP / "docs" / "USING.md").read_text(), re.DOTALL)[1]
         status, made, said = run_tool("table", "--journal", "-", data=table.encode())
         self.assertEqual((status, said), (0, ""))
-        closed, reasons = book.run_commands(journal.parse_journal(made))
+        closed, reasons = book.book_and_refusals(journal.parse_journal(made))
         self.assertEqual(reasons, [None] * len(table.splitlines()))
         problem = selection.Problem(closed)
-        found, _ = best.enumerate_all(problem)
+        found, _ = recursive_enumeration.find_best_and_how(problem)
         prices = {number: cleared.price for number, cleared in selection.outcome(problem, found.accepted).cleared.items()}
         self.assertEqual((found.accepted, prices[8], prices[9]), (frozenset({0, 1}), 9_500, 9_500))
 
@@ -334,7 +334,7 @@ class Definitions(unittest.TestCase):
         status, page, _ = run_tool("reading-list", "--definitions")
         self.assertEqual(status, 0)
         on_page = sections(page.decode())
-        cited = {(node, function) for node, function in Repository(TOP).cited()}
+        cited = {(node, function) for node, function in Repository(TOP).read_cited()}
         self.assertGreater(len(cited), 300)
         for (crate, _, module, name), function in sorted(cited):
             with self.subTest(f"{name} of {crate}, by {function}"):

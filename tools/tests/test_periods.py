@@ -20,7 +20,7 @@ class Spans(unittest.TestCase):
         self.assertEqual(spans.parse_periods("7, 3-4,9", 24, ",;"), [7, 3, 4, 9])
 
     def test_what_is_refused(self):
-        for words in ("", ";", "0", "08", "25", "9-8", "3-", "-3", "x", "1,2", "1.5", "1--2"):
+        for words in ("", ";", "0", "08", "25", "9-8", "3-", "-3", "x", "1,2", "1.5", "1--2", "1 2", "1\t2", "1;\n2", "1-2 4"):
             with self.subTest(words), self.assertRaises(ValueError) as fault:
                 spans.parse_periods(words, 24)
             self.assertIn("from 1 to 24", str(fault.exception))
@@ -58,17 +58,17 @@ class Clock(unittest.TestCase):
 class Between(unittest.TestCase):
     def refused(self, periods, first, last, words):
         with self.subTest(periods=periods, first=first, last=last), self.assertRaisesRegex(ValueError, f"^{words}$"):
-            clock.parse_clock_span(periods, first, last)
+            clock.parse_periods_between_times(periods, first, last)
 
     def test_times_of_each_length_of_a_day(self):
         for periods, length in rules.DAYS.items():
             hour = int(1 / length)
             evening = periods - 7 * hour
             with self.subTest(periods):
-                self.assertEqual(clock.parse_clock_span(periods, "00:00", "24:00"), list(range(1, periods + 1)))
-                self.assertEqual(clock.parse_clock_span(periods, "00:00", "01:00"), list(range(1, hour + 1)))
-                self.assertEqual(clock.parse_clock_span(periods, "01:00", "03:00"), list(range(hour + 1, periods - 21 * hour + 1)))
-                self.assertEqual(clock.parse_clock_span(periods, "17:00", "19:00"), list(range(evening + 1, evening + 2 * hour + 1)))
+                self.assertEqual(clock.parse_periods_between_times(periods, "00:00", "24:00"), list(range(1, periods + 1)))
+                self.assertEqual(clock.parse_periods_between_times(periods, "00:00", "01:00"), list(range(1, hour + 1)))
+                self.assertEqual(clock.parse_periods_between_times(periods, "01:00", "03:00"), list(range(hour + 1, periods - 21 * hour + 1)))
+                self.assertEqual(clock.parse_periods_between_times(periods, "17:00", "19:00"), list(range(evening + 1, evening + 2 * hour + 1)))
                 self.refused(periods, "17:00", "16:00", "16:00 isn't after 17:00")
                 self.refused(periods, "17:05", "18:00", "no period of the day begins at 17:05")
 
@@ -82,7 +82,7 @@ class Between(unittest.TestCase):
     def test_times_that_are_left_out(self):
         for periods in (23, 92):
             self.refused(periods, "02:00", "04:00", "no period of the day begins at 02:00")
-            self.assertEqual(clock.parse_clock_span(periods, "00:00", "02:00"), clock.parse_clock_span(periods, "00:00", "03:00"))
+            self.assertEqual(clock.parse_periods_between_times(periods, "00:00", "02:00"), clock.parse_periods_between_times(periods, "00:00", "03:00"))
 
 
 if __name__ == "__main__":

@@ -1,5 +1,6 @@
 """The pictures: that each is drawn, says the right things, and can be told apart without colours."""
 
+import json
 import os
 import sys
 import tempfile
@@ -30,7 +31,7 @@ class Missing(unittest.TestCase):
         listed = (support.TOP / "tests" / "debian-packages").read_text().split("\n")
         self.assertLessEqual({*modules.PACKAGES.values(), "tzdata"}, set(listed))
 
-    @unittest.skipUnless(modules.is_debians(), "this isn't Debian's Python")
+    @unittest.skipUnless(modules.is_debian_python(), "this isn't Debian's Python")
     def test_a_missing_package_is_named(self):
         without = sys.executable, "-c", WITHOUT
         both = (
@@ -48,6 +49,15 @@ class Missing(unittest.TestCase):
         self.assertEqual((status, out), (command.FAILED, b""))
         self.assertEqual(err, f"audit: it needs {self.words('numpy')}\n")
 
+    @unittest.skipUnless(modules.is_debian_python(), "this isn't Debian's Python")
+    def test_the_record_of_an_office_names_a_missing_package(self):
+        without = sys.executable, "-c", WITHOUT
+        status, out, err = run_tool("office", "status", "folder", "--json", python=without)
+        record = json.loads(out)
+        self.assertEqual((status, record["command"], record["status"]), (command.FAILED, "status", command.FAILED))
+        self.assertIn("which Debian has in the package", record["message"])
+        self.assertEqual(err, f"office: {record['message']}\n")
+
 
 @unittest.skipUnless(modules.has_module("matplotlib"), "matplotlib is missing (Debian's python3-matplotlib)")
 class Pictures(unittest.TestCase):
@@ -55,9 +65,9 @@ class Pictures(unittest.TestCase):
         from lib.pictures import canvas, pictures
 
         few = ["empty", "buy-block", "too-large-block", "floor-of-negative"]
-        for name, data, text in (case for case in support.cleared_cases() if case[0] in few):
+        for name, data, text in (case for case in support.read_cleared_cases() if case[0] in few):
             day = day_of(data, text)
-            for figure in (pictures.day_picture(day), pictures.period_picture(day, 1)):
+            for figure in (pictures.new_day_figure(day), pictures.new_period_figure(day, 1)):
                 with self.subTest(name):
                     drawn = canvas.render_and_close(figure, "svg", words_as_text=True).decode()
                     for words in ("EUR/MWh", "MW"):
@@ -67,12 +77,12 @@ class Pictures(unittest.TestCase):
         from lib.pictures import canvas, pictures
 
         day = day_of(AUCTION.read_bytes(), support.read_results(AUCTION))
-        drawn = canvas.render_and_close(pictures.day_picture(day), "svg", words_as_text=True).decode()
+        drawn = canvas.render_and_close(pictures.new_day_figure(day), "svg", words_as_text=True).decode()
         said = ["GAS EVENING", "sell 90 MW at 93.00 EUR/MWh", "paradoxically rejected", "surplus at these prices, EUR"]
         said += ["supporting prices", ">24<", ">23:00<"]
         for words in said:
             self.assertIn(words, drawn)
-        drawn = canvas.render_and_close(pictures.period_picture(day, 19), "svg", words_as_text=True).decode()
+        drawn = canvas.render_and_close(pictures.new_period_figure(day, 19), "svg", words_as_text=True).decode()
         for words in ("165.00", "accepted blocks sell 350.0 MW net", "730.0 MW of hourly buys are executed", "volume, MW"):
             self.assertIn(words, drawn)
 
@@ -80,12 +90,12 @@ class Pictures(unittest.TestCase):
         from lib.pictures import canvas, pictures
 
         day = day_of(QUARTERS.read_bytes(), support.read_results(QUARTERS))
-        drawn = canvas.render_and_close(pictures.day_picture(day), "svg", words_as_text=True).decode()
+        drawn = canvas.render_and_close(pictures.new_day_figure(day), "svg", words_as_text=True).decode()
         for words in ("GAS RAMP", "900.00", ">00:00<", ">93<", ">23:00<"):
             self.assertIn(words, drawn)
         for words in ("3,600.00", ">94<", ">23:15<"):
             self.assertNotIn(words, drawn)
-        drawn = canvas.render_and_close(pictures.period_picture(day, 75), "svg", words_as_text=True).decode()
+        drawn = canvas.render_and_close(pictures.new_period_figure(day, 75), "svg", words_as_text=True).decode()
         for words in ("Period 75, 18:30 to 18:45", "165.00", "726.0 MW of hourly buys are executed"):
             self.assertIn(words, drawn)
 
@@ -93,7 +103,7 @@ class Pictures(unittest.TestCase):
         from lib.pictures import canvas, pictures
 
         day = day_of(FIRST, results_of(FIRST, frozenset()))
-        figure = pictures.prices_picture(day)
+        figure = pictures.new_prices_figure(day)
         least, most = figure.axes[0].get_ylim()
         self.assertTrue(50 < least < 68 < most < 90, (least, most))
         drawn = canvas.render_and_close(figure, "svg", words_as_text=True).decode()
@@ -110,8 +120,8 @@ class Pictures(unittest.TestCase):
             # With many orders and few, none, and then many again; with accepted blocks that sell, and without.
             for day, number in ((auction, 19), (few, 8), (few, 19), (auction, 19), (auction, 3), (few, 19)):
                 for words_as_text in (True, False):
-                    fresh = canvas.render_and_close(pictures.period_picture(day, number, width), "svg", words_as_text)
-                    self.assertEqual(canvas.render_and_close(sheet.draw(day, number), "svg", words_as_text), fresh, (number, width))
+                    fresh = canvas.render_and_close(pictures.new_period_figure(day, number, width), "svg", words_as_text)
+                    self.assertEqual(canvas.render_and_close(sheet.draw_and_return_figure(day, number), "svg", words_as_text), fresh, (number, width))
 
     def test_the_axes_of_small_volumes_and_of_no_orders(self):
         from lib.pictures import canvas, pictures
@@ -120,13 +130,13 @@ class Pictures(unittest.TestCase):
         day = day_of(data, results_of(data, frozenset()))
 
         def ticks(number):
-            axes = pictures.period_picture(day, number).axes[0]
+            axes = pictures.new_period_figure(day, number).axes[0]
             axes.figure.canvas.draw()
             return [[label.get_text() for label in axis.get_ticklabels()] for axis in (axes.xaxis, axes.yaxis)]
 
         self.assertEqual(ticks(8)[0][:6], ["0.0", "0.2", "0.4", "0.6", "0.8", "1.0"])
         self.assertEqual(ticks(19), [[], []])
-        drawn = canvas.render_and_close(pictures.period_picture(day, 19), "svg", words_as_text=True).decode()
+        drawn = canvas.render_and_close(pictures.new_period_figure(day, 19), "svg", words_as_text=True).decode()
         self.assertIn("no hourly orders", drawn)
 
     def test_links_groups_and_surpluses_of_blocks(self):
@@ -134,7 +144,7 @@ class Pictures(unittest.TestCase):
 
         day = day_of(AUCTION.read_bytes(), support.read_results(AUCTION))
         for width in canvas.WIDTHS.values():
-            figure = pictures.blocks_picture(day, width)
+            figure = pictures.new_blocks_figure(day, width)
             (axes,) = figure.axes
             # The two links: START to STAY, and STAY to EVENING.
             arrows = [note for note in axes.texts if getattr(note, "arrow_patch", None)]
@@ -151,15 +161,15 @@ class Pictures(unittest.TestCase):
             day = day_of(case.read_bytes(), support.read_results(case))
             bars = sum(volume > 0 for parts in trades.volume_shares(day).values() for volume in parts.values())
             bars *= day.problem.periods == 24
-            self.assertEqual(len(pictures.prices_picture(day).axes[1].patches), bars)
+            self.assertEqual(len(pictures.new_prices_figure(day).axes[1].patches), bars)
             # Of each block one outline, since its periods follow one another.
-            self.assertEqual(len(pictures.blocks_picture(day).axes[0].patches), len(day.problem.blocks))
+            self.assertEqual(len(pictures.new_blocks_figure(day).axes[0].patches), len(day.problem.blocks))
 
     def test_the_same_day_gives_the_same_bytes(self):
         from lib.pictures import canvas, pictures
 
         day = day_of(AUCTION.read_bytes(), support.read_results(AUCTION))
-        one, other = (canvas.render_and_close(pictures.day_picture(day), "svg") for _ in range(2))
+        one, other = (canvas.render_and_close(pictures.new_day_figure(day), "svg") for _ in range(2))
         self.assertEqual(one, other)
 
     def test_what_matters_differs_in_lightness(self):

@@ -21,8 +21,8 @@ class Told(unittest.TestCase):
             progress = Progress("audit", 60, **more)
             progress.add_expected_steps(4)
             for _ in range(4):
-                progress.step_or_raise()
-            progress.end()
+                progress.count_and_show_or_raise()
+            progress.stop_and_erase()
         return stream.getvalue()
 
     def test_at_a_terminal_the_line_is_written_over_and_taken_away(self):
@@ -41,8 +41,8 @@ class Bars(unittest.TestCase):
         with mock.patch("sys.stderr", stream), mock.patch("time.monotonic", side_effect=(seconds * at for at in range(99))):
             bar = StepBar("audit", 10, "days", **more)
             for _ in range(10):
-                bar.step(1, "1 wrong")
-            bar.end()
+                bar.count_and_show(1, "1 wrong")
+            bar.erase()
         return stream.getvalue()
 
     def test_a_bar_is_shown_after_a_moment(self):
@@ -60,20 +60,20 @@ class Bars(unittest.TestCase):
 class Time(unittest.TestCase):
     def test_no_step_is_made_when_the_time_is_over(self):
         with self.assertRaisesRegex(TimeoutError, "^after 0 seconds, 0 of 0 selections have been tried: --seconds gives"):
-            Progress("audit", 0).step_or_raise()
+            Progress("audit", 0).count_and_show_or_raise()
         progress = Progress("audit", 60)
-        progress.step_or_raise()
+        progress.count_and_show_or_raise()
         with mock.patch("time.monotonic", lambda: progress.begun + 60), self.assertRaisesRegex(TimeoutError, "^after 60 seconds, "):
-            progress.step_or_raise()
+            progress.count_and_show_or_raise()
 
     def test_the_share_of_selections_that_were_tried_is_said(self):
         for steps, done, said in (8, 2, "2 of 8"), (16, 4, "about 2 of 8"), (16, 0, "0 of 8"):
             progress = Progress("audit", 60, whole=8)
             progress.add_expected_steps(steps)
-            progress.step_or_raise(done)
+            progress.count_and_show_or_raise(done)
             progress.stopped = True
             with self.assertRaisesRegex(TimeoutError, f"^after 60 seconds, {said} selections have been tried: --seconds gives more time$"):
-                progress.step_or_raise()
+                progress.count_and_show_or_raise()
 
     def test_words_and_the_time_are_shown(self):
         with mock.patch("sys.stderr", Terminal()) as stream:
@@ -89,14 +89,14 @@ class Time(unittest.TestCase):
         def run():
             try:
                 while True:
-                    progress.step_or_raise()
+                    progress.count_and_show_or_raise()
             except TimeoutError:
                 ended.append(True)
 
         threads = [threading.Thread(target=run) for _ in range(3)]
         for thread in threads:
             thread.start()
-        progress.end()
+        progress.stop_and_erase()
         for thread in threads:
             thread.join(10)
         self.assertEqual(ended, [True] * 3)

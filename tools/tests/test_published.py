@@ -24,7 +24,7 @@ def read(rows):
 
 
 def days():
-    return [(name, day_of(data, text)) for name, data, text in support.cleared_cases()]
+    return [(name, day_of(data, text)) for name, data, text in support.read_cleared_cases()]
 
 
 def total(rows, name):
@@ -35,7 +35,7 @@ class Curves(unittest.TestCase):
     def test_the_clearing_point_lies_on_both_curves(self):
         points = 0
         for name, day in days():
-            rows = read(published.curves(day))
+            rows = read(published.curve_rows(day))
             for number in trades.traded_periods(day):
                 own = [row for row in rows if row["period"] == str(number)]
                 (point,) = [row for row in own if row["curve"] == "clearing"]
@@ -56,7 +56,7 @@ class Curves(unittest.TestCase):
         self.assertGreater(points, 100)
 
     def test_an_hour_of_the_auction_day(self):
-        rows = [row[1:] for row in published.curves(day_of(AUCTION.read_bytes(), read_results(AUCTION))) if row[0] == 19]
+        rows = [row[1:] for row in published.curve_rows(day_of(AUCTION.read_bytes(), read_results(AUCTION))) if row[0] == 19]
         self.assertEqual(
             rows,
             [
@@ -87,7 +87,7 @@ class Figures(unittest.TestCase):
         # 24 prices; those from 8:00 to 20:00 are the periods 9 to 20.
         day = day_of(AUCTION.read_bytes(), read_results(AUCTION))
         prices = [int(line.split(b",")[2]) for line in read_results(AUCTION).splitlines() if line.startswith(b"period")]
-        found = {row["figure"]: row["value"] for row in read(published.figures(day))}
+        found = {row["figure"]: row["value"] for row in read(published.figure_rows(day))}
         self.assertEqual(Fraction(found["base_price"]), Fraction(round(Fraction(sum(prices), 24)), 100))
         self.assertEqual(Fraction(found["peak_price"]), Fraction(round(Fraction(sum(prices[8:20]), 12)), 100))
         self.assertEqual(Fraction(found["off_peak_price"]), Fraction(round(Fraction(sum(prices[:8] + prices[20:]), 12)), 100))
@@ -95,10 +95,10 @@ class Figures(unittest.TestCase):
         self.assertEqual((found["welfare"], found["energy"]), ("3021520.000", "12910.0"))
 
     def test_periods_without_trade_are_left_out(self):
-        found = {row["figure"]: row["value"] for row in read(published.figures(day_of(FIRST, results_of(FIRST, frozenset()))))}
+        found = {row["figure"]: row["value"] for row in read(published.figure_rows(day_of(FIRST, results_of(FIRST, frozenset()))))}
         self.assertEqual((found["traded_periods"], found["base_price"], found["greatest_price"]), ("2", "68.00", "68.00"))
         data = b"day,24,,,,,,,\nclose,,,,,,,,\n"
-        found = {row["figure"]: row["value"] for row in read(published.figures(day_of(data, results_of(data, frozenset()))))}
+        found = {row["figure"]: row["value"] for row in read(published.figure_rows(day_of(data, results_of(data, frozenset()))))}
         self.assertEqual((found["traded_periods"], found["base_price"], found["by_volume_price"]), ("0", "", ""))
 
     def test_the_peak_is_by_the_clock(self):
@@ -113,9 +113,9 @@ class Figures(unittest.TestCase):
         for name, day in days():
             with self.subTest(name):
                 lengths.add(day.problem.hours)
-                found = {row["figure"]: row["value"] for row in read(published.figures(day))}
-                participants = read(tables.participants(day))
-                self.assertEqual(Fraction(found["energy"]), total(read(tables.periods(day)), "volume_mw") * day.problem.hours)
+                found = {row["figure"]: row["value"] for row in read(published.figure_rows(day))}
+                participants = read(tables.participant_rows(day))
+                self.assertEqual(Fraction(found["energy"]), total(read(tables.period_rows(day)), "volume_mw") * day.problem.hours)
                 self.assertEqual(Fraction(found["energy"]), total(participants, "bought_mwh"))
                 self.assertEqual(Fraction(found["paid"]), total(participants, "paid_eur"))
                 self.assertEqual(Fraction(found["welfare"]), Fraction(found["hourly_surplus"]) + Fraction(found["block_surplus"]))
@@ -123,7 +123,7 @@ class Figures(unittest.TestCase):
         self.assertEqual(lengths, {1, Fraction(1, 4)})
 
     def test_rounding(self):
-        self.assertEqual([published.mean(pair) for pair in ([1, 2], [-1, -2], [1, 1, 2], [])], [2, -1, 1, None])
+        self.assertEqual([published.mean_or_none(pair) for pair in ([1, 2], [-1, -2], [1, 1, 2], [])], [2, -1, 1, None])
         halves = [text.shown(Fraction(number, 8), 2) for number in (1, 3, -1, -3)]
         self.assertEqual(halves, ["0.13", "0.38", "-0.13", "-0.38"])  # away from 0
 
@@ -133,16 +133,16 @@ class Long(unittest.TestCase):
         for name, day in days():
             with self.subTest(name):
                 hours = day.problem.hours
-                orders, long = read(tables.orders(day)), read(published.long_orders(day))
+                orders, long = read(tables.order_rows(day)), read(published.long_order_rows(day))
                 self.assertEqual(total(long, "executed_mw") * hours, total(orders, "executed_mwh"))
                 self.assertEqual(total(long, "offered_mw") * hours, total(orders, "offered_mwh"))
                 self.assertEqual(total(long, "amount_eur"), 0)
                 blocks = [row for row in orders if row["kind"] == "block"]
                 self.assertEqual(total(read(tables.LONG["blocks"](day)), "amount_eur"), total(blocks, "amount_eur"))
-                participants, long = read(tables.participants(day)), read(published.long_participants(day))
+                participants, long = read(tables.participant_rows(day)), read(published.long_participant_rows(day))
                 self.assertEqual(total(long, "paid_eur"), total(participants, "paid_eur"))
                 self.assertEqual(total(long, "sold_mw") * hours, total(participants, "sold_mwh"))
-                periods, long = read(tables.periods(day)), read(tables.LONG["periods"](day))
+                periods, long = read(tables.period_rows(day)), read(tables.LONG["periods"](day))
                 volumes = [row for row in long if row["quantity"] == "volume_mw"]
                 self.assertEqual(total(volumes, "value"), total(periods, "volume_mw"))
 
@@ -153,15 +153,15 @@ class Times(unittest.TestCase):
         # In 2026 on 29 March and 25 October.
         for date, hours in (((2026, 3, 29), 23), ((2026, 10, 25), 25), ((2026, 11, 25), 24)):
             for periods in (hours, 4 * hours):
-                times = shapes.begin_times(datetime.date(*date), periods)
+                times = shapes.begin_times_or_raise(datetime.date(*date), periods)
                 clocks = [clock.begin_time(periods, number) for number in range(1, periods + 1)]
                 self.assertEqual([time.strftime("%H:%M") for time in times[:-1]], clocks)
                 self.assertEqual(len({time.timestamp() for time in times}), periods + 1)
                 self.assertEqual(times[-1].strftime("%H:%M"), "00:00")
             for wrong in set(rules.DAYS) - {hours, 4 * hours}:
                 with self.assertRaises(shapes.BadDate):
-                    shapes.begin_times(datetime.date(*date), wrong)
-        autumn = [time.isoformat() for time in shapes.begin_times(datetime.date(2026, 10, 25), 25)[2:4]]
+                    shapes.begin_times_or_raise(datetime.date(*date), wrong)
+        autumn = [time.isoformat() for time in shapes.begin_times_or_raise(datetime.date(2026, 10, 25), 25)[2:4]]
         self.assertEqual(autumn, ["2026-10-25T02:00:00+02:00", "2026-10-25T02:00:00+01:00"])
 
     @unittest.skipUnless(modules.has_zone(shapes.ZONE), "the time zones are missing (Debian's tzdata)")
@@ -196,7 +196,7 @@ class Json(unittest.TestCase):
             if name in ("blocks", "commands", "statement"):
                 told += tables.ORDER + tables.RESULT
             if name == "statement":
-                told += next(tables.commands(day.journal, day.reasons))
+                told += next(tables.command_rows(day.journal, day.reasons))
             with self.subTest(name):
                 self.assertLessEqual(set(heads), set(told))
         for name, of in tables.LONG.items():
@@ -209,7 +209,7 @@ class Json(unittest.TestCase):
             day = day_of(data, text)
             for form in (tables.TABLES, tables.LONG):
                 for name, of in form.items():
-                    made = json.loads(shapes.as_json(name, of(day), {"date": None}))
+                    made = json.loads(shapes.json_text(name, of(day), {"date": None}))
                     self.assertEqual(list(made), ["table", "day", "columns", "rows"])
                     self.assertEqual(len(made["rows"]), len(list(of(day))) - 1)
                     self.assertEqual({tuple(column) for column in made["columns"]}, {("name", "type", "unit")})
@@ -223,9 +223,9 @@ class Json(unittest.TestCase):
 
     def test_values_are_those_of_the_cells(self):
         day = day_of(AUCTION.read_bytes(), read_results(AUCTION))
-        rows = json.loads(shapes.as_json("periods", tables.periods(day), {}))["rows"]
+        rows = json.loads(shapes.json_text("periods", tables.period_rows(day), {}))["rows"]
         self.assertEqual([row["price_eur_mwh"] for row in rows], [cents / 100 for cents in day.published.prices])
-        rows = json.loads(shapes.as_json("blocks", tables.TABLES["blocks"](day), {}))["rows"]
+        rows = json.loads(shapes.json_text("blocks", tables.TABLES["blocks"](day), {}))["rows"]
         self.assertEqual(rows[2]["periods"], [7, 8, 9, 10])
         self.assertEqual((rows[2]["volume_mw"], rows[2]["parent"], rows[3]["parent"]), ([80.0] * 4, None, "START"))
 

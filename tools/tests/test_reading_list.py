@@ -108,7 +108,7 @@ class ReadingList(unittest.TestCase):
         module.FIRST = {"run_clear": {"Sizes": names}}
         with tempfile.TemporaryDirectory() as folder:
             self.repository(folder)
-            return module.few_texts(module.Repository(Path(folder)))
+            return module.few_text(module.Repository(Path(folder)))
 
     def test_a_few_definitions_are_printed_with_the_sentence_above_them(self):
         self.assertEqual(self.few(["IsSize"]), "-- a size\nabbrev pub IsSize : ℕ → Type 0\nIsSize n = n ≤ greatest\n")
@@ -141,7 +141,7 @@ pub fn law()
     ensures { ⊥ → ⊥ }
 {}
 """
-        self.assertEqual(load_tool("reading-list").clause_lines(text), 5)
+        self.assertEqual(load_tool("reading-list").count_clause_lines(text), 5)
 
     def theorem(self, listed, others, is_printed=True):
         """The tool's theorem with these definitions in the repository of this test."""
@@ -180,7 +180,7 @@ pub fn law()
 
         def renewed(text, theorem, sizes):
             parts = {"theorem": (lambda _: theorem, str.__eq__), "sizes": (lambda _: sizes, module.is_near)}
-            return module.renewed_page(None, text, parts)
+            return module.page_and_whether_right(None, text, parts)
 
         page = PAGE % ("one\n", "| 100 |\n")
         self.assertEqual(renewed(page, "one\n", "| 100 |\n"), (page, True))
@@ -199,12 +199,12 @@ pub fn law()
                     path = Path(folder, f"crates/{crate}/specs/{name}.antt")
                     text = path.read_text().replace("abbrev", "-- something\nabbrev").replace("pub record", "-- a rule\npub record")
                     path.write_text("-- About it.\n" + text.replace("-- a size\n-- something", "-- a size"))
-            page = module.definitions_list(module.Repository(Path(folder)))
+            page = module.definitions_text(module.Repository(Path(folder)))
             self.assertIn("\n## `lower/specs/Sizes.antt`\n\nAbout it.\n\n- `IsSize`: a size\n- `other`: something\n\n", page)
             self.assertIn("## `upper/specs/Rule.antt`\n\nAbout it.\n\n- `Rule`: a rule\n", page)
             sizes.write_text(sizes.read_text() + "\nabbrev pub spare : ℕ\nspare = 1\n")
             with self.assertRaisesRegex(Exception, "^crates/lower/specs/Sizes.antt says nothing above spare$"):
-                module.definitions_list(module.Repository(Path(folder)))
+                module.definitions_text(module.Repository(Path(folder)))
 
     def test_sizes_may_differ_by_a_tenth(self):
         is_near = load_tool("reading-list").is_near

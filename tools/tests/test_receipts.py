@@ -16,7 +16,7 @@ import unittest
 from pathlib import Path
 
 from signed import DAY, NEEDS_CRYPTOGRAPHY, InFolder, lines_of, replies_of, sealed_of, verdict_of
-from support import AUCTION, FIRST, QUARTERS, SUNNY, TOOLS, TOP, run_help_for_unsaid, run_tool
+from support import AUCTION, FIRST, QUARTERS, SUNNY, TOOLS, TOP, capture_unsaid_members, run_tool
 
 from lib.journal import book, journal
 from lib.seal import heads, merkle
@@ -42,7 +42,7 @@ LONGEST = ",".join(
 @NEEDS_CRYPTOGRAPHY
 class Receipts(unittest.TestCase):
     def setUp(self):
-        self.key = signing.new_key()
+        self.key = signing.draw_key()
         self.public = self.key.public_key()
 
     def test_each_entry_has_a_receipt_on_each_length_of_a_day(self):
@@ -50,7 +50,7 @@ class Receipts(unittest.TestCase):
             record = LONGEST.replace(f"{';'.join(f'{period}:99999' for period in range(1, 101))}", f"{periods}:1")
             data = f"day,{periods},,,,,,,\n{LONGEST}\n{record}\nsubmit,A,B,hour,buy,0,{periods}:1,,\ncancel,A,B,,,,,,\nclose,,,,,,,,\n".encode()
             seal = sealed_of(data, key=self.key)
-            head = seal.head()
+            head = seal.signed_head()
             self.assertEqual(head.size, 5)
             for line in lines_of(seal):
                 self.assertEqual(verdict_of(line, head, self.public), receipts.RIGHT)
@@ -60,27 +60,27 @@ class Receipts(unittest.TestCase):
         path = tuple(merkle.leaf_hash(b"%d" % level) for level in range(heads.LONGEST_PATH))
         head = heads.Head("D" * 32, 100, heads.MOST_ENTRIES, path[0], b"s" * heads.SIGNATURE_BYTES)
         reply = max(heads.REPLIES, key=len)
-        largest = heads.line_of(heads.Receipt(heads.MOST_ENTRIES, LONGEST, reply, path[0], path, head))
+        largest = heads.line_bytes_of(heads.Receipt(heads.MOST_ENTRIES, LONGEST, reply, path[0], path, head))
         self.assertLess(len(largest), heads.LONGEST_LINE)
         self.assertLessEqual(len(largest) - len(LONGEST), 1_100)
 
     def test_the_longest_paths_of_a_full_journal_are_read(self):
         cancels = b"cancel,A,B,,,,,,\n" * (heads.MOST_ENTRIES - 1)
         seal = sealed_of(b"day,24,,,,,,,\n%sclose,,,,,,,,\n" % cancels, key=self.key)
-        head = seal.head()
+        head = seal.signed_head()
         for number in (1, 8_192, 8_193, heads.MOST_ENTRIES):
-            self.assertEqual(verdict_of(heads.line_of(seal.receipt(number, head)), head, self.public), receipts.RIGHT)
+            self.assertEqual(verdict_of(heads.line_bytes_of(seal.receipt(number, head)), head, self.public), receipts.RIGHT)
         self.assertEqual(len(seal.receipt(1, head).path), heads.LONGEST_PATH)
         old = max(range(1, head.size), key=lambda size: len(seal.tree.consistency_proof(size)))
-        found, _ = heads.parse_line(heads.line_of(seal.extension(seal.head(old), head)), heads.parse_extension)
+        found, _ = heads.parse_value_and_is_written(heads.line_bytes_of(seal.require_extension(seal.signed_head(old), head)), heads.parse_extension)
         self.assertEqual((len(found.path), found.is_valid()), (heads.LONGEST_PROOF, True))
 
     def test_every_change_of_a_byte_is_found(self):
         """Changed bytes of receipts, of the published head and of the public key."""
         chance = random.Random("changes")
         seal = sealed_of(AUCTION.read_bytes(), key=self.key)
-        head, public = seal.head(), signing.public_text(self.key)
-        lines, written = lines_of(seal), heads.line_of(head)
+        head, public = seal.signed_head(), signing.public_bytes(self.key)
+        lines, written = lines_of(seal), heads.line_bytes_of(head)
         for _ in range(CHANGES):
             line = chance.choice(lines)
             text, which = chance.choice([(line, "receipt")] * 3 + [(written, "head"), (public, "key")])
@@ -93,7 +93,7 @@ class Receipts(unittest.TestCase):
                     self.assertNotEqual(verdict_of(changed, head, self.public), receipts.RIGHT)
                 elif which == "head":
                     with contextlib.suppress(heads.BadRecord):
-                        other, is_written = heads.parse_line(changed, heads.parse_head)
+                        other, is_written = heads.parse_value_and_is_written(changed, heads.parse_head)
                         self.assertFalse(is_written and signing.is_signed(self.public, other))
                 else:
                     with contextlib.suppress(signing.BadKey):
@@ -103,8 +103,8 @@ class Receipts(unittest.TestCase):
 
     def test_every_other_value_of_a_member_is_found(self):
         seal = sealed_of(AUCTION.read_bytes(), key=self.key)
-        head, other = seal.head(), sealed_of(SUNNY.read_bytes(), key=self.key)
-        own, foreign = seal.receipt(3, head), other.receipt(3, other.head())
+        head, other = seal.signed_head(), sealed_of(SUNNY.read_bytes(), key=self.key)
+        own, foreign = seal.receipt(3, head), other.receipt(3, other.signed_head())
         for name, value in {
             "number": 4,
             "record": own.record.replace("submit", "cancel"),
@@ -114,24 +114,24 @@ class Receipts(unittest.TestCase):
             "head": foreign.head,
         }.items():
             with self.subTest(name):
-                line = heads.line_of(own._replace(**{name: value}))
+                line = heads.line_bytes_of(own._replace(**{name: value}))
                 self.assertIn(verdict_of(line, head, self.public), (receipts.WRONG, receipts.UNREAD))
         for name, value in {"day": "2026-11-29", "periods": 96, "size": head.size + 1, "root": foreign.salt}.items():
             with self.subTest(name):
                 self.assertFalse(signing.is_signed(self.public, head._replace(**{name: value})))
-                line = heads.line_of(own._replace(head=head._replace(**{name: value})))
+                line = heads.line_bytes_of(own._replace(head=head._replace(**{name: value})))
                 self.assertEqual(verdict_of(line, head, self.public), receipts.WRONG)
 
     def test_another_key_signed(self):
         other = sealed_of(AUCTION.read_bytes())
-        line = heads.line_of(other.receipt(1, other.head()))
-        head = sealed_of(AUCTION.read_bytes(), key=self.key).head()
+        line = heads.line_bytes_of(other.receipt(1, other.signed_head()))
+        head = sealed_of(AUCTION.read_bytes(), key=self.key).signed_head()
         self.assertEqual(verdict_of(line, head, self.public), receipts.WRONG)
 
     def test_texts_that_are_no_receipts(self):
         seal = sealed_of(AUCTION.read_bytes(), key=self.key)
-        head = seal.head()
-        line = heads.line_of(seal.receipt(1, head)).decode()
+        head = seal.signed_head()
+        line = heads.line_bytes_of(seal.receipt(1, head)).decode()
         value = json.loads(line)
         wrong = [b"", b"\n", b"{}", b"[]", b"null", b"\xff", b"[" * 20_000, b"1" * 5_000, b"{" + b'"a":' * 5_000, b" " * 20_000 + b"\n"]
         wrong += [json.dumps({**value, name: None}).encode() for name in value]
@@ -160,23 +160,23 @@ class Receipts(unittest.TestCase):
         for made in changed:
             with self.subTest(made):
                 with self.assertRaises(heads.BadRecord) as caught:
-                    heads.parse_line(json.dumps(made).encode(), heads.parse_receipt)
+                    heads.parse_value_and_is_written(json.dumps(made).encode(), heads.parse_receipt)
                 self.assertNotIn(said[:21], str(caught.exception))
                 self.assertLess(len(str(caught.exception)), 150)
         with self.assertRaisesRegex(heads.BadRecord, "^a dam-receipt-1 has no member 'the published head c..' \\(107 characters\\)$"):
-            heads.parse_line(json.dumps(with_member).encode(), heads.parse_receipt)
+            heads.parse_value_and_is_written(json.dumps(with_member).encode(), heads.parse_receipt)
         with self.assertRaisesRegex(heads.BadRecord, "^it lacks the member salt$"):
-            heads.parse_line(json.dumps({**without, said: 1}).encode(), heads.parse_receipt)
+            heads.parse_value_and_is_written(json.dumps({**without, said: 1}).encode(), heads.parse_receipt)
 
     def test_a_record_stands_in_its_written_form(self):
         """Another writing of the same command would be another entry with the same meaning."""
         value = json.loads(lines_of(sealed_of(AUCTION.read_bytes(), key=self.key))[0])
         record = value["record"]
-        self.assertEqual(heads.parse_line(json.dumps(value).encode(), heads.parse_receipt)[0].record, record)
+        self.assertEqual(heads.parse_value_and_is_written(json.dumps(value).encode(), heads.parse_receipt)[0].record, record)
         quoted = '"submit"' + record.removeprefix("submit")
         for other in (quoted, f"{record}\n", f"{record}\r", f"\n{record}", f"{record}\n{record}", f"{record} ", ""):
             with self.subTest(other), self.assertRaisesRegex(heads.BadRecord, "isn't a record of a written journal$"):
-                heads.parse_line(json.dumps({**value, "record": other}).encode(), heads.parse_receipt)
+                heads.parse_value_and_is_written(json.dumps({**value, "record": other}).encode(), heads.parse_receipt)
 
     def test_each_base64(self):
         """With exactly its padding, on each Python: bits that say nothing are another writing of the same bytes."""
@@ -194,8 +194,8 @@ class Receipts(unittest.TestCase):
 
     def test_another_writing_of_a_right_receipt(self):
         seal = sealed_of(AUCTION.read_bytes(), key=self.key)
-        head = seal.head()
-        line = heads.line_of(seal.receipt(1, head))
+        head = seal.signed_head()
+        line = heads.line_bytes_of(seal.receipt(1, head))
         value = json.loads(line)
         salt = value["salt"].encode()
         digits = b"ABCDEFGHIJKLMNOPQRSTUVWXYZabcdefghijklmnopqrstuvwxyz0123456789+/"
@@ -211,9 +211,9 @@ class Receipts(unittest.TestCase):
             with self.subTest(data):
                 self.assertEqual(verdict_of(data, head, self.public), receipts.UNREAD)
         # an empty line is white space of a head, which has a file of its own
-        for data in (heads.line_of(head) + b"\n", b"\n" + heads.line_of(head)):
+        for data in (heads.line_bytes_of(head) + b"\n", b"\n" + heads.line_bytes_of(head)):
             odd = []
-            self.assertEqual(receipts.parse_head("head", data, self.public, odd), head)
+            self.assertEqual(receipts.parse_head_and_note("head", data, self.public, odd), head)
             self.assertEqual(receipts.verdict(odd), receipts.ENCODING)
 
     def test_the_first_of_several_statuses(self):
@@ -249,12 +249,12 @@ class Receipts(unittest.TestCase):
             changed = sealing.Seal(DAY, seal.periods, seal.salts, self.key)
             for entry in entries:
                 changed.append(entry)
-            head = changed.head()
+            head = changed.signed_head()
             found = {verdict_of(line, head, self.public) for line in lines_of(seal)}
             self.assertTrue(found & {receipts.WRONG, receipts.UNDECIDED})
             if changed.tree.root() != seal.tree.root() and len(entries) >= len(every):
                 with self.assertRaises(sealing.Differs):
-                    changed.extension(seal.head(), head)
+                    changed.require_extension(seal.signed_head(), head)
 
     def test_a_path_shows_nothing_of_others(self):
         """Salts of other entries can't be found from a receipt, and equal entries of two days have other leaves."""
@@ -267,42 +267,42 @@ class Receipts(unittest.TestCase):
             self.assertNotIn(entry.record.encode(), shown)
 
     def test_a_growing_journal(self):
-        seal = sealing.Seal(DAY, 24, sealing.new_salts(DAY), self.key)
+        seal = sealing.Seal(DAY, 24, sealing.draw_salts(DAY), self.key)
         every = list(sealed_of(AUCTION.read_bytes()).entries)
-        published = [seal.head()]
+        published = [seal.signed_head()]
         for entry in every:
             seal.append(entry)
-            published.append(seal.head())
+            published.append(seal.signed_head())
         last = published[-1]
         with tempfile.TemporaryDirectory() as folder:
             for size in range(1, last.size):
                 path = Path(folder, "extension.json")
-                path.write_bytes(heads.line_of(seal.extension(published[size], last)))
-                line = heads.line_of(seal.receipt(size, published[size]))
+                path.write_bytes(heads.line_bytes_of(seal.require_extension(published[size], last)))
+                line = heads.line_bytes_of(seal.receipt(size, published[size]))
                 self.assertEqual(verdict_of(line, last, self.public), receipts.UNDECIDED)
                 self.assertEqual(verdict_of(line, last, self.public, receipts.Links([path], self.public, [])), receipts.RIGHT)
             # A published head that ends before an entry, and one that has it.
-            early = heads.line_of(seal.receipt(3, published[5]))
+            early = heads.line_bytes_of(seal.receipt(3, published[5]))
             links = receipts.Links([], self.public, [])
             self.assertEqual(verdict_of(early, published[2], self.public, links), receipts.WRONG)
             self.assertEqual(verdict_of(early, published[3], self.public, links), receipts.UNDECIDED)
-            path.write_bytes(heads.line_of(seal.extension(published[2], published[5])))
+            path.write_bytes(heads.line_bytes_of(seal.require_extension(published[2], published[5])))
             self.assertEqual(verdict_of(early, published[2], self.public, receipts.Links([path], self.public, [])), receipts.WRONG)
-            path.write_bytes(heads.line_of(seal.extension(published[3], published[5])))
+            path.write_bytes(heads.line_bytes_of(seal.require_extension(published[3], published[5])))
             self.assertEqual(verdict_of(early, published[3], self.public, receipts.Links([path], self.public, [])), receipts.RIGHT)
             steps = []
             for size in range(1, last.size):
                 steps.append(Path(folder, f"{size}.json"))
-                steps[-1].write_bytes(heads.line_of(seal.extension(published[size], published[size + 1])))
+                steps[-1].write_bytes(heads.line_bytes_of(seal.require_extension(published[size], published[size + 1])))
             links = receipts.Links(steps, self.public, [])
-            self.assertEqual(verdict_of(heads.line_of(seal.receipt(1, published[1])), last, self.public, links), receipts.RIGHT)
-            self.assertEqual(links.verdict_on_two(published[0], last)[0], receipts.RIGHT)
+            self.assertEqual(verdict_of(heads.line_bytes_of(seal.receipt(1, published[1])), last, self.public, links), receipts.RIGHT)
+            self.assertEqual(links.verdict_and_words_on_two(published[0], last)[0], receipts.RIGHT)
             broken = receipts.Links(steps[1:], self.public, [])
-            self.assertEqual(verdict_of(heads.line_of(seal.receipt(1, published[1])), last, self.public, broken), receipts.UNDECIDED)
+            self.assertEqual(verdict_of(heads.line_bytes_of(seal.receipt(1, published[1])), last, self.public, broken), receipts.UNDECIDED)
 
     def test_a_fork_shows_nothing_of_its_other_end(self):
         """Two journals with one secret: an entry that differs has another salt."""
-        salts = sealing.new_salts(DAY)
+        salts = sealing.draw_salts(DAY)
         one, other = (sealing.Seal(DAY, 24, salts, self.key) for _ in range(2))
         for seal, record in ((one, "cancel,A,X,,,,,,"), (other, "cancel,B,Y,,,,,,")):
             seal.append(sealing.Entry("cancel,C,Z,,,,,,", "refused,UnknownOrder", "C"))
@@ -311,27 +311,27 @@ class Receipts(unittest.TestCase):
         self.assertNotEqual(one.salt(2), other.salt(2))
 
     def test_two_journals_of_one_day(self):
-        heads_of = [sealed_of(data, key=self.key).head() for data in (FIRST, FIRST)]
-        self.assertEqual(receipts.Links([], self.public, []).verdict_on_two(*heads_of)[0], receipts.WRONG)
-        days = [sealed_of(data, key=self.key).head() for data in (AUCTION.read_bytes(), QUARTERS.read_bytes())]
-        self.assertEqual(receipts.Links([], self.public, []).verdict_on_two(*days)[0], receipts.WRONG)
+        heads_of = [sealed_of(data, key=self.key).signed_head() for data in (FIRST, FIRST)]
+        self.assertEqual(receipts.Links([], self.public, []).verdict_and_words_on_two(*heads_of)[0], receipts.WRONG)
+        days = [sealed_of(data, key=self.key).signed_head() for data in (AUCTION.read_bytes(), QUARTERS.read_bytes())]
+        self.assertEqual(receipts.Links([], self.public, []).verdict_and_words_on_two(*days)[0], receipts.WRONG)
 
     def test_the_example_of_the_formats(self):
         page = (TOP / "docs" / "FORMATS.md").read_text()
         line = re.search(r"```json\n(\{\"format\":\"dam-receipt-1.*?)```", page, re.DOTALL)[1].replace("\n", "").encode() + b"\n"
         key = signing.parse_public(re.search(r"-----BEGIN PUBLIC KEY-----.*?-----END PUBLIC KEY-----\n", page, re.DOTALL)[0].encode())
-        receipt, is_written = heads.parse_line(line, heads.parse_receipt)
+        receipt, is_written = heads.parse_value_and_is_written(line, heads.parse_receipt)
         self.assertTrue(is_written)
         self.assertEqual(verdict_of(line, receipt.head, key), receipts.RIGHT)
         salts = heads.Salts(DAY, bytes(range(32, 64)))
         read = journal.parse_journal(b"".join(FIRST.splitlines(keepends=True)[:4]))
         private = Ed25519PrivateKey.from_private_bytes(bytes(range(32)))
-        seal = sealing.seal_of(read, book.run_commands(read)[1], DAY, salts, private)
-        self.assertEqual(heads.line_of(seal.receipt(2, seal.head())), line)
+        seal = sealing.seal_of(read, book.book_and_refusals(read)[1], DAY, salts, private)
+        self.assertEqual(heads.line_bytes_of(seal.receipt(2, seal.signed_head())), line)
         # The extension to it.
         words = "The path of the extension from two entries to three is the second hash above. The root and the signature of its `from` are"
         root, signature = re.search(rf"{words}\n\n```text\n(\S+)\n(\S+)\n```", page).groups()
-        extension = seal.extension(seal.head(2), seal.head())
+        extension = seal.require_extension(seal.signed_head(2), seal.signed_head())
         self.assertTrue(extension.is_valid())
         self.assertEqual((heads.base64_of(extension.old.root), heads.base64_of(extension.old.signature)), (root, signature))
         self.assertEqual(extension.path, receipt.path[1:])
@@ -342,7 +342,7 @@ class Receipts(unittest.TestCase):
             self.skipTest("openssl is missing")
         with tempfile.TemporaryDirectory() as folder:
             public, receipt = Path(folder, "public.pem"), Path(folder, "receipt.json")
-            public.write_bytes(signing.public_text(self.key) if key is None else key)
+            public.write_bytes(signing.public_bytes(self.key) if key is None else key)
             receipt.write_bytes(data)
             ran = subprocess.run([BY_OPENSSL, receipt, public], capture_output=True, text=True)
         self.assertEqual(ran.returncode, 0 if ran.stdout.startswith("right: ") else 1)
@@ -351,17 +351,17 @@ class Receipts(unittest.TestCase):
     def test_by_openssl(self):
         """The second reading of the format agrees."""
         seal = sealed_of(SUNNY.read_bytes(), key=self.key)
-        head = seal.head()
+        head = seal.signed_head()
         for number in (1, 2, head.size // 2, head.size):
             made = seal.receipt(number, head)
-            self.assertEqual(self.run_openssl(heads.line_of(made)), f"right: {made.record}, {made.reply}\n")
+            self.assertEqual(self.run_openssl(heads.line_bytes_of(made)), f"right: {made.record}, {made.reply}\n")
             for other in (made._replace(record=made.record.replace(",", ",,", 1)), made._replace(number=number % head.size + 1)):
-                self.assertEqual(self.run_openssl(heads.line_of(other)), "wrong\n")
+                self.assertEqual(self.run_openssl(heads.line_bytes_of(other)), "wrong\n")
 
     def test_other_writings_by_openssl(self):
         """It takes the written form alone, as `verify` does for status 0."""
         seal = sealed_of(b"".join(FIRST.splitlines(keepends=True)[:4]), key=self.key)
-        line = heads.line_of(seal.receipt(2, seal.head()))
+        line = heads.line_bytes_of(seal.receipt(2, seal.signed_head()))
         self.assertEqual(self.run_openssl(line), "right: submit,STAD,BASE-8,hour,buy,9500,8:300,,, done\n")
         salt = re.search(rb'"salt":"(.*?)"', line)[1]
         digits = b"ABCDEFGHIJKLMNOPQRSTUVWXYZabcdefghijklmnopqrstuvwxyz0123456789+/"
@@ -374,7 +374,7 @@ class Receipts(unittest.TestCase):
         for old, new in changes:
             other = line.replace(old, new, 1)
             with self.subTest(other):
-                self.assertNotEqual(verdict_of(other, seal.head(), self.public), receipts.RIGHT)
+                self.assertNotEqual(verdict_of(other, seal.signed_head(), self.public), receipts.RIGHT)
                 self.assertEqual(self.run_openssl(other), "wrong\n")
 
     def test_other_members_by_openssl(self):
@@ -385,7 +385,7 @@ class Receipts(unittest.TestCase):
         def line_of(own, signed):
             own, root = {**entry, **own, "salt": bytes(32)}, {**head, **signed}
             root["root"] = heads.leaf_of(*own.values())
-            return heads.line_of(heads.Receipt(**own, path=(), head=signing.sign(self.key, heads.Head(**root))))
+            return heads.line_bytes_of(heads.Receipt(**own, path=(), head=signing.signed_head(self.key, heads.Head(**root))))
 
         self.assertEqual(self.run_openssl(line_of({}, {})), "right: cancel,A,B,,,,,,, done\n")
         own = [{"number": 0}, {"record": "I OWE YOU"}, {"record": "cancel,A,B"}, {"record": "day,24,,,,,,,"}, {"record": "cancel,A,B ,,,,,,"}]
@@ -403,13 +403,13 @@ class Receipts(unittest.TestCase):
         for raw in signing.SMALL:
             for sign in (0, 128):
                 key = Ed25519PublicKey.from_public_bytes(raw[:31] + bytes([raw[31] | sign]))
-                every = (seal.head()._replace(day=f"D{number}", signature=identity + bytes(32)) for number in range(1_000))
+                every = (seal.signed_head()._replace(day=f"D{number}", signature=identity + bytes(32)) for number in range(1_000))
                 head = next(head for head in every if signing.is_signed(key, head))
-                line = heads.line_of(seal.receipt(1, seal.head())._replace(head=head))
+                line = heads.line_bytes_of(seal.receipt(1, seal.signed_head())._replace(head=head))
                 text = key.public_bytes(serialization.Encoding.PEM, serialization.PublicFormat.SubjectPublicKeyInfo)
                 self.assertEqual(self.run_openssl(line, text), "wrong\n")
-        line = heads.line_of(seal.receipt(1, seal.head()))
-        self.assertEqual(self.run_openssl(line, signing.public_text(self.key) * 2), "wrong\n")
+        line = heads.line_bytes_of(seal.receipt(1, seal.signed_head()))
+        self.assertEqual(self.run_openssl(line, signing.public_bytes(self.key) * 2), "wrong\n")
 
     def test_keys_that_sign_for_anyone(self):
         """Keys of small order, with either sign, and a file of two keys."""
@@ -420,12 +420,12 @@ class Receipts(unittest.TestCase):
                 with self.assertRaisesRegex(signing.BadKey, "its order is small"):
                     signing.parse_public(key.public_bytes(serialization.Encoding.PEM, form))
         with self.assertRaises(signing.BadKey):
-            signing.parse_public(signing.public_text(self.key) + signing.public_text(signing.new_key()))
+            signing.parse_public(signing.public_bytes(self.key) + signing.public_bytes(signing.draw_key()))
 
     def test_which_check_of_a_signature(self):
         """The one without the cofactor, and with a scalar below the group's order: signatures that only other checks take are refused."""
         seal = sealed_of(b"day,24,,,,,,,\ncancel,A,B,,,,,,\n", key=self.key)
-        head, prime, order = seal.head(), 2**255 - 19, 2**252 + 27742317777372353535851937790883648493
+        head, prime, order = seal.signed_head(), 2**255 - 19, 2**252 + 27742317777372353535851937790883648493
 
         def scalar(key):
             raw = key.private_bytes(serialization.Encoding.Raw, serialization.PrivateFormat.Raw, serialization.NoEncryption())
@@ -435,11 +435,11 @@ class Receipts(unittest.TestCase):
 
         def signature(point, more=0):
             """With the point of a nonce; `more` is added to the scalar."""
-            hashed = hashlib.sha512(point + raw_of(self.public) + head.signed_text()).digest()
+            hashed = hashlib.sha512(point + raw_of(self.public) + head.signed_bytes()).digest()
             made = (scalar(nonce) + int.from_bytes(hashed, "little") * scalar(self.key)) % order + more
             return point + made.to_bytes(32, "little")
 
-        nonce = signing.new_key()
+        nonce = signing.draw_key()
         point = raw_of(nonce.public_key())
         number = int.from_bytes(point, "little")
         height, sign = number % 2**255, number >> 255
@@ -447,34 +447,34 @@ class Receipts(unittest.TestCase):
         for made, is_right in ((signature(point), True), (signature(moved), False), (signature(point, order), False)):
             signed = head._replace(signature=made)
             self.assertEqual(signing.is_signed(self.public, signed), is_right)
-            said = self.run_openssl(heads.line_of(seal.receipt(1, head)._replace(head=signed)))
+            said = self.run_openssl(heads.line_bytes_of(seal.receipt(1, head)._replace(head=signed)))
             self.assertEqual(said, "right: cancel,A,B,,,,,,, refused,UnknownOrder\n" if is_right else "wrong\n")
 
     def test_the_head_of_no_entry(self):
-        head = sealing.Seal(DAY, 24, sealing.new_salts(DAY), self.key).head()
-        self.assertEqual(heads.parse_line(heads.line_of(head), heads.parse_head)[0], head)
+        head = sealing.Seal(DAY, 24, sealing.draw_salts(DAY), self.key).signed_head()
+        self.assertEqual(heads.parse_value_and_is_written(heads.line_bytes_of(head), heads.parse_head)[0], head)
         with self.assertRaises(heads.BadRecord):
-            heads.parse_line(heads.line_of(head._replace(root=merkle.leaf_hash(b""))), heads.parse_head)
+            heads.parse_value_and_is_written(heads.line_bytes_of(head._replace(root=merkle.leaf_hash(b""))), heads.parse_head)
 
     def test_extensions_that_connect_nothing(self):
         """One with another path, of other heads, or between two days or lengths of a day: anyone can make one of right heads, so it isn't a
         fault of the operator. A head of another key is wrong."""
         seal = sealed_of(AUCTION.read_bytes(), key=self.key)
-        last, other = seal.head(), sealed_of(AUCTION.read_bytes())
-        early = signing.sign(self.key, heads.Head(DAY, 24, 5, seal.tree.root(5)))
-        right = seal.extension(early, last)
+        last, other = seal.signed_head(), sealed_of(AUCTION.read_bytes())
+        early = signing.signed_head(self.key, heads.Head(DAY, 24, 5, seal.tree.root(5)))
+        right = seal.require_extension(early, last)
         changes = [right._replace(path=(*right.path[:-1], merkle.leaf_hash(b""))), right._replace(path=())]
         for name, value in {"day": "2026-11-29", "periods": 25, "root": merkle.leaf_hash(b""), "size": 6}.items():
-            changes.append(right._replace(old=signing.sign(self.key, early._replace(**{name: value}))))
-            changes.append(right._replace(new=signing.sign(self.key, last._replace(**{name: value}))))
-        foreign = [right._replace(old=signing.sign(other.key, early)), right._replace(new=signing.sign(other.key, last))]
+            changes.append(right._replace(old=signing.signed_head(self.key, early._replace(**{name: value}))))
+            changes.append(right._replace(new=signing.signed_head(self.key, last._replace(**{name: value}))))
+        foreign = [right._replace(old=signing.signed_head(other.key, early)), right._replace(new=signing.signed_head(other.key, last))]
         with tempfile.TemporaryDirectory() as folder:
             path, findings = Path(folder, "extension.json"), []
-            path.write_bytes(heads.line_of(right))
-            self.assertTrue(receipts.Links([path], self.public, findings).leads(early, last))
+            path.write_bytes(heads.line_bytes_of(right))
+            self.assertTrue(receipts.Links([path], self.public, findings).has_path(early, last))
             self.assertEqual(findings, [])
             for changed in [*changes, *foreign]:
-                path.write_bytes(heads.line_of(changed))
+                path.write_bytes(heads.line_bytes_of(changed))
                 findings = []
                 links = receipts.Links([path], self.public, findings)
                 with self.subTest(changed):
@@ -482,14 +482,14 @@ class Receipts(unittest.TestCase):
                     (finding,) = findings
                     self.assertEqual(finding.verdict, receipts.WRONG if changed in foreign else receipts.UNDECIDED)
                     self.assertIn("isn't signed by this key" if changed in foreign else "doesn't connect its heads", str(finding))
-                    self.assertTrue(changed in foreign or not links.leads(early, last))
+                    self.assertTrue(changed in foreign or not links.has_path(early, last))
 
     def test_the_empty_journal_is_the_beginning_of_those_of_its_day(self):
-        empty = sealing.Seal(DAY, 24, sealing.new_salts(DAY), self.key).head()
-        head, links = sealed_of(AUCTION.read_bytes(), key=self.key).head(), receipts.Links([], self.public, [])
-        self.assertEqual(links.verdict_on_two(empty, head)[0], receipts.RIGHT)
-        self.assertEqual(links.verdict_on_two(empty._replace(day="2026-11-29"), head)[0], receipts.UNREAD)
-        self.assertEqual(links.verdict_on_two(empty._replace(periods=25), head)[0], receipts.WRONG)
+        empty = sealing.Seal(DAY, 24, sealing.draw_salts(DAY), self.key).signed_head()
+        head, links = sealed_of(AUCTION.read_bytes(), key=self.key).signed_head(), receipts.Links([], self.public, [])
+        self.assertEqual(links.verdict_and_words_on_two(empty, head)[0], receipts.RIGHT)
+        self.assertEqual(links.verdict_and_words_on_two(empty._replace(day="2026-11-29"), head)[0], receipts.UNREAD)
+        self.assertEqual(links.verdict_and_words_on_two(empty._replace(periods=25), head)[0], receipts.WRONG)
 
 
 def raw_of(public):
@@ -506,7 +506,7 @@ class Command(InFolder):
         said = ["entry 93: cancel,GAS,START,,,,,,, refused,HasChildren"]
         said.append("right: 94 receipts of the head of 2026-11-28 with 94 entries, 1 of them refused")
         self.assertEqual(self.verify(0, *every, "--day", DAY).splitlines(), said)
-        self.assertIn("is the head of 2026-11-28 with 94 entries, and not of 2026-11-29", self.run_for_error(3, "--day", "2026-11-29"))
+        self.assertIn("is the head of 2026-11-28 with 94 entries, and not of 2026-11-29", self.capture_error(3, "--day", "2026-11-29"))
         self.assertIn("right: 1 head", self.run_tool(0, "heads", "sealed/head.json", "--key", "key.pem.pub"))
         for path in (Path("key.pem"), Path("sealed/salts.json"), *every):
             self.assertEqual(stat.S_IMODE(path.stat().st_mode), 0o600)
@@ -527,10 +527,10 @@ class Command(InFolder):
         for one, parts in [(one, []) for one in made] + [(found, found["receipts"]), (wrong, wrong["findings"])]:
             with self.subTest(one["command"]):
                 self.assertIsNone(one["message"])
-                self.assertEqual(run_help_for_unsaid("receipts", one, *parts), set())
+                self.assertEqual(capture_unsaid_members("receipts", one, *parts), set())
         self.assertTrue(found["receipts"] and wrong["findings"])
 
-    def run_for_error(self, status, *words):
+    def capture_error(self, status, *words):
         """What `verify` says on standard error."""
         ran = run_tool("receipts", "verify", "sealed/receipts/STAD.jsonl", "--key", "key.pem.pub", "--head", "sealed/head.json", *words)
         self.assertEqual(ran[:2], (status, b""))
@@ -634,7 +634,7 @@ class Command(InFolder):
         made = [sealed_of(AUCTION.read_bytes(), key=key), sealed_of(AUCTION.read_bytes(), key=key), sealed_of(FIRST, day="2026-11-29", key=key)]
         paths = [Path(f"{name}.json") for name in "abc"]
         for path, seal in zip(paths, made):
-            path.write_bytes(heads.line_of(seal.head()))
+            path.write_bytes(heads.line_bytes_of(seal.signed_head()))
         for order in ((0, 2, 1), (2, 0, 1), (0, 1, 2), (0, 0, 2, 1, 0)):
             out = self.run_tool(1, "heads", *(paths[at] for at in order), "--key", "key.pem.pub")
             self.assertIn("the operator signed two trees of 2026-11-28 with 94 entries", out)
@@ -656,7 +656,7 @@ class Command(InFolder):
     def test_salts_of_another_day(self):
         self.seal()
         salts = Path("sealed/salts.json")
-        salts.write_bytes(heads.line_of(sealing.new_salts("2026-11-29")))
+        salts.write_bytes(heads.line_bytes_of(sealing.draw_salts("2026-11-29")))
         self.run_tool(3, "extend", "sealed", "day.csv", "replies.txt", "--key", "key.pem", "-o", "later")
 
     def test_replies_that_are_not_the_books(self):

@@ -56,7 +56,7 @@ class Reader(html.parser.HTMLParser):
 
 class Trades(unittest.TestCase):
     def test_what_is_bought_is_sold_and_paid(self):
-        for name, data, text in support.cleared_cases():
+        for name, data, text in support.read_cleared_cases():
             with self.subTest(name):
                 day = day_of(data, text)
                 totals = trades.totals(day).values()
@@ -65,11 +65,11 @@ class Trades(unittest.TestCase):
                 self.assertEqual(sum(total.paid for total in totals), sum(total.received for total in totals))
 
     def test_the_gain_of_all_participants_is_the_welfare(self):
-        for name, data, text in support.cleared_cases():
+        for name, data, text in support.read_cleared_cases():
             with self.subTest(name):
                 day = day_of(data, text)
                 value = 0
-                for row, made in trades.row_trades(day):
+                for row, made in trades.rows_and_trades(day):
                     sign = 1 if row.order.side == "buy" else -1
                     value += sum(sign * row.order.price * trade.volume for trade in made)
                 self.assertEqual(value, day.published.welfare)
@@ -92,7 +92,7 @@ class Page(unittest.TestCase):
 
     def test_the_page_is_whole_and_stands_alone(self):
         for name in ("auction-day", "empty", "too-large-block"):
-            case = support.cases("clear")[name]
+            case = support.read_worked_cases("clear")[name]
             text = self.page(case.stdin, case.right_stdout, [1, 2])
             read = Reader(text)
             with self.subTest(name):
@@ -217,7 +217,7 @@ class Page(unittest.TestCase):
         """As the page of the day does, with amounts written alike."""
         day, whys = day_of(AUCTION.read_bytes(), read_results(AUCTION)), []
         place = next(place for place, block in enumerate(day.problem.blocks) if block.name == "UNIT-7")
-        with unittest.mock.patch("lib.whatif.limits.run_for_rejected", lambda *_: {place: "With a limit of 92.00 EUR/MWh."}):
+        with unittest.mock.patch("lib.whatif.limits.capture_rejected_sentences", lambda *_: {place: "With a limit of 92.00 EUR/MWh."}):
             for who in (None, "OLD"):
                 page = importlib.import_module("lib.report.page").make_day_page(day, "day", [], None, who)
                 whys.append(re.search(r"[^>]*With a limit of 92.00 EUR/MWh[^<]*", page)[0].strip())
@@ -230,12 +230,12 @@ class Page(unittest.TestCase):
 
         day = day_of(QUARTERS.read_bytes(), read_results(QUARTERS))
         numbers = list(range(60, 60 + page_pictures.FEW_CURVES + 2))
-        with page_pictures.drawing_curves(day, numbers) as many:
+        with page_pictures.rendering_curves(day, numbers) as many:
             for child in multiprocessing.active_children():  # which this process ends at Ctrl-C
                 blocked = re.search(r"^SigBlk:\t(\w+)$", Path(f"/proc/{child.pid}/status").read_text(), re.MULTILINE)[1]
                 self.assertTrue(int(blocked, 16) >> signal.SIGINT - 1 & 1)
             self.assertNotIn(signal.SIGINT, signal.pthread_sigmask(signal.SIG_BLOCK, ()))
-            self.assertEqual(list(many), [page_pictures.draw_curves(day, number, True) for number in numbers])
+            self.assertEqual(list(many), [page_pictures.render_curves(day, number, True) for number in numbers])
 
     def test_the_axis_is_cut_about_the_price(self):
         """The limits go from -40 to 3,000 EUR/MWh; those far from the price are said in words."""
@@ -243,9 +243,9 @@ class Page(unittest.TestCase):
 
         day = day_of(SUNNY.read_bytes(), read_results(SUNNY))
         for number in (13, 20):
-            drawn = canvas.render_and_close(pictures.period_picture(day, number), "svg", words_as_text=True).decode()
+            drawn = canvas.render_and_close(pictures.new_period_figure(day, number), "svg", words_as_text=True).decode()
             self.assertIn("limits go up to 3,000.00 EUR/MWh", drawn)
-            demand, supply = curves.steps(day.problem.orders[number], "buy", 0), curves.steps(day.problem.orders[number], "sell", 0)
+            demand, supply = curves.curve_points(day.problem.orders[number], "buy", 0), curves.curve_points(day.problem.orders[number], "sell", 0)
             bottom, top = curves.price_range(day, number, (demand, supply))
             self.assertLess(top - bottom, 700)
             self.assertTrue(bottom < day.published.prices[number - 1] / 100 < top)
@@ -258,7 +258,7 @@ class Page(unittest.TestCase):
         self.assertNotIn("These results break the rules of the market.", self.page(AUCTION.read_bytes(), read_results(AUCTION)))
 
     def test_results_that_cannot_be_are_shown_as_wrong(self):
-        case = support.cases("clear")["too-large-block"]
+        case = support.read_worked_cases("clear")["too-large-block"]
         text = self.page(case.stdin, case.right_stdout.replace(b"rejected", b"accepted"), [1])
         self.assertIn("period 1: no execution balances", text)
         worse = results_of(AUCTION.read_bytes(), frozenset({0}))

@@ -15,7 +15,7 @@ import unittest
 import unittest.mock
 from pathlib import Path
 
-from support import AUCTION, TOOLS, journal_of, new_folder, results_of, run_tool, write_doctored_program
+from support import AUCTION, TOOLS, journal_of, make_folder_for_case, results_of, run_tool, write_doctored_program
 
 from lib.base import rules, text
 from lib.journal import book, journal
@@ -27,7 +27,7 @@ from lib.whatif import changes, scenarios
 HEADS = "scenario,participant,order,kind,side,price_eur_mwh,periods,volume_mw,parent,group\n"
 COMMANDS = HEADS.replace("scenario,", "scenario,what,")
 SMALL = ("submit,CITY,TOWN,hour,buy,5000,1:20,,", "submit,GEN,UNIT,block,sell,4000,1:20,,")
-HELD = changes.book_before_close(journal.parse_journal(journal_of(*SMALL)))
+HELD = changes.book_before_close_or_raise(journal.parse_journal(journal_of(*SMALL)))
 
 
 def rows(out):
@@ -36,7 +36,7 @@ def rows(out):
 
 class Tables(unittest.TestCase):
     def read(self, table):
-        found, notes = scenarios.parse_table("a.csv", table.encode(), HELD)
+        found, notes = scenarios.parse_table_and_notes("a.csv", table.encode(), HELD)
         return {scenario.name: scenario.rows() for scenario in found}, notes
 
     def test_orders_and_commands(self):
@@ -87,29 +87,29 @@ class Tables(unittest.TestCase):
             with self.assertRaisesRegex(errors.Fault, rf"^a.csv: line 8: .*\({reason}\)"):
                 self.read(f"{table}B,{wrong}\n")
         full = journal.parse_journal(journal_of(*(f"submit,A,O-{number},block,sell,1,1:1,," for number in range(rules.MOST_BLOCKS))))
-        held, more = changes.book_before_close(full), "submit,A,X,block,sell,1,1,1,,"
+        held, more = changes.book_before_close_or_raise(full), "submit,A,X,block,sell,1,1,1,,"
         lines = "".join(f"{name},cancel,A,O-{name},,,,,,,\n{name},{more}\n" for name in range(rules.MOST_BLOCKS))
         with unittest.mock.patch.object(book.Book, "copy", autospec=True, side_effect=book.Book.copy) as copy:
-            self.assertEqual(len(scenarios.parse_table("a.csv", (COMMANDS + lines).encode(), held)[0]), rules.MOST_BLOCKS)
+            self.assertEqual(len(scenarios.parse_table_and_notes("a.csv", (COMMANDS + lines).encode(), held)[0]), rules.MOST_BLOCKS)
         self.assertEqual(copy.call_count, 1)
         with self.assertRaisesRegex(errors.Fault, r"\(BlocksFull\)"):
-            scenarios.parse_table("a.csv", f"{COMMANDS}{lines}last,{more}\n".encode(), held)
+            scenarios.parse_table_and_notes("a.csv", f"{COMMANDS}{lines}last,{more}\n".encode(), held)
 
     def test_the_texts_are_those_of_the_books(self):
-        found, _ = scenarios.parse_table("a.csv", (HEADS + "A,WIND,M-1,hour,sell,10.00,1,2,,\n").encode(), HELD)
+        found, _ = scenarios.parse_table_and_notes("a.csv", (HEADS + "A,WIND,M-1,hour,sell,10.00,1,2,,\n").encode(), HELD)
         (scenario,) = found
-        held, _ = book.run_commands(journal.parse_journal(scenario.text))
+        held, _ = book.book_and_refusals(journal.parse_journal(scenario.text))
         self.assertEqual(held.rows, scenario.rows())
 
     def test_many_scenarios_take_little_memory(self):
         """None is kept: they are read again when they are needed."""
-        held = changes.book_before_close(journal.parse_journal(AUCTION.read_bytes()))
+        held = changes.book_before_close_or_raise(journal.parse_journal(AUCTION.read_bytes()))
         table = HEADS + "".join(f"S{number},,,,,,,,,\n" for number in range(1_000))
         tracemalloc.start()
-        found, _ = scenarios.parse_table("a.csv", table.encode(), held)
+        found, _ = scenarios.parse_table_and_notes("a.csv", table.encode(), held)
         most = tracemalloc.get_traced_memory()[1]
         tracemalloc.stop()
-        self.assertEqual((len(found), {scenario.text for scenario in found}), (1_000, {cleared.book_text(held.rows, 24)}))
+        self.assertEqual((len(found), {scenario.text for scenario in found}), (1_000, {cleared.journal_bytes(held.rows, 24)}))
         self.assertEqual([scenario.name for scenario in found], [f"S{number}" for number in range(1_000)])
         self.assertLess(most, 2**20)
 
@@ -117,9 +117,9 @@ class Tables(unittest.TestCase):
         """A longer table isn't read: the fault names the first line that is too many, after an empty one."""
         for ending in ("\n", "\r\n"):
             table = HEADS + "".join(f"S{number}{ending}" for number in range(scenarios.MOST_ROWS))
-            self.assertEqual(len(scenarios.parse_table("a.csv", table.encode(), HELD)[0]), 50_000)
+            self.assertEqual(len(scenarios.parse_table_and_notes("a.csv", table.encode(), HELD)[0]), 50_000)
             with self.assertRaisesRegex(errors.Fault, "^a.csv: line 50003: a table has at most 50,000 rows after its first$"):
-                scenarios.parse_table("a.csv", f"{table}\nmore{ending * 9}x".encode(), HELD)
+                scenarios.parse_table_and_notes("a.csv", f"{table}\nmore{ending * 9}x".encode(), HELD)
 
     def test_a_table_of_any_shape_takes_little_memory(self):
         """Of 5 MB: a scenario in each row, one of all rows, many cells, and long ones."""
@@ -133,7 +133,7 @@ class Tables(unittest.TestCase):
         for shape, lines in shapes.items():
             table = (COMMANDS + "".join(f"{line}\n" for line in lines)).encode()
             tracemalloc.start()
-            found, _ = scenarios.parse_table("a.csv", table[: table.rindex(b"\n", 0, 5_000_000)], HELD)
+            found, _ = scenarios.parse_table_and_notes("a.csv", table[: table.rindex(b"\n", 0, 5_000_000)], HELD)
             most = tracemalloc.get_traced_memory()[1]
             tracemalloc.stop()
             self.assertLess(most, 32 << 20, shape)
@@ -175,18 +175,18 @@ class Distribution(unittest.TestCase):
             over.add_or_raise("S", printed("accepted", number * 1_000))
         for _ in range(20):
             over.add_or_raise("S", printed("rejected", 999_980))
-        _, row = over.table()
+        _, row = over.table_rows()
         self.assertEqual(row, ["GEN", "UNIT", "40.00", 40, 20, "0.5000", "5.25", "1.00", "5.00", "10.00", "15.00", "19.00"])
-        self.assertEqual(list(scenarios.distribution_words(over)),
+        self.assertEqual(list(scenarios.distribution_lines(over)),
                          ["GEN UNIT is accepted in 20 of 40 scenarios; the median of its surplus is then 10.00 EUR"])
-        held = changes.book_before_close(journal.parse_journal(journal_of(*SMALL).replace(b"day,24,", b"day,96,")))
+        held = changes.book_before_close_or_raise(journal.parse_journal(journal_of(*SMALL).replace(b"day,24,", b"day,96,")))
         quarters = scenarios.Distribution(held, [("GEN", "UNIT")])
         quarters.surpluses, quarters.rejected = over.surpluses, over.rejected
-        self.assertEqual(list(quarters.table())[1][7:], ["0.25", "1.25", "2.50", "3.75", "4.75"])
-        self.assertIn("the median of its surplus is then 2.50 EUR", list(scenarios.distribution_words(quarters))[0])
+        self.assertEqual(list(quarters.table_rows())[1][7:], ["0.25", "1.25", "2.50", "3.75", "4.75"])
+        self.assertIn("the median of its surplus is then 2.50 EUR", list(scenarios.distribution_lines(quarters))[0])
         none = scenarios.Distribution(HELD, [("GEN", "UNIT")])
         none.add_or_raise("S", printed("rejected", 20))
-        self.assertEqual(list(none.table())[1][4:], [0, "0.0000", "0.00", "", "", "", "", ""])
+        self.assertEqual(list(none.table_rows())[1][4:], [0, "0.0000", "0.00", "", "", "", "", ""])
 
     def test_a_surplus_that_is_not_the_one_at_the_prices(self):
         over = scenarios.Distribution(HELD, [("GEN", "UNIT")])
@@ -205,11 +205,11 @@ class Distribution(unittest.TestCase):
         from lib.whatif import scenario_picture
 
         for periods, median in ((24, "10.00"), (96, "2.50")):
-            held = changes.book_before_close(journal.parse_journal(journal_of(*SMALL).replace(b"day,24,", b"day,%d," % periods)))
+            held = changes.book_before_close_or_raise(journal.parse_journal(journal_of(*SMALL).replace(b"day,24,", b"day,%d," % periods)))
             over = scenarios.Distribution(held, [("GEN", "UNIT")])
             over.surpluses["GEN", "UNIT"] = [number * 1_000 for number in range(1, 21)]
             figure, axes = pyplot.subplots()
-            scenario_picture.draw(axes, over, ("GEN", "UNIT"))
+            scenario_picture.draw_distribution(axes, over, ("GEN", "UNIT"))
             self.assertEqual(axes.get_legend_handles_labels()[1], [f"median of the surplus: {median} EUR"])
             pyplot.close(figure)
 
@@ -231,7 +231,7 @@ class Distribution(unittest.TestCase):
 @unittest.skipUnless(modules.has_module("numpy"), "numpy is missing (Debian's python3-numpy)")
 class Samples(unittest.TestCase):
     def setUp(self):
-        self.held = changes.book_before_close(journal.parse_journal(AUCTION.read_bytes()))
+        self.held = changes.book_before_close_or_raise(journal.parse_journal(AUCTION.read_bytes()))
 
     def sampler(self, who="OLD", seed="1", price_sd=300, volume_sd=0.1):
         return scenarios.Sampler(self.held, who, seed, price_sd, volume_sd)
@@ -239,7 +239,7 @@ class Samples(unittest.TestCase):
     def test_the_text_is_that_of_the_orders(self):
         sampler = self.sampler()
         for scenario in sampler.draw_scenarios(5):
-            self.assertEqual(scenario.text, cleared.book_text(scenario.rows(), 24))
+            self.assertEqual(scenario.text, cleared.journal_bytes(scenario.rows(), 24))
 
     def test_each_depends_on_the_seed_and_its_number(self):
         self.assertEqual(self.sampler().draw_text(3), list(self.sampler().draw_scenarios(3))[2].text)
@@ -277,7 +277,7 @@ class Samples(unittest.TestCase):
 
 class Tool(unittest.TestCase):
     def setUp(self):
-        self.folder = new_folder(self)
+        self.folder = make_folder_for_case(self)
         self.journal, self.table = Path(self.folder, "day.csv"), Path(self.folder, "s.csv")
         self.journal.write_bytes(journal_of(*SMALL))
         self.table.write_text(COMMANDS + "as is,,,,,,,,,,\nmill,submit,WIND,MILL,hour,sell,10,1,2,,\nhigh,amend,GEN,UNIT,,,60,1,2,,\n")
@@ -350,7 +350,7 @@ class Tool(unittest.TestCase):
         self.assertEqual([row["scenario"] for row in json.loads(run_tool("whatif", *words, "--json")[1])["rows"]], names)
         path = Path(self.folder, "a.xlsx")
         self.assertEqual(run_tool("whatif", *words, "-o", path), (0, b"", ""))
-        self.assertEqual([cells[0] for _, cells in sheets.parse_rows(path.read_bytes())[0]], ["scenario", *names])
+        self.assertEqual([cells[0] for _, cells in sheets.parse_rows_and_add_notes(path.read_bytes())[0]], ["scenario", *names])
 
     def test_characters_that_no_name_has(self):
         """No line of a text, or no cell of a workbook, could hold them."""
@@ -505,7 +505,7 @@ class Hanging(unittest.TestCase):
         for answer in (None, [], {}, {"workers": None}, {"workers": [1]}, {"workers": {"a": None}}, {"workers": {"a": {"status": "running"}}}):
             made.client.sync.return_value = answer
             with self.assertRaisesRegex(errors.Lost, "^the cluster C doesn't answer any more$"):
-                made.count_workers_or_raise()
+                made.count_and_note_workers_or_raise()
 
     def test_no_worker(self):
         made = self.cluster()
@@ -528,7 +528,7 @@ class Hanging(unittest.TestCase):
         workers = {address: {"last_seen": when, "status": "running"} for address, when in seen.items()}
         made.client.sync.return_value = {"workers": workers}
         with unittest.mock.patch.object(cluster.time, "monotonic", return_value=now):
-            return made.count_workers_or_raise()
+            return made.count_and_note_workers_or_raise()
 
 
 if __name__ == "__main__":

@@ -9,7 +9,7 @@ from pathlib import Path
 
 from support import AUCTION, AUCTION_RESULTS, journal_of, read_results, run_tool, writing_files
 
-import days
+from shared import days
 from lib.base import rules, subsequence
 from lib.journal import book, journal
 from lib.lint import sent
@@ -86,7 +86,7 @@ class Worked(unittest.TestCase):
         self.assertEqual(self.differences([*OWN[:2], other, OWN[3]]), [said])
 
     def test_several_changes_of_one_order(self):
-        """They are paired in their order."""
+        """They are pairs_and_rests in their order."""
         begin = "submit,A,H1,hour,buy,100,1:10,,"
         amends = [f"amend,A,H1,,,{price},1:10,," for price in (201, 301, 401)]
         others = [f"amend,A,H1,,,{price},1:10,," for price in (202, 302, 402)]
@@ -204,11 +204,15 @@ class Worked(unittest.TestCase):
         self.assertEqual(audit(PUBLISHED, data, "A", "--quiet"), (command.DONE, "", ""))
         status, out, again = audit(PUBLISHED, data, "A", "--json")
         self.assertEqual(([note.rpartition("/")[2] for note in json.loads(out)["notes"]], again), (notes, err))
-        self.assertEqual(json.loads(audit(PUBLISHED, text_of(OWN), "A", "--json")[1])["notes"], [])
+        made = json.loads(audit(PUBLISHED, text_of(OWN), "A", "--json")[1])
+        self.assertEqual((made["notes"], made["sent"]), ([], {"commands": 4, "refused": 1}))
+        made = json.loads(audit(PUBLISHED, text_of(OWN[:3]), "A", "--json")[1])  # the command that it doesn't have is counted too
+        self.assertEqual((made["verdict"], made["sent"]), ("wrong", {"commands": 4, "refused": 1}))
         # Those of another table may be why it has none of the participant.
         said = ["audit: sent isn't what C sent: it has 2 commands of others, and none of C", *(note.removeprefix("sent: ") for note in notes)]
         self.assertEqual(audit(PUBLISHED, data, "C"), (command.NO_INPUT, "", text_of(said).decode()))
-        self.assertEqual(json.loads(audit(b"", data, "A", "--json")[1])["notes"], [])
+        made = json.loads(audit(b"", data, "A", "--json")[1])
+        self.assertEqual((made["notes"], made["sent"]), ([], None))
 
     def test_with_results_the_lines_are_checked_too(self):
         data, right = AUCTION.read_bytes(), read_results(AUCTION)
@@ -296,13 +300,13 @@ class Drawn(unittest.TestCase):
                 yield rng, read, [sent.Sent(at, entry) for at, entry in enumerate(commands, 1)]
 
     def differences(self, read, own):
-        return sent.difference_faults(own, sent.published_of(read, book.run_commands(read)[1], "A"))
+        return sent.difference_faults(own, sent.published_of(read, book.book_and_refusals(read)[1], "A"))
 
     def test_what_was_sent_is_there_with_its_replies(self):
         tried = 0
         for _, read, own in self.days(200):
             self.assertEqual(self.differences(read, own), [])
-            published = sent.published_of(read, book.run_commands(read)[1], "A")
+            published = sent.published_of(read, book.book_and_refusals(read)[1], "A")
             lines = book.replies_text(read).splitlines()
             for one, other in zip(own, published):
                 self.assertEqual(read.commands[other.record - 2], one.command)

@@ -1,8 +1,10 @@
 """Tables of orders as spreadsheets have them, and tables for spreadsheets."""
 
+import codecs
 import csv
 import io
 import os
+import re
 import tempfile
 import time
 import unittest
@@ -12,7 +14,7 @@ from support import AUCTION, AUCTION_RESULTS, TOP, journal_of, read_results, res
 
 from lib.base import clock, rules, text
 from lib.journal import journal
-from lib.sheets import command_table, order_table, sheets
+from lib.sheets import cell_values, command_table, order_table, sheets
 from lib.tool import command, modules
 
 HEADER = "participant,order,kind,side,price_eur_mwh,periods,volume_mw,parent,group"
@@ -133,11 +135,11 @@ class Columns(unittest.TestCase):
         ):
             for between in ("", " ", ",", ",,"):
                 with self.subTest(command, between=between), self.assertRaises(order_table.BadOrders) as caught:
-                    command_table.parse_commands(order_table.parse_cells(f"{heads}{between}{command}\n{command}\n".encode()), 24)
+                    command_table.parse_commands_and_notes(order_table.parse_cells(f"{heads}{between}{command}\n{command}\n".encode()), 24)
                 self.assertRegex(str(caught.exception).splitlines()[0], f"^line 1, column [0-9]: '(note ?)?([Cc]ancel|amend)' {ends}$")
         for heads in ("to cancel", "cancelled,by", "orders to cancel,with reason,date", "why amend,A1"):
             data = f"what,participant,order,{heads}\ncancel,A,K1\n".encode()
-            found, _ = command_table.parse_commands(order_table.parse_cells(data), 24)
+            found, _ = command_table.parse_commands_and_notes(order_table.parse_cells(data), 24)
             self.assertEqual(len(list(found)), 1, heads)
 
     def test_headers_of_tables_put_together(self):
@@ -186,7 +188,7 @@ class Times(unittest.TestCase):
                 first, last = clock.time_span(periods, number).split(" to ")
                 times = [clock.begin_time(periods, at) for at in range(1, periods + 1)]
                 if times.count(first) == 1 and times.count(last) <= 1:
-                    self.assertEqual(clock.parse_clock_span(periods, first, last), [number], (periods, first, last))
+                    self.assertEqual(clock.parse_periods_between_times(periods, first, last), [number], (periods, first, last))
 
     def test_times_that_are_none(self):
         for cell, said in (
@@ -266,10 +268,30 @@ class ForSpreadsheets(unittest.TestCase):
                 self.assertEqual(wrong(f"A,K,block,buy,1,{periods},{volumes.format(space)},,"), [said])
         said = "line 2, column volume_mw: '1 500 200.5' may be one number or 3: write 1500200.5 or 1;500;200.5"
         self.assertEqual(wrong("A,K,block,buy,1,8-10,1 500 200.5,,"), [said])
+        for volumes in ("1 50", "1 5000", "1.5 500", "1  50"):
+            said = f"line 2, column volume_mw: '{volumes}' has a space between values: write a semicolon there"
+            self.assertEqual(wrong(f"A,K,block,buy,1,8-9,{volumes},,"), [said])
         # these are several numbers
-        for volumes in ("1 50", "1 5000", "1;500", "1.5 500", "1; 500"):
+        for volumes in ("1;500", "1; 500", "1 ;500", "  1  ;  500 "):
             (line,), _ = records_and_notes(f"A,K,block,buy,1,8-9,{volumes},,")
             self.assertEqual(line.count(":"), 2)
+
+    def test_only_semicolons_separate_values(self):
+        """Excel shows 1 and 2 with a tab, or with a line end of a cell that isn't wrapped, between them as 12."""
+        for periods in ("8 9", "8-9 11", "8; 9 10", "07:00-08:00 09:00-10:00", "8 - 9 11", "1 000"):
+            (said,) = wrong(f"A,K,block,buy,1,{periods},5,,")
+            self.assertRegex(said, "^line 2, column periods: '.*' has a space between values: write a semicolon there$")
+        for number in (*range(9, 14), *range(0x1C, 0x20), 0x85, 0xA0, 0x1680, *range(0x2000, 0x200B), 0x2028, 0x2029, 0x202F, 0x205F, 0x3000):
+            space, words = chr(number), f"has the white space U\\+{number:04X}: write a space instead, or a semicolon between values$"
+            for cell in ("8{}9", "8;{}9", "8{}-9", "8 {} 9", "07:00-08:00{}08:00-09:00"):
+                with self.subTest(cell, number=number), self.assertRaisesRegex(order_table.BadOrders, words):
+                    cell_values.parse_periods(cell.format(space), 24)
+            for cell in ("1{}2", "1;{}2", "1.5{}500", "1{}500 ;2"):
+                may_be_thousands = cell == "1{}500 ;2" and space in "\u00a0\u202f"
+                with self.subTest(cell, number=number), self.assertRaisesRegex(order_table.BadOrders, "may be one number" if may_be_thousands else words):
+                    cell_values.parse_volumes(cell.format(space), (8, 9), True)
+        for cell in (" 8 - 9 ", "8-9", "8 ; 9", "07:00-08:00 ;08:00 - 09:00"):
+            self.assertEqual(cell_values.parse_periods(cell, 24), [8, 9])
 
     def test_an_empty_part_of_a_list(self):
         """One volume is for all periods, but not if others may have stood next to it."""
@@ -321,7 +343,7 @@ class ForSpreadsheets(unittest.TestCase):
         import openpyxl
 
         rows = [HEADER.split(","), *(f"A,K,block,buy,1.00,1-2,{volumes},,".split(",") for volumes in ("5.0", "5.0;6.5"))]
-        sheet = openpyxl.load_workbook(io.BytesIO(sheets.workbook_bytes({"orders": rows})))["orders"]
+        sheet = openpyxl.load_workbook(io.BytesIO(sheets.workbook_bytes_or_refuse({"orders": rows})))["orders"]
         self.assertEqual([sheet.cell(line, 7).value for line in (2, 3)], [5.0, "5.0;6.5"])
 
     @WITH_EXCEL
@@ -411,6 +433,33 @@ class Tolerance(unittest.TestCase):
                 for wrong_data in (data[:place] + data[place + 1 :], data[:place] + b"x" + data[place:]):
                     with self.assertRaisesRegex(order_table.BadOrders, said):
                         order_table.parse_tables([("", wrong_data)], 24)
+
+    def test_two_lost_bytes_of_utf_16(self):
+        """They are a character that the text lacks, or half of one that takes four bytes, which is seen. Lines without an end between them
+        are one with too many cells; without the end of the last line nothing changes."""
+        rows = table(*(f"{who},H,hour,buy,1,8,5,,,x\U0001f600" for who in "AB"), header=f"{HEADER},note").decode()
+        data, faults = rows.encode("utf-16-le"), {}
+        for place in range(0, len(data), 2):
+            lacking = data[:place] + data[place + 2 :]
+            try:
+                plain = lacking.decode("utf-16-le").encode()
+            except UnicodeDecodeError:
+                faults[place] = self.fault_of(codecs.BOM_UTF16_LE + lacking)
+                self.assertIn("isn't in UTF-16", faults[place])
+            else:
+                faults[place] = self.fault_of(plain)
+                self.assertEqual(self.fault_of(codecs.BOM_UTF16_LE + lacking), faults[place], place)
+        first, second, last = (found.start() for found in re.finditer("\n", rows.replace("\U0001f600", "xx")))
+        self.assertIn("it has 19 cells, but the header has 10", faults[2 * second])
+        self.assertEqual((faults[2 * last], faults[2 * first] is None), (None, False))
+
+    def fault_of(self, data):
+        """The fault of a table of orders; None if it has none."""
+        try:
+            order_table.parse_tables([("", data)], 24)
+        except order_table.BadOrders as fault:
+            return str(fault)
+        return None
 
     @WITH_EXCEL
     def test_the_sheet_that_is_read(self):
@@ -504,14 +553,14 @@ class Statement(unittest.TestCase):
     )
     DAY = DATA + b"results\n" + results_of(DATA, frozenset())
 
-    def run_for_rows(self, *words):
+    def capture_rows(self, *words):
         status, out, err = run_tool("table", "--quiet", *words, "-", data=self.DAY)
         self.assertEqual((status, err), (0, ""))
         return list(csv.DictReader(io.StringIO(out.decode())))
 
     def test_what_was_sent_and_what_became_of_it(self):
         heads = ["command", "what", "order", "reply", "reason", "outcome", "executed_mwh", "amount_eur", "code"]
-        found = [[row[head] for head in heads] for row in self.run_for_rows("--participant", "A")]
+        found = [[row[head] for head in heads] for row in self.capture_rows("--participant", "A")]
         self.assertEqual(
             found,
             [
@@ -523,21 +572,21 @@ class Statement(unittest.TestCase):
                 ["7", "submit", "K1", "done", "", "rejected", "0.0", "0.000", "loses"],
             ],
         )
-        whys = [row["why"] for row in self.run_for_rows("--participant", "A")]
+        whys = [row["why"] for row in self.capture_rows("--participant", "A")]
         self.assertEqual(whys[:2], ["command 4 changes it", "command 5 cancels it"])
         self.assertEqual(whys[2], "its limit is better than the price, 52.50 EUR/MWh")
         self.assertEqual(whys[4], "the participant has no such order: it was cancelled, refused, or never entered")
 
     def test_each_participants_statements_are_all_of_them(self):
-        whole = self.run_for_rows("--rows", "statement")
-        parts = [row for who in "AB" for row in self.run_for_rows("--participant", who)]
+        whole = self.capture_rows("--rows", "statement")
+        parts = [row for who in "AB" for row in self.capture_rows("--participant", who)]
         self.assertEqual(sorted(parts, key=lambda row: int(row["command"])), whole[:-1])
         self.assertEqual(whole[-1]["what"], "close")
 
     def test_other_tables_of_a_participant(self):
-        self.assertEqual([row["participant"] for row in self.run_for_rows("--participant", "A", "--rows", "participants")], ["A"])
-        self.assertEqual(len(self.run_for_rows("--participant", "B", "--rows", "orders", "--long")), 1)
-        self.assertEqual([row["command"] for row in self.run_for_rows("--participant", "B", "--rows", "commands")], ["2"])
+        self.assertEqual([row["participant"] for row in self.capture_rows("--participant", "A", "--rows", "participants")], ["A"])
+        self.assertEqual(len(self.capture_rows("--participant", "B", "--rows", "orders", "--long")), 1)
+        self.assertEqual([row["command"] for row in self.capture_rows("--participant", "B", "--rows", "commands")], ["2"])
 
     def test_a_participant_without_a_command_is_a_fault(self):
         """Such as one whose name is misspelt: a script would take an empty table for an answer."""

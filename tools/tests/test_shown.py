@@ -49,7 +49,7 @@ class Scenes(unittest.TestCase):
             room = Path(folder).resolve()
             (room / "home").mkdir()
             (room / "page.md").write_text(page)
-            reader = session.PageReader(form, room, [], session.make_environment(room / "home", {"PATH": "/usr/bin:/bin"}))
+            reader = session.PageReader(form, room, [], session.make_environment_with_browser(room / "home", {"PATH": "/usr/bin:/bin"}))
             session.run_and_check_commands(counts, "page.md", reader, room)
         return counts.passed, counts.failed
 
@@ -118,7 +118,7 @@ class Shown(unittest.TestCase):
         for number, text in steps:
             (path,) = (TOP / "examples" / "guide").glob(f"{number}-*.csv")
             with self.subTest(path.name):
-                closed, reasons = book.run_commands(journal.parse_journal(path.read_bytes()))
+                closed, reasons = book.book_and_refusals(journal.parse_journal(path.read_bytes()))
                 self.assertEqual(set(reasons), {None})
                 lines = path.read_text().splitlines()
                 quoted = re.findall(r"^submit,.*$", text, re.MULTILINE)

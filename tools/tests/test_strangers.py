@@ -28,7 +28,7 @@ class Safe(unittest.TestCase):
 
 
 class Tools(unittest.TestCase):
-    def run_for_output(self, name, *words, data=b""):
+    def capture_output(self, name, *words, data=b""):
         """The output of a tool, which nothing in it may change: neither a terminal, nor a line of 1,000 characters."""
         _, out, err = run_tool(name, *words, data=data)
         lines = (out.decode() + err).splitlines()
@@ -44,14 +44,14 @@ class Tools(unittest.TestCase):
             for at in range(9):
                 fields = [*line[:at], long.replace("\r", ""), *line[at + 1 :]]
                 data = f"day,24,,,,,,,\n{','.join(fields)}\nclose,,,,,,,,\n".encode()
-                self.assertIn(shown, self.run_for_output("lint", "-", data=data))
+                self.assertIn(shown, self.capture_output("lint", "-", data=data))
                 if at in (0, 2, 6):
-                    self.run_for_output("audit", "-", AUCTION, data=data)
-                    self.run_for_output("table", "--rows", "commands", "-", data=data)
-                    self.run_for_output("audit", AUCTION, "--sent", "-", "--participant", "GAS", data=data)
+                    self.capture_output("audit", "-", AUCTION, data=data)
+                    self.capture_output("table", "--rows", "commands", "-", data=data)
+                    self.capture_output("audit", AUCTION, "--sent", "-", "--participant", "GAS", data=data)
             data = f"day,{long},,,,,,,\n".encode()
-            self.assertIn(shown, self.run_for_output("lint", "-", data=data))
-            self.assertIn(shown, self.run_for_output("lint", "-", data=long.encode()))
+            self.assertIn(shown, self.capture_output("lint", "-", data=data))
+            self.assertIn(shown, self.capture_output("lint", "-", data=long.encode()))
 
     def test_each_cell_of_a_table_of_orders(self):
         line = "NORD,WIND-8,hour,sell,12.5,8,45,,".split(",")
@@ -59,27 +59,27 @@ class Tools(unittest.TestCase):
             shown = text.safe(long)[:10]
             for at in range(9):
                 fields = ",".join([*line[:at], long, *line[at + 1 :]])
-                said = self.run_for_output("table", "--journal", "-", data=f"{HEADER}\n{fields}\n".encode())
+                said = self.capture_output("table", "--journal", "-", data=f"{HEADER}\n{fields}\n".encode())
                 self.assertIn(shown if at < 5 else "column", said)
             heads = HEADER.replace("kind", long)
-            self.assertIn(shown, self.run_for_output("table", "--journal", "-", data=f"{heads}\n{','.join(line)}\n".encode()))
+            self.assertIn(shown, self.capture_output("table", "--journal", "-", data=f"{heads}\n{','.join(line)}\n".encode()))
 
     def test_lines_of_results_and_names_of_files(self):
         data, right = AUCTION.read_bytes(), read_results(AUCTION)
         for long in (BAD, "9" * 6_000):
             wrong = right.replace(b"period,3,", b"period,3," + long.encode())
-            self.assertIn(text.safe(long)[:10], self.run_for_output("audit", AUCTION, "-", data=wrong))
+            self.assertIn(text.safe(long)[:10], self.capture_output("audit", AUCTION, "-", data=wrong))
             replies = f"day,24\n1,done\n{long}\n".encode()
-            self.assertIn(text.safe(long)[:5], self.run_for_output("audit", "--replies", AUCTION, "-", data=replies))
+            self.assertIn(text.safe(long)[:5], self.capture_output("audit", "--replies", AUCTION, "-", data=replies))
         with tempfile.TemporaryDirectory() as folder:
             path = Path(folder, BAD.replace("\x00", ""))
             path.write_bytes(data)
             for name, words in (("lint", []), ("audit", [path]), ("table", ["--journal"]), ("table", []), ("plot", [path, "-o", "a.svg"])):
-                self.run_for_output(name, *words, f"{path}.none")
-            self.run_for_output("plot", path, "-o", path)
-            self.run_for_output("audit", path, f"--{BAD[:-1]}", path)
+                self.capture_output(name, *words, f"{path}.none")
+            self.capture_output("plot", path, "-o", path)
+            self.capture_output("audit", path, f"--{BAD[:-1]}", path)
             for words in ([path] * 2 + ["x\nas the rules say"], ["--x\nas the rules say"]):
-                self.assertIn(r"arguments: x\nas the rules say" if path in words else r"\nas the rules say", self.run_for_output("audit", *words))
+                self.assertIn(r"arguments: x\nas the rules say" if path in words else r"\nas the rules say", self.capture_output("audit", *words))
 
 
 if __name__ == "__main__":

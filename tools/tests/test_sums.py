@@ -4,7 +4,7 @@ import json
 import unittest
 
 import support
-from support import AUCTION, QUARTERS, cleared_cases, journal_of, problem, read_results, results_of, run_audit
+from support import AUCTION, QUARTERS, journal_of, problem_of, read_cleared_cases, read_results, results_of, run_audit
 from test_audit import changed_numbers
 
 from lib.results import results, sums, trades
@@ -22,8 +22,8 @@ ACCEPTED = results_of(FAMILY, frozenset({0, 1}))
 
 
 def read(data, text):
-    day = problem(data)
-    said, wrong = results.parse_results(day, text)
+    day = problem_of(data)
+    said, wrong = results.parse_results_and_faults(day, text)
     assert not wrong, wrong
     return day, said
 
@@ -40,7 +40,7 @@ def doctored(**changes):
 
 class Sums(unittest.TestCase):
     def test_worked_results(self):
-        for name, data, text in cleared_cases():
+        for name, data, text in read_cleared_cases():
             with self.subTest(name):
                 self.assertEqual(of(sums.sum_faults(*read(data, text))), [])
 
@@ -102,10 +102,10 @@ class Sums(unittest.TestCase):
     def test_they_name_each_changed_number_that_they_read(self):
         """The sums alone, without the other checks, refuse each other welfare, volume, executed volume and surplus of an accepted block."""
         refused = 0
-        for name, data, text in cleared_cases():
-            day = problem(data)
+        for name, data, text in read_cleared_cases():
+            day = problem_of(data)
             for other, line in changed_numbers(text):
-                said, wrong = results.parse_results(day, other)
+                said, wrong = results.parse_results_and_faults(day, other)
                 kind, *fields = text.splitlines()[line - 1].decode().split(",")
                 is_price = kind == "period" and other.splitlines()[line - 1].decode().split(",")[3] == fields[2]
                 if said is None or wrong or is_price or kind == "block" and fields[2] == "rejected":
@@ -120,7 +120,7 @@ class Tool(unittest.TestCase):
     def test_the_money_is_one_line(self):
         for case in (AUCTION, QUARTERS):
             day = support.day_of(case.read_bytes(), read_results(case))
-            amount = day.problem.euros(sum(total.paid for total in trades.totals(day).values()))
+            amount = day.problem.euros_text(sum(total.paid for total in trades.totals(day).values()))
             status, out, _ = run_audit(case.read_bytes(), read_results(case))
             wanted = f"by adding: buyers pay {amount} EUR, sellers receive {amount} EUR; "
             self.assertEqual((status, out.decode().count(f"\n{wanted}")), (command.DONE, 1))

@@ -36,13 +36,13 @@ def total(rows, column):
 
 class Results(unittest.TestCase):
     def days(self):
-        for name, data, text in support.cleared_cases():
+        for name, data, text in support.read_cleared_cases():
             with self.subTest(name):
                 yield day_of(data, text)
 
     def test_the_tables_add_up(self):
         for day in self.days():
-            periods, orders, participants = (read(of(day)) for of in (tables.periods, tables.orders, tables.participants))
+            periods, orders, participants = (read(of(day)) for of in (tables.period_rows, tables.order_rows, tables.participant_rows))
             self.assertEqual((len(periods), len(orders)), (day.problem.periods, len(day.problem.rows)))
             bought = total(periods, "hourly_buys_mw") + total(periods, "block_buys_mw")
             sold = total(periods, "hourly_sells_mw") + total(periods, "block_sells_mw")
@@ -55,7 +55,7 @@ class Results(unittest.TestCase):
     def test_the_participants_share_out_the_welfare(self):
         """Their amounts add up to nothing, and their surpluses to the welfare; so do those of the hourly orders and of the accepted blocks."""
         for day in self.days():
-            participants, orders = read(tables.participants(day)), read(tables.orders(day))
+            participants, orders = read(tables.participant_rows(day)), read(tables.order_rows(day))
             welfare = Fraction(text.eur(day.published.welfare, day.problem.hours, ""))
             self.assertEqual([total(participants, "net_eur"), total(participants, "gain_eur")], [0, welfare])
             self.assertEqual([row for row in participants if Fraction(row["gain_eur"]) < 0], [])
@@ -69,7 +69,7 @@ class Results(unittest.TestCase):
 
     def test_the_auction_day(self):
         day = day_of(AUCTION.read_bytes(), read_results(AUCTION))
-        periods, orders, participants = (read(of(day)) for of in (tables.periods, tables.orders, tables.participants))
+        periods, orders, participants = (read(of(day)) for of in (tables.period_rows, tables.order_rows, tables.participant_rows))
         row = periods[18]
         self.assertEqual((row["period"], row["price_eur_mwh"], row["volume_mw"]), ("19", "165.00", "730.0"))
         self.assertEqual((periods[1]["low_eur_mwh"], periods[1]["high_eur_mwh"]), ("2.00", "92.00"))
@@ -82,18 +82,18 @@ class Results(unittest.TestCase):
 
     def test_periods_without_trade_are_marked(self):
         for day in self.days():
-            for row in read(tables.periods(day)):
+            for row in read(tables.period_rows(day)):
                 self.assertEqual(row["traded"], "no" if row["volume_mw"] == "0.0" else "yes")
-        periods = read(tables.periods(day_of(FIRST, results_of(FIRST, frozenset()))))
+        periods = read(tables.period_rows(day_of(FIRST, results_of(FIRST, frozenset()))))
         self.assertEqual([row["period"] for row in periods if row["traded"] == "yes"], ["8", "9"])
         middle = text.eur_per_mwh((rules.LOWEST_PRICE + rules.HIGHEST_PRICE) // 2)
         self.assertEqual((periods[0]["price_eur_mwh"], periods[0]["volume_mw"]), (middle, "0.0"))
 
     def test_the_table_of_orders_makes_the_same_book(self):
         for day in self.days():
-            text = sheets.table_text(tables.orders(day)).encode()
-            again = order_table.parse_orders(text, day.problem.periods, True)
-            made, reasons = book.run_commands(again)
+            text = sheets.table_text(tables.order_rows(day)).encode()
+            again = order_table.parse_journal_of_orders(text, day.problem.periods, True)
+            made, reasons = book.book_and_refusals(again)
             self.assertEqual(set(reasons), {None})
             self.assertEqual(list(made.rows.items()), list(day.book.rows.items()))
 
@@ -101,7 +101,7 @@ class Results(unittest.TestCase):
 class Orders(unittest.TestCase):
     def records(self, *rows, header=HEADER, periods=24):
         table = "".join(f"{row}\n" for row in [header, *rows]).encode()
-        return journal.journal_text(order_table.parse_orders(table, periods, False)).splitlines()[1:]
+        return journal.journal_text(order_table.parse_journal_of_orders(table, periods, False)).splitlines()[1:]
 
     def wrong(self, *rows, header=HEADER):
         with self.assertRaises(order_table.BadOrders) as fault:
@@ -234,7 +234,13 @@ class Orders(unittest.TestCase):
         for what, row in (("amend", "NORD,WIND-8,,,12.5,8,45,,"), ("cancel", "NORD,WIND-8,,,,,,,"), ("close", ",,,,,,,,")):
             said = self.wrong(f"submit,{HOUR}", f"{what},{row}", header=f"what,{HEADER}")
             self.assertEqual(said, f"line 3, column what: '{what}': {words}")
-        self.assertEqual(self.records(f"submit,{HOUR}", header=f"what,{HEADER}"), self.records(HOUR))
+        for what in ("cancelled", "Delete", "withdrawn", "submit?", "x", "0"):
+            said = self.wrong(f"submit,{HOUR}", f"{what},{HOUR}", header=f"what,{HEADER}")
+            wanted = f"'{what.lower()}' should be submit, order or empty: remove the row, or give the column another name"
+            self.assertEqual(said, f"line 3, column what: {wanted}")
+        for what in ("submit", " Submit ", "order", ""):
+            self.assertEqual(self.records(f"{what},{HOUR}", header=f"what,{HEADER}"), self.records(HOUR))
+        self.assertEqual(self.records(f"submit,{HOUR}", f"what,{HEADER}", header=f"what,{HEADER}"), self.records(HOUR))
 
     def test_days_that_are_none(self):
         with self.assertRaisesRegex(order_table.BadOrders, "^a day has 23, 24, 25, 92, 96 or 100 periods, not 26$"):
@@ -257,7 +263,7 @@ class Orders(unittest.TestCase):
         self.assertIn("the table is empty", self.wrong(header=""))
         self.assertIn("line 2: it has 10 cells, but the header has 9", self.wrong(BLOCK + ",1"))
         with self.assertRaises(order_table.BadOrders) as fault:
-            order_table.parse_orders(HEADER.encode() + b"\nN\x81RD", 24, True)
+            order_table.parse_journal_of_orders(HEADER.encode() + b"\nN\x81RD", 24, True)
         said = "line 2: the table is neither in UTF-8 nor in Windows-1252: save it as CSV in UTF-8"
         self.assertEqual(str(fault.exception), said)
         self.assertIn("line 3: the table can't be read", self.wrong(BLOCK, HOUR + ',"x"y'))
@@ -391,7 +397,7 @@ class CommandLine(unittest.TestCase):
     def test_more_rows_than_a_sheet_has(self):
         most, said = sheets.MOST_LINES, "the table prices has 1,048,577 rows, but a sheet of an Excel workbook has at most 1,048,576"
         with self.assertRaisesRegex(command.Stop, f"^{said}: write it as .csv$"):
-            output.workbook_bytes({"few": [["hour"]], "prices": [["hour"]] * (most + 1)})
+            output.workbook_bytes_or_stop({"few": [["hour"]], "prices": [["hour"]] * (most + 1)})
 
     def test_a_table_without_orders(self):
         status, out, err = run_tool("table", "--journal", "-", data=f"{HEADER}\n".encode())

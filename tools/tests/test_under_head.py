@@ -91,7 +91,7 @@ class Audit(Audited):
         words = "the first 4 entries of the journal, with the book's replies and these salts, aren't the entries that the operator signed"
         self.assertIn(f"b/head.json: the head of 2026-11-28 with 4 entries: {words}: the operator's fault, proved\n", out)
         key = signing.parse_private(Path("key.pem").read_bytes())
-        Path("c.json").write_bytes(heads.line_of(signing.sign(key, heads.Head(DAY, 96, 4, bytes(heads.HASH_BYTES)))))
+        Path("c.json").write_bytes(heads.line_bytes_of(signing.signed_head(key, heads.Head(DAY, 96, 4, bytes(heads.HASH_BYTES)))))
         said = "c.json: the head of 2026-11-28 with 4 entries: the journal's day has 24 periods, and the head's 96"
         self.assertIn(f"{said}: the operator's fault, proved\n", self.audit(1, "day.csv", "--earlier", "c.json"))
         # Of a copy of the journal that isn't the head's, nothing is proved.
@@ -159,7 +159,7 @@ class Audit(Audited):
         Path("other.csv").write_bytes(Path("day.csv").read_bytes().replace(b",30000,1:3600,", b",30000,1:3601,"))
         self.assertNotEqual(Path("other.csv").read_bytes(), Path("day.csv").read_bytes())
         right = Path("sealed/salts.json").read_bytes()
-        wrong = heads.line_of(heads.Salts(DAY, bytes(heads.HASH_BYTES)))
+        wrong = heads.line_bytes_of(heads.Salts(DAY, bytes(heads.HASH_BYTES)))
         words = "the first 94 entries of the journal, with the book's replies"
         receipt = ["--receipts", "sealed/receipts/STAD.jsonl"]
         place = "sealed/receipts/STAD.jsonl line 1"
@@ -204,7 +204,8 @@ class Audit(Audited):
         self.audit(3, "day.csv", "--receipts", "sealed/receipts")
         Path("sealed/receipts/A.jsonl").unlink()
         Path("sealed/receipts/A.jsonl").write_bytes(b"x\n" * heads.MOST_ENTRIES)
-        with mock.patch.object(heads, "parse_line", wraps=heads.parse_line) as parsed, self.assertRaisesRegex(command.Stop, r"A\.jsonl line 1: "):
+        counted = mock.patch.object(heads, "parse_value_and_is_written", wraps=heads.parse_value_and_is_written)
+        with counted as parsed, self.assertRaisesRegex(command.Stop, r"A\.jsonl line 1: "):
             under_head.read_findings_of_folder("sealed/receipts", receipts.read_key("key.pem.pub"))
         self.assertEqual(parsed.call_count, 1)
 
@@ -212,10 +213,10 @@ class Audit(Audited):
         """Each with as many receipts of the same command: the time doesn't grow with the product."""
         count = 5_000
         seal = sealed_of(b"day,24,,,,,,,\n" + b"cancel,A,B,,,,,,\n" * count)
-        finding = receipts.Finding("f", 1, receipts.RIGHT, "", seal.receipt(1, seal.head()))
+        finding = receipts.Finding("f", 1, receipts.RIGHT, "", seal.receipt(1, seal.signed_head()))
         read = journal.parse_journal(b"day,24,,,,,,,\n" + b"cancel,A,B,,,,,,\n" * count)
-        signed = under_head.UnderHead(None, seal.head(), seal.salts, read, book.run_commands(read)[1], [finding] * count)
-        with mock.patch.object(signed, "lacked_entry_words", side_effect=AssertionError):
+        signed = under_head.UnderHead(None, seal.signed_head(), seal.salts, read, book.book_and_refusals(read)[1], [finding] * count)
+        with mock.patch.object(signed, "lacked_entry_words_or_none", side_effect=AssertionError):
             proofs = {signed.proof_words(one) for one in read.commands}
         self.assertEqual(proofs, {"; no receipt proves that the operator had it"})
 
@@ -223,22 +224,22 @@ class Audit(Audited):
         """A journal that is longer than its head's, or of another length of a day; earlier heads of another key and another day."""
         key = signing.parse_private(Path("key.pem").read_bytes())
         self.seal()
-        head, _ = heads.parse_line(Path("sealed/head.json").read_bytes(), heads.parse_head)
-        salts, _ = heads.parse_line(Path("sealed/salts.json").read_bytes(), heads.parse_salts)
+        head, _ = heads.parse_value_and_is_written(Path("sealed/head.json").read_bytes(), heads.parse_head)
+        salts, _ = heads.parse_value_and_is_written(Path("sealed/salts.json").read_bytes(), heads.parse_salts)
         seal = sealed_of(AUCTION.read_bytes(), key=key, salts=salts)
-        shorter = signing.sign(key, head._replace(size=head.size - 1, root=seal.tree.root(head.size - 1)))
+        shorter = signing.signed_head(key, head._replace(size=head.size - 1, root=seal.tree.root(head.size - 1)))
         for other, said in (
             (shorter, "the journal has 1 entry after the 93 that the operator signed"),
-            (signing.sign(key, head._replace(periods=25)), "the journal's day has 24 periods, and the head's 25"),
+            (signing.signed_head(key, head._replace(periods=25)), "the journal's day has 24 periods, and the head's 25"),
         ):
-            Path("sealed/head.json").write_bytes(heads.line_of(other))
+            Path("sealed/head.json").write_bytes(heads.line_bytes_of(other))
             self.assertIn(said, self.audit(1))
-        Path("sealed/head.json").write_bytes(heads.line_of(head))
+        Path("sealed/head.json").write_bytes(heads.line_bytes_of(head))
         for earlier, said in (
-            (signing.sign(signing.new_key(), shorter), "it isn't signed by this key"),
-            (signing.sign(key, shorter._replace(day="2026-11-29")), "it is of 2026-11-29"),
+            (signing.signed_head(signing.draw_key(), shorter), "it isn't signed by this key"),
+            (signing.signed_head(key, shorter._replace(day="2026-11-29")), "it is of 2026-11-29"),
         ):
-            Path("earlier.json").write_bytes(heads.line_of(earlier))
+            Path("earlier.json").write_bytes(heads.line_bytes_of(earlier))
             out = self.audit(3, "day.csv", "--earlier", "earlier.json")
             self.assertIn(said, out)
             self.assertIn("\nas signed: the head of 2026-11-28 with 94 entries\n", out)
@@ -270,7 +271,7 @@ class Audit(Audited):
         self.write_receipt(sealed_of(AUCTION.read_bytes(), key=key), place)
         self.assertIn("the operator's fault, proved", self.audit(1, "day.csv", *words))
         # The reply is signed too.
-        seal = sealing.Seal(DAY, 24, sealing.new_salts(DAY), key)
+        seal = sealing.Seal(DAY, 24, sealing.draw_salts(DAY), key)
         entries = list(sealed_of(Path("day.csv").read_bytes()).entries)
         for entry in [entries[0]._replace(reply="refused,Closed"), *entries[1:]]:
             seal.append(entry)
@@ -295,7 +296,7 @@ class Audit(Audited):
         head = Path("sealed/head.json")
         head.write_text(json.dumps(json.loads(head.read_text()), indent=1))
         self.assertIn("isn't in its written form", self.audit(6))
-        Path("sealed/salts.json").write_bytes(heads.line_of(sealing.new_salts("2026-11-29")))
+        Path("sealed/salts.json").write_bytes(heads.line_bytes_of(sealing.draw_salts("2026-11-29")))
         self.audit(3)
 
     def test_files_whose_names_begin_with_a_dot(self):

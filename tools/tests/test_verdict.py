@@ -15,7 +15,7 @@ import unittest
 import unittest.mock
 from pathlib import Path
 
-from support import AUCTION, AUCTION_RESULTS, QUARTERS, TOOLS, TOP, cleared_cases, journal_of, read_results, results_of, run_audit, run_tool
+from support import AUCTION, AUCTION_RESULTS, QUARTERS, TOOLS, TOP, journal_of, read_cleared_cases, read_results, results_of, run_audit, run_tool
 
 from lib.audit import verdict
 from lib.base import rules
@@ -173,7 +173,7 @@ class Record(unittest.TestCase):
             made = json.loads(ran.stdout)
             self.assertEqual((ran.returncode, made["verdict"]), (command.FAILED, "failed"), files)
             self.assertEqual(ran.stderr.decode(), f"audit: {made['message']}\n")
-        run = "from lib.base import ending; ending.guard_tool('audit'); from lib.base import record; raise MemoryError"
+        run = "from lib.base import ending; ending.guard_tool('audit'); from lib.base import audit_record; raise MemoryError"
         for more, keys in ([], {"verdict", "search", "inputs"}), (["--days", "x"], {"counts", "days"}), (["--days=x"], {"counts", "days"}):
             ran = subprocess.run([sys.executable, "-B", "-c", run, "--json", *more], cwd=TOOLS, capture_output=True)
             made = json.loads(ran.stdout)
@@ -217,7 +217,7 @@ class Record(unittest.TestCase):
         self.assertEqual((status, [fault["kind"] for fault in json.loads(out)["faults"]]), (1, ["missing"]))
 
     def test_the_worked_cases(self):
-        for name, data, text in cleared_cases():
+        for name, data, text in read_cleared_cases():
             with self.subTest(name):
                 made, _ = self.record(data, text)
                 self.assertEqual(made["verdict"], "right")

@@ -17,7 +17,7 @@ from fractions import Fraction
 from pathlib import Path
 
 import support
-from support import AUCTION, AUCTION_RESULTS, FIRST, QUARTERS, QUARTERS_RESULTS, journal_of, new_folder, read_results, run_tool
+from support import AUCTION, AUCTION_RESULTS, FIRST, QUARTERS, QUARTERS_RESULTS, journal_of, make_folder_for_case, read_results, run_tool
 
 import compare
 from lib.base import rules, text
@@ -37,7 +37,7 @@ NEVER = ("submit,CITY,TOWN,hour,buy,5000,1:20,,", "submit,GEN,A,block,sell,4000,
 
 
 def search(*lines, key, periods=24):
-    held, _ = book.run_commands(journal.parse_journal(journal_of(*lines).replace(b"day,24,", b"day,%d," % periods)))
+    held, _ = book.book_and_refusals(journal.parse_journal(journal_of(*lines).replace(b"day,24,", b"day,%d," % periods)))
     return limits.LimitSearch(held, key, lambda text: support.results_of(text, best(text)))
 
 
@@ -55,17 +55,17 @@ TABLE = b"what,participant,order,kind,side,price_eur_mwh,periods,volume_mw\n"
 class Limits(unittest.TestCase):
     def test_a_block_that_sells(self):
         one = search(*SMALL, key=("GEN", "UNIT"))
-        found = one.run_for_worst()
+        found = one.search_for_worst()
         self.assertEqual((found.limit, found.past_limit, found.at.surplus(one.key), found.past.surplus(one.key)), (5000, 5001, 0, -20))
         self.assertEqual((found.at.welfare, found.past.welfare, found.at.prices[0]), (0, 0, 5000))
         self.assertLessEqual(found.clearings, limits.MOST_CLEARINGS)
-        self.assertEqual(limits.other_orders(one, found), [("CITY", "TOWN")])
+        self.assertEqual(limits.other_differing_orders(one, found), [("CITY", "TOWN")])
 
     def test_amounts_of_quarter_hours_are_a_fourth(self):
         """The same orders in a quarter of an hour have the same limits and prices, and a fourth of the energy and of each amount."""
         orders = [order.replace("1:20,", "1:200,") for order in SMALL]
         days = [search(*orders, key=("GEN", "UNIT"), periods=periods) for periods in (24, 96)]
-        founds = [one.run_for_worst() for one in days]
+        founds = [one.search_for_worst() for one in days]
         hour, quarter = (limits.record(one, found) for one, found in zip(days, founds))
         self.assertEqual(hour["cases"][0]["surplus_eur"], 200.0)
         for case, other in zip(hour["cases"], quarter["cases"]):
@@ -74,9 +74,9 @@ class Limits(unittest.TestCase):
                 self.assertEqual(case[name], 4 * other[name])
         (one,), (other,) = hour["others"], quarter["others"]
         self.assertEqual([(each["past_mwh"], each["at_mwh"]) for each in (one, other)], [(0.0, 20.0), (0.0, 5.0)])
-        past = [limits.row(one, found._replace(at=found.past)) for one, found in zip(days, founds)]
+        past = [limits.limit_cells(one, found._replace(at=found.past)) for one, found in zip(days, founds)]
         self.assertEqual([Fraction(cell) for cell in past[0][6:8]], [4 * Fraction(cell) for cell in past[1][6:8]])
-        lines = [limits.lines(*each) for each in zip(days, founds)]
+        lines = [limits.answer_lines(*each) for each in zip(days, founds)]
         numbers = [[list(map(Fraction, re.findall(r"-?[0-9]+\.[0-9]+", line))) for line in each] for each in lines]
         heads = [line.split(",")[0] for line in lines[0]]
         self.assertEqual(numbers[0][0], [20, 40])  # the energy and the limit
@@ -89,47 +89,47 @@ class Limits(unittest.TestCase):
     def test_periods_without_trade(self):
         """Their prices are nominal: a record marks them, and a table leaves them out."""
         one = search(SMALL[0], SMALL[1].replace("4000", "6000"), key=("GEN", "UNIT"))
-        found = one.run_for_worst()
+        found = one.search_for_worst()
         own, at, past = limits.record(one, found)["cases"]
         self.assertEqual([case["traded"] for case in (own, at, past)], [[False] * 24, [True, *[False] * 23], [False] * 24])
         self.assertEqual([case["gain_eur"] for case in (own, at, past)], [0.0, 0.0, 0.0])
-        rows = [line.split("  ") for line in limits.lines(one, found) if line.startswith("price of period")]
+        rows = [line.split("  ") for line in limits.answer_lines(one, found) if line.startswith("price of period")]
         self.assertEqual([[cell.strip() for cell in row if cell] for row in rows],
                          [["price of period 1, EUR/MWh", "no trade", "50.00", "no trade"]])
 
     def test_a_block_that_buys(self):
         one = search(*BUYER, key=("CITY", "TOWN"))
-        found = one.run_for_worst()
+        found = one.search_for_worst()
         self.assertEqual((found.limit, found.past_limit), (2000, 1999))
-        lines = "\n".join(limits.lines(one, found))
+        lines = "\n".join(limits.answer_lines(one, found))
         self.assertIn("Its worst limit is 20.00 EUR/MWh: with it, and with every higher limit, it is accepted; with a lower one", lines)
 
     def test_a_name_that_begins_another(self):
         """UNIT10 stands first, and offers the same for less than UNIT1: each is found by its whole name."""
         offers = [f"submit,GEN,{name},block,sell,{price},1:20,," for name, price in (("UNIT10", 4000), ("UNIT1", 4500))]
-        founds = [search(SMALL[0], *offers, key=("GEN", name)).run_for_worst() for name in ("UNIT10", "UNIT1")]
+        founds = [search(SMALL[0], *offers, key=("GEN", name)).search_for_worst() for name in ("UNIT10", "UNIT1")]
         self.assertEqual([(found.limit, found.past_limit) for found in founds], [(4500, 4501), (3999, 4000)])
 
     def test_a_child_that_no_limit_helps(self):
         """The reason begins with its family."""
         lines = ["submit,TOWN,T,hour,buy,4000,1:10,,", "submit,GAS,PAR,block,sell,6000,1:10,,", "submit,GAS,CHILD,block,sell,3000,1:10,PAR,"]
         one = search("submit,GAS,UNIT,block,sell,1000,1:10,,", *lines, key=("GAS", "CHILD"))
-        self.assertRegex("\n".join(limits.lines(one, one.run_for_worst())), r"with the best, -500\.00 EUR/MWh, with PAR it would gain [0-9.,]+ EUR at the prices")
+        self.assertRegex("\n".join(limits.answer_lines(one, one.search_for_worst())), r"with the best, -500\.00 EUR/MWh, with PAR it would gain [0-9.,]+ EUR at the prices")
 
     def test_no_limit_is_enough(self):
         one = search(*NEVER, key=("GEN", "B"))
-        found = one.run_for_worst()
+        found = one.search_for_worst()
         self.assertEqual((found.limit, found.at, found.past_limit), (None, None, rules.LOWEST_PRICE))
         self.assertIn(f"No limit of the range is enough: with the best, {rules.LOWEST_PRICE / 100:.2f} EUR/MWh, it can never be accepted, because",
-                      "\n".join(limits.lines(one, found)))
+                      "\n".join(limits.answer_lines(one, found)))
         self.assertIsNone(limits.record(one, found)["worst_limit_eur_mwh"])
 
     def test_every_limit_is_enough(self):
         dearest = f"submit,CITY,TOWN,hour,buy,{rules.HIGHEST_PRICE},1:30,,"
         one = search(dearest, "submit,GEN,UNIT,block,sell,4000,1:20,,", key=("GEN", "UNIT"))
-        found = one.run_for_worst()
+        found = one.search_for_worst()
         self.assertEqual((found.limit, found.past, found.past_limit), (rules.HIGHEST_PRICE, None, None))
-        self.assertIn(f"Every limit of the range is enough, up to the worst, {rules.HIGHEST_PRICE / 100:,.2f} EUR/MWh.", limits.lines(one, found))
+        self.assertIn(f"Every limit of the range is enough, up to the worst, {rules.HIGHEST_PRICE / 100:,.2f} EUR/MWh.", limits.answer_lines(one, found))
 
     def test_the_most_clearings(self):
         """No worst limit needs more clearings than the most, and some needs as many."""
@@ -141,15 +141,15 @@ class Limits(unittest.TestCase):
                 # the block is accepted up to the buyer's limit, and never if the buyer buys less than it sells
                 buys = f"buy,{least if worst is None else worst},1:{10 if worst is None else 30}"
                 one = search(SMALL[0].replace("buy,5000,1:20", buys), SMALL[1].replace("4000", str(own)), key=("GEN", "UNIT"))
-                found = one.run_for_worst()
+                found = one.search_for_worst()
                 self.assertEqual(found.limit, worst)
                 needed.add(found.clearings)
         self.assertEqual(max(needed), limits.MOST_CLEARINGS)
 
     def test_a_fault_of_a_clearing_ends_the_search(self):
-        held, _ = book.run_commands(journal.parse_journal(journal_of(*SMALL)))
+        held, _ = book.book_and_refusals(journal.parse_journal(journal_of(*SMALL)))
         with self.assertRaisesRegex(errors.Fault, "^memory$"):
-            limits.LimitSearch(held, ("GEN", "UNIT"), lambda text: errors.Fault("memory", 4)).run_for_worst()
+            limits.LimitSearch(held, ("GEN", "UNIT"), lambda text: errors.Fault("memory", 4)).search_for_worst()
 
 
 class Page(unittest.TestCase):
@@ -164,7 +164,7 @@ class Page(unittest.TestCase):
         day = support.day_of(data, results or support.results_of(data, best(data)))
         told = unittest.mock.patch.object(command, "print_note", lambda _, line: self.notes.append(line))
         with unittest.mock.patch.object(engine, "run_clear", answer), told:
-            return limits.run_for_rejected(day, *words)
+            return limits.capture_rejected_sentences(day, *words)
 
     def setUp(self):
         self.notes = []
@@ -222,19 +222,19 @@ class Day(unittest.TestCase):
         for data, text in ((AUCTION.read_bytes(), read_results(AUCTION)), (QUARTERS.read_bytes(), read_results(QUARTERS))):
             day = support.day_of(data, text)
             both = cleared.Cleared.of_day(day), cleared.Cleared.of_text(day.book.rows, day.problem.periods, text)
-            write = changes.Written(both[0])
-            heads, *rows = tables.orders(day)
+            write = changes.NumberFormat(both[0])
+            heads, *rows = tables.order_rows(day)
             for cells in (dict(zip(heads, row)) for row in rows):
                 key = cells["participant"], cells["order"]
                 for one in both:
-                    self.assertEqual(write.eur(one.amount(key)), cells["amount_eur"])
-                    self.assertEqual(write.mwh(one.executed(key)), cells["executed_mwh"])
+                    self.assertEqual(write.eur_text(one.amount(key)), cells["amount_eur"])
+                    self.assertEqual(write.mwh_text(one.executed(key)), cells["executed_mwh"])
                     self.assertEqual(one.outcome(key), cells["outcome"].removeprefix("paradoxically "))
                     if cells["surplus_eur"]:
-                        self.assertEqual(write.eur(one.surplus(key)), cells["surplus_eur"])
-            heads, *rows = tables.participants(day)
+                        self.assertEqual(write.eur_text(one.surplus(key)), cells["surplus_eur"])
+            heads, *rows = tables.participant_rows(day)
             for cells in (dict(zip(heads, row)) for row in rows):
-                self.assertEqual(write.eur(both[1].net(cells["participant"])), cells["net_eur"])
+                self.assertEqual(write.eur_text(both[1].net(cells["participant"])), cells["net_eur"])
             self.assertEqual(sum(both[1].gain(who) for who in {who for who, _ in day.book.rows}), day.published.welfare)
 
 
@@ -242,24 +242,24 @@ class Entered(unittest.TestCase):
     def test_a_block_with_children_is_cancelled_after_them(self):
         """As the book does: each sequence of cancels is refused, or not, at the same place."""
         lines = ["submit,P,TOP,block,sell,1,1:1,,", "submit,P,LOW,block,sell,1,1:1,TOP,", "submit,P,LAST,block,sell,1,1:1,LOW,"]
-        held = changes.book_before_close(journal.parse_journal(journal_of(*lines, "close,,,,,,,,")))
+        held = changes.book_before_close_or_raise(journal.parse_journal(journal_of(*lines, "close,,,,,,,,")))
         for order in itertools.permutations(["TOP", "LOW", "LAST"]):
             with self.subTest(order):
                 given = [(f"record {number}", journal.Cancel("P", name)) for number, name in enumerate(order, 1)]
-                fresh = changes.book_before_close(journal.parse_journal(journal_of(*lines, "close,,,,,,,,")))
-                reasons = [fresh.apply(command) for _, command in given]
+                fresh = changes.book_before_close_or_raise(journal.parse_journal(journal_of(*lines, "close,,,,,,,,")))
+                reasons = [fresh.apply_or_return_refusal(command) for _, command in given]
                 if order == ("LAST", "LOW", "TOP"):
-                    self.assertEqual((reasons, changes.book_with_commands(held, given).rows), ([None] * 3, {}))
+                    self.assertEqual((reasons, changes.book_with_commands_or_raise(held, given).rows), ([None] * 3, {}))
                 else:
                     place = next(number for number, reason in enumerate(reasons, 1) if reason)
                     with self.assertRaisesRegex(changes.Fault, rf"^record {place}: the book refuses cancel,P,{order[place - 1]},.*HasChildren"):
-                        changes.book_with_commands(held, given)
+                        changes.book_with_commands_or_raise(held, given)
                 self.assertEqual(len(held.rows), 3)
 
 
 class Tools(unittest.TestCase):
     def setUp(self):
-        self.folder = new_folder(self)
+        self.folder = make_folder_for_case(self)
         stand_in = self.write_script("dam", f'PYTHONPATH="{FAKE.parent}" exec "{sys.executable}" "{FAKE}" "$@"')
         self.program = which.BUILT if which.BUILT.exists() else stand_in  # the built program is far quicker
         self.journal = self.write_file("day.csv", journal_of(*SMALL))
@@ -454,7 +454,7 @@ class Tools(unittest.TestCase):
     def test_a_cell_that_a_command_does_not_have(self):
         """An amend can't change a side or a group, and a cancel is of the whole order: such a cell would be ignored."""
         full = dict(zip(order_table.ORDER, "GEN,UNIT,block,sell,60,1,2,P,G".split(",")))
-        held = changes.book_before_close(journal.parse_journal(journal_of(*SMALL)))
+        held = changes.book_before_close_or_raise(journal.parse_journal(journal_of(*SMALL)))
         amend = {"participant", "order", "price_eur_mwh", "periods", "volume_mw"}
         for what, has in (("an Amend", amend), ("a cancel", {"participant", "order"}), ("a close", set())):
             for name in full.keys() - has:
@@ -462,9 +462,9 @@ class Tools(unittest.TestCase):
                 data = f"what,{heads}\n{what.split()[1]},{cells}\n"
                 said = f"line 2, column {name}: '{full[name]}' should be left out: {what.lower()} has no {name}$"
                 with self.assertRaisesRegex(errors.Fault, f"^{said}"):
-                    changes.parse_changes(data.encode(), 24)
+                    changes.parse_changes_and_notes(data.encode(), 24)
                 with self.assertRaisesRegex(errors.Fault, f"^a: {said}"):
-                    scenarios.parse_table("a", f"scenario,{data[:-1].replace(chr(10), chr(10) + 'S,')}".encode(), held)
+                    scenarios.parse_table_and_notes("a", f"scenario,{data[:-1].replace(chr(10), chr(10) + 'S,')}".encode(), held)
 
     def test_bad_words_and_bad_comparisons(self):
         for word in ("abc", text.eur_per_mwh(rules.HIGHEST_PRICE + 1), "1e3", "0.001"):
@@ -587,23 +587,47 @@ class Tools(unittest.TestCase):
             self.assertEqual(found, (command.FAILED, b"", said), words)
             self.assertTrue(all(map(ends, Path(self.folder, "pids").read_text().split())))
 
+    def test_an_output_that_stays_open(self):
+        """The program has ended, and a process that it started has its output."""
+        hold = self.write_script("hold", f"sleep 600 & echo $! >> {self.folder}/pids")
+        words = ["limit", "--participant", "GEN", "--order", "UNIT", self.journal]
+        self.addCleanup(lambda: [os.kill(int(pid), signal.SIGKILL) for pid in Path(self.folder, "pids").read_text().split()])
+        with unittest.mock.patch.object(by_program, "HELD_SECONDS", 2):
+            found = support.run_tool("whatif", *words, "--program", hold)
+        said = f"whatif: {hold} has ended, but another process has held its output for more than 2 seconds\n"
+        self.assertEqual(found, (command.FAILED, b"", said))
+
     def test_an_interrupt_ends_the_program_too(self):
-        support.heed_interrupts(self)
-        hang = self.write_script("hang", f"echo $$ >> {self.folder}/pids; exec sleep 600")
-        words = [sys.executable, support.TOOLS / "whatif", "limit", "--program", hang, self.journal, "--participant", "GEN", "--all"]
+        """The program hangs, or it has ended and its output stays open."""
+        support.set_interrupt_handler(self)
+        for name, line in (("hang", "echo $$ >> PIDS; exec sleep 600"), ("hold", "sleep 600 & echo $! >> PIDS")):
+            for order in (["--all"], ["--order", "UNIT"]):
+                with self.subTest(name, order=order):
+                    self.check_interrupt(self.write_script(name, line.replace("PIDS", f"{self.folder}/pids")), order, name == "hang")
+
+    def check_interrupt(self, program, order, is_itself):
+        """Ctrl-C ends a run at once, also the process that the program writes down, if that is the program itself."""
+        Path(self.folder, "pids").unlink(missing_ok=True)
+        words = [sys.executable, support.TOOLS / "whatif", "limit", "--program", program, self.journal, "--participant", "GEN", *order]
         running = subprocess.Popen(words, stderr=subprocess.PIPE, stdout=subprocess.PIPE, text=True, start_new_session=True)
         try:
             pids = Path(self.folder, "pids")
             while not pids.exists() or not pids.read_text():
                 time.sleep(0.02)
             time.sleep(0.5)  # the program may begin before the tool waits for it
+            began = time.monotonic()
             os.kill(running.pid, signal.SIGINT)
             out, err = running.communicate(timeout=30)
+            self.assertLess(time.monotonic() - began, by_program.HELD_SECONDS - 1)
         finally:
             running.kill()
             running.communicate()
         self.assertEqual((running.returncode, out, err), (130, "", "whatif: interrupted\n"))
-        self.assertTrue(all(map(ends, pids.read_text().split())))
+        if is_itself:
+            self.assertTrue(all(map(ends, pids.read_text().split())))
+        else:
+            for pid in pids.read_text().split():
+                os.kill(int(pid), signal.SIGKILL)
 
     def test_the_first_example_of_the_journals(self):
         """Refused commands and orders without trade are in the way of nothing."""
@@ -618,7 +642,7 @@ class Examples(unittest.TestCase):
     """The page, and the section on many days: that the commands work, one after another, and print the quotes."""
 
     def setUp(self):
-        self.folder = new_folder(self)
+        self.folder = make_folder_for_case(self)
         for name, target in (("tools", support.TOOLS), ("examples", support.TOP / "examples"), ("dam", which.BUILT)):
             Path(self.folder, name).symlink_to(target)
         docs = support.TOP / "docs"

@@ -37,7 +37,7 @@ class Where(unittest.TestCase):
         shutil.copytree(TOP / "tools" / "dam_tools", self.at / folder / "dam_tools", ignore=shutil.ignore_patterns("__pycache__"))
         shutil.copytree(TOP / "tools" / "lib", self.at / folder / "dam_tools" / "lib", ignore=shutil.ignore_patterns("__pycache__"))
 
-    def run_for_where(self, folder, **more):
+    def capture_answer(self, folder, **more):
         """The answer of dam_tools in a folder."""
         kept = {name: value for name, value in os.environ.items() if name not in ("DAM", "DAM_LIBRARY")}
         environment = {**kept, "PYTHONPATH": str(self.at / folder), "PATH": str(self.at / "path"), **more}
@@ -49,25 +49,25 @@ class Where(unittest.TestCase):
     def test_a_package(self):
         folder = "usr/lib/python3/dist-packages"
         self.install_below(folder)
-        self.assertEqual(self.run_for_where(folder), "nothing")
+        self.assertEqual(self.capture_answer(folder), "nothing")
         program = self.write_file("usr/bin/dam")
-        self.assertEqual(self.run_for_where(folder), f"program package {program}")
+        self.assertEqual(self.capture_answer(folder), f"program package {program}")
         brought = self.write_file(f"{folder}/dam_tools/libdam.so.1")
-        self.assertEqual(self.run_for_where(folder), f"library wheel {brought}")
+        self.assertEqual(self.capture_answer(folder), f"library wheel {brought}")
         library = self.write_file("usr/lib/x86_64-linux-gnu/libdam.so.1")
-        self.assertEqual(self.run_for_where(folder), f"library package {library}")
-        self.assertEqual(self.run_for_where(folder, DAM="dam"), "program environment dam")
-        self.assertEqual(self.run_for_where(folder, DAM="dam", DAM_LIBRARY="libdam.so"), "library environment libdam.so")
-        self.assertEqual(self.run_for_where(folder, DAM="dam", DAM_LIBRARY=""), "program environment dam")
-        self.assertEqual(self.run_for_where(folder, DAM="", DAM_LIBRARY=""), f"library package {library}")
+        self.assertEqual(self.capture_answer(folder), f"library package {library}")
+        self.assertEqual(self.capture_answer(folder, DAM="dam"), "program environment dam")
+        self.assertEqual(self.capture_answer(folder, DAM="dam", DAM_LIBRARY="libdam.so"), "library environment libdam.so")
+        self.assertEqual(self.capture_answer(folder, DAM="dam", DAM_LIBRARY=""), "program environment dam")
+        self.assertEqual(self.capture_answer(folder, DAM="", DAM_LIBRARY=""), f"library package {library}")
 
     def test_a_wheel(self):
         self.install_below("site-packages")
         self.write_file("x86_64-linux-gnu/libdam.so.1")
         program = self.write_file("path/dam")
-        self.assertEqual(self.run_for_where("site-packages"), f"program system {program}")
+        self.assertEqual(self.capture_answer("site-packages"), f"program system {program}")
         library = self.write_file("site-packages/dam_tools/libdam.so.1")
-        self.assertEqual(self.run_for_where("site-packages"), f"library wheel {library}")
+        self.assertEqual(self.capture_answer("site-packages"), f"library wheel {library}")
 
     def test_a_clone(self):
         for part in ("dam_tools", "lib"):
@@ -76,11 +76,11 @@ class Where(unittest.TestCase):
         for path in ("clone/library/heap.c", "clone/crates/dam_x/src/lib.rt"):
             self.write_file(path)
         program = self.write_file("clone/crates/dam_cli/out/dam_cli")
-        self.assertEqual(self.run_for_where("clone/tools"), f"program clone {program}")
+        self.assertEqual(self.capture_answer("clone/tools"), f"program clone {program}")
         library = self.write_file("clone/library/out/libdam.so.1")
-        self.assertEqual(self.run_for_where("clone/tools"), f"library clone {library}")
+        self.assertEqual(self.capture_answer("clone/tools"), f"library clone {library}")
         os.utime(library, (1, 1))
-        self.assertEqual(self.run_for_where("clone/tools"), f"program clone {program}")
+        self.assertEqual(self.capture_answer("clone/tools"), f"program clone {program}")
 
 
 class Texts(unittest.TestCase):

@@ -11,7 +11,7 @@ import zipfile
 from pathlib import Path
 from unittest import mock
 
-from support import AUCTION, run_tool
+from support import AUCTION, TOP, run_tool
 
 import costly_workbooks as costly
 import drawn_workbooks as made
@@ -52,12 +52,12 @@ READ = "of 2 sheets, 'orders' was read"
 class Read(unittest.TestCase):
     """Reads workbooks of two sheets."""
 
-    def run_for_fault(self, data):
+    def capture_fault(self, data):
         status, out, err = run_tool("table", "--journal", "-", data=data)
         self.assertEqual((status, out), (command.NO_INPUT, b""), err)
         return err.removesuffix(f"table: standard input: {READ}\n").removeprefix("table: standard input: ").removesuffix("\n")
 
-    def run_for_orders(self, data):
+    def capture_orders(self, data):
         status, out, err = run_tool("table", "--journal", "--open", "-", data=data)
         self.assertEqual((status, err), (0, f"table: standard input: {READ}\n"))
         return [(fields[2], fields[8]) for fields in csv.reader(out.decode().splitlines()[1:])]
@@ -69,7 +69,7 @@ class Faults(Read):
         rows = [order(2, "K1", ("I2", "G1")), order(3, "K2", ("I3", "G1")), order(4, "K3", ("I4", "G1"))]
         for size in ("A1:I3", "A1:G5", "A1", "A1:XFD1048576", "no size"):
             heads = made.OPEN.replace(b"<sheetData>", f'<dimension ref="{size}"/><sheetData>'.encode())
-            self.assertEqual(self.run_for_orders(made.workbook_of_sheet(heads, *rows, made.CLOSE)), [(name, "G1") for name in ("K1", "K2", "K3")], size)
+            self.assertEqual(self.capture_orders(made.workbook_of_sheet(heads, *rows, made.CLOSE)), [(name, "G1") for name in ("K1", "K2", "K3")], size)
 
     def test_each_fault_has_its_place(self):
         sheet = "sheet 'orders', "
@@ -88,9 +88,9 @@ class Faults(Read):
             ([row(at, (f"ALL{at}", "1")) for at in range(2, 400)], f"cell ALL301: {LIMITED}"),
         ):
             if said is None:
-                self.assertEqual(self.run_for_fault(book(*pieces)), "sheet 'orders': a row has the number '5000000': they go from 1 to 1048576")
+                self.assertEqual(self.capture_fault(book(*pieces)), "sheet 'orders': a row has the number '5000000': they go from 1 to 1048576")
             else:
-                self.assertEqual(self.run_for_fault(book(*pieces)), sheet + said)
+                self.assertEqual(self.capture_fault(book(*pieces)), sheet + said)
 
     def test_merged_cells_of_the_table(self):
         """Of the merged cells of a column only the first has the group: the other orders would be in none."""
@@ -98,19 +98,19 @@ class Faults(Read):
         for ref in ("I2:I3", "I9:I2", "I9:A2", "A9:I2", "I2:A1", "A1:I1", "$A$3:$B$3"):
             close = made.CLOSE.replace(b"</worksheet>", f'<mergeCells><mergeCell ref="{ref}"/></mergeCells></worksheet>'.encode())
             said = f"sheet 'orders': the cells {ref} are merged, but each row of a table has its own"
-            self.assertEqual(self.run_for_fault(made.workbook_of_sheet(made.OPEN, *rows, close)), said)
+            self.assertEqual(self.capture_fault(made.workbook_of_sheet(made.OPEN, *rows, close)), said)
         for ref in (b"K1:L9", b"L9:K1", b"A9:C4", b"K9:L1"):
             others = close.replace(b"$A$3:$B$3", ref)
-            self.assertEqual(self.run_for_orders(made.workbook_of_sheet(made.OPEN, *rows, others)), [("K1", "G1"), ("K2", "")])
+            self.assertEqual(self.capture_orders(made.workbook_of_sheet(made.OPEN, *rows, others)), [("K1", "G1"), ("K2", "")])
 
     def test_a_table_has_no_more_rows_than_a_journal(self):
         said = f"a table has at most {order_table.MOST_ROWS:,} rows after its first"
         rows = [order(at, "K1") for at in range(2, order_table.MOST_ROWS + 3)]
-        self.assertEqual(self.run_for_fault(book(*rows)), f"sheet 'orders', row {order_table.MOST_ROWS + 2}: {said}")
+        self.assertEqual(self.capture_fault(book(*rows)), f"sheet 'orders', row {order_table.MOST_ROWS + 2}: {said}")
         table = ",".join(order_table.ORDER) + "\n" + "A,K1,block,buy,1,8,5,,\n" * (order_table.MOST_ROWS + 1)
-        self.assertEqual(self.run_for_fault(table.encode()), f"line {order_table.MOST_ROWS + 2}: {said}")
-        self.assertIn("(NameTaken)", self.run_for_fault(book(*rows[:-1])))
-        self.assertIn("(NameTaken)", self.run_for_fault(table.encode()[:-23]))
+        self.assertEqual(self.capture_fault(table.encode()), f"line {order_table.MOST_ROWS + 2}: {said}")
+        self.assertIn("(NameTaken)", self.capture_fault(book(*rows[:-1])))
+        self.assertIn("(NameTaken)", self.capture_fault(table.encode()[:-23]))
 
     def test_a_text_takes_little_memory(self):
         """Empty rows aren't kept, rows after those that a table may have aren't read, and no row is too long."""
@@ -129,7 +129,7 @@ class Faults(Read):
         ):
             tracemalloc.start()
             try:
-                found = sheets.parse_rows(data, most=most)[0]
+                found = sheets.parse_rows_and_add_notes(data, most=most)[0]
             except sheets.BadTable as fault:
                 found = str(fault)
             most_memory = tracemalloc.get_traced_memory()[1]
@@ -161,7 +161,7 @@ class Faults(Read):
 
     def test_a_text_has_no_more_lines_than_a_sheet(self):
         with self.assertRaisesRegex(sheets.BadTable, "^line 1048577: a table has at most 1,048,576 lines$"):
-            sheets.parse_rows(b"\n" * (2**20 + 1))
+            sheets.parse_rows_and_add_notes(b"\n" * (2**20 + 1))
 
     def test_a_cell_of_a_text_that_does_not_end_on_its_line(self):
         """Two quotes in a column that isn't used could hide the rows between them."""
@@ -188,13 +188,13 @@ class Faults(Read):
             path.write_bytes(data)
             status, _, err = run_tool("audit", AUCTION, "--sent", path, "--participant", "GAS")
             self.assertEqual((status, said in err), (command.NO_INPUT, True), err)
-        for read in (lambda: changes.parse_changes(data, 24), lambda: scenarios.parse_table("a table", data, Book(24))):
+        for read in (lambda: changes.parse_changes_and_notes(data, 24), lambda: scenarios.parse_table_and_notes("a table", data, Book(24))):
             with self.assertRaisesRegex(errors.Fault, said):
                 read()
 
     def test_a_workbook_is_read_without_a_package(self):
         with mock.patch.dict("sys.modules", {"openpyxl": None}):
-            self.assertEqual(list(sheets.parse_rows(book(row(2, ("B2", "x"))))[0])[1:], [(2, ["", "x"])])
+            self.assertEqual(list(sheets.parse_rows_and_add_notes(book(row(2, ("B2", "x"))))[0])[1:], [(2, ["", "x"])])
 
     def test_names_of_elements_are_limited(self):
         cant, tail = "line 1: the Excel workbook can't be read: ", b"</row>"
@@ -205,25 +205,25 @@ class Faults(Read):
                 left_out = f"<extLst>{''.join(map(form.format, names))}</extLst></row>".encode()
                 data = book(order(2, "K1").replace(tail, left_out))
                 with self.subTest(form, said=said):
-                    self.assertEqual(self.run_for_fault(data) if said else self.run_for_orders(data), said or [("K1", "")])
+                    self.assertEqual(self.capture_fault(data) if said else self.capture_orders(data), said or [("K1", "")])
 
     def test_an_archive_behind_another_one(self):
         """The last of the two would be read, and the rows of the first one lost."""
         first, last = book(order(2, "K1"), order(3, "K2")), book(order(2, "K1"))
         said = "line 1: the Excel workbook can't be read: other bytes stand before its archive, such as another workbook"
         for data in (first + last, first[:-2] + len(last).to_bytes(2, "little") + last, b"PK\3\4" + last):
-            self.assertEqual(self.run_for_fault(data), said)
-        self.assertEqual(self.run_for_orders(last), [("K1", "")])
+            self.assertEqual(self.capture_fault(data), said)
+        self.assertEqual(self.capture_orders(last), [("K1", "")])
 
     def test_bytes_behind_an_archive(self):
         """Such as another workbook that was cut: of it no row would be read."""
         first, last = book(order(2, "K1")), book(order(2, "K1"), order(3, "K2"))
         said = "line 1: the Excel workbook can't be read: other bytes stand after its archive, such as another workbook"
         for data in (first + last[:-22], first + b"x", first + b"\n"):
-            self.assertEqual(self.run_for_fault(data), said)
+            self.assertEqual(self.capture_fault(data), said)
         with_comment = first[:-2] + (4).to_bytes(2, "little") + b"note"
-        self.assertEqual(self.run_for_orders(with_comment), [("K1", "")])
-        self.assertEqual(self.run_for_fault(with_comment + b"x"), said)
+        self.assertEqual(self.capture_orders(with_comment), [("K1", "")])
+        self.assertEqual(self.capture_fault(with_comment + b"x"), said)
 
     def test_a_part_twice_with_a_slash(self):
         """A slash before the name of a part makes no other one of it."""
@@ -231,18 +231,18 @@ class Faults(Read):
         with zipfile.ZipFile(data, "a") as archive:
             name = next(name for name in archive.namelist() if "worksheets/" in name)
             archive.writestr(f"/{name}", archive.read(name))
-        self.assertEqual(self.run_for_fault(data.getvalue()), f"line 1: the Excel workbook can't be read: two parts are named '/{name}'")
+        self.assertEqual(self.capture_fault(data.getvalue()), f"line 1: the Excel workbook can't be read: two parts are named '/{name}'")
 
     def test_other_archives(self):
         said = "line 1: the Excel workbook can't be read: it isn't an Excel workbook (.xlsx), but another archive"
-        self.assertEqual(self.run_for_fault(made.archive_bytes({"xl/other": b""})), said)
-        self.assertEqual(self.run_for_fault(made.archive_bytes({"other": b""})), "this is an archive (.zip): unzip FILE unpacks it")
+        self.assertEqual(self.capture_fault(made.archive_bytes({"xl/other": b""})), said)
+        self.assertEqual(self.capture_fault(made.archive_bytes({"other": b""})), "this is an archive (.zip): unzip FILE unpacks it")
 
     def test_another_sheet_that_cant_be_read(self):
         """The sheet with the columns of orders is read, whatever the others are."""
         for other in (b"<worksheet", made.OPEN + b"<row r='0'/>" + made.CLOSE, made.OPEN + made.CLOSE + b"x"):
             data = made.workbook_of_sheet(made.OPEN, order(2, "K1"), made.CLOSE, **{"xl/worksheets/other.xml": other})
-            self.assertEqual(self.run_for_orders(data), [("K1", "")])
+            self.assertEqual(self.capture_orders(data), [("K1", "")])
 
 
 class Places(Read):
@@ -284,7 +284,7 @@ class Places(Read):
         ):  # fmt: skip
             if said is None:
                 said = "sheet 'orders', after row 2: an element 'extLst' stands in 'sheetData'"
-            found = self.run_for_fault(self.changed(old, new))
+            found = self.capture_fault(self.changed(old, new))
             self.assertEqual(found, said if said.startswith("sheet") else self.SHEET + said, (old, new))
 
     def test_texts_in_a_wrong_place(self):
@@ -303,9 +303,9 @@ class Places(Read):
             (end, b"<c r='I2' t='inlineStr'>" + spoken + b"</c>" + end, "cell I2: its only text is how it is pronounced (rPh)"),
             (end, b"<c r='I2' t='inlineStr'>" + both + b"</c>" + end, "cell I2: it has two texts: a whole one, and one in runs"),
         ):  # fmt: skip
-            self.assertEqual(self.run_for_fault(self.changed(old, new)), self.SHEET + said, (old, new))
+            self.assertEqual(self.capture_fault(self.changed(old, new)), self.SHEET + said, (old, new))
         said = "sheet 'orders': the text 'x' stands in 'worksheet'"
-        self.assertEqual(self.run_for_fault(self.changed(b"</sheetData>", b"</sheetData>x")), said)
+        self.assertEqual(self.capture_fault(self.changed(b"</sheetData>", b"</sheetData>x")), said)
 
     def test_shared_strings_in_a_wrong_place(self):
         cant, end = "line 1: the Excel workbook can't be read: ", b"</row>" + self.ROWS[1]
@@ -319,7 +319,7 @@ class Places(Read):
         ):
             strings = f'<sst xmlns="{made.MAIN[0]}">{item}</sst>'.encode()
             data = self.changed(end, b"<c r='I2' t='s'><v>0</v></c>" + end, **{made.SHARED: strings})
-            self.assertEqual(self.run_for_fault(data), cant + said, item)
+            self.assertEqual(self.capture_fault(data), cant + said, item)
 
     def test_parts_of_the_workbook_in_a_wrong_place(self):
         cant = "line 1: the Excel workbook can't be read: "
@@ -334,10 +334,10 @@ class Places(Read):
             (f"{sheets}<formats/>", "an element 'formats' stands in 'workbook'"),
         ):
             found = {"xl/workbook.xml": listed.format(made.MAIN[0], made.OFFICE[0], content).encode()}
-            self.assertEqual(self.run_for_fault(made.workbook_of_sheet(made.OPEN, made.CLOSE, **found)), cant + said, content)
+            self.assertEqual(self.capture_fault(made.workbook_of_sheet(made.OPEN, made.CLOSE, **found)), cant + said, content)
         for styles in ("<dxfs><cellXfs/></dxfs>", "<cellXfs/><cellXfs/>", "<cellXfs/>x", "<cellXfs><b><xf/></b></cellXfs>"):
             found = {"xl/styles.xml": f'<styleSheet xmlns="{made.MAIN[0]}">{styles}</styleSheet>'.encode()}
-            self.assertIn(cant, self.run_for_fault(made.workbook_of_sheet(made.OPEN, made.CLOSE, **found)), styles)
+            self.assertIn(cant, self.capture_fault(made.workbook_of_sheet(made.OPEN, made.CLOSE, **found)), styles)
 
     def test_right_places(self):
         """Extensions at the ends, further elements of Excel, and those of other namespaces, as Excel writes them."""
@@ -350,7 +350,7 @@ class Places(Read):
         row = self.ROWS[0].replace(b"</row>", cells.encode())
         data = made.workbook_of_sheet(made.OPEN.replace(b"<sheetData>", b"<sheetPr/>\n<cols><col/></cols><sheetData>"), row,
                              made.CLOSE.replace(b"</sheetData>", ends.encode()))  # fmt: skip
-        self.assertEqual(self.run_for_orders(data), [("K1", "G1")])
+        self.assertEqual(self.capture_orders(data), [("K1", "G1")])
 
 
 class Unlike(unittest.TestCase):
@@ -393,6 +393,37 @@ class Unlike(unittest.TestCase):
             found, _ = self.read(self.computed(attributes), I="<c t='str'><f>A1</f><v>G</v></c>", H="<c t='str'><f>A1</f><v></v></c>")
             self.assertEqual((found.order.group, found.order.parent), ("G", ""))
 
+    def test_volatile_formulas(self):
+        """Excel computes them anew once it opens the workbook, and shows another value than was saved."""
+        said = "line 2, column price_eur_mwh: '={}' is a formula whose value changes whenever Excel opens the workbook: write the value in place of it"
+        for formula, attributes, is_volatile in (
+            ("10+2", ' ca="1"', True), ("10+2", ' ca=" true"', True), ("10+2", ' ca="0"', False), ("10+2", "", False),
+            ("NOW()", "", True), ("2*today ()", "", True), ("-RAND()", "", True), ("ROUND(RANDBETWEEN(1,9),2)", "", True), ("OFFSET(A1,1,1)", "", True),
+            ("'a'!B1+INDIRECT('b'!A1)", "", True), ("_xlfn.RANDARRAY(1)", "", True), ('IF(CELL("row")=2,1,2)', "", True), ("A1+INFO(B1)", "", True),
+            ("'NOW()'!A1", "", False), ('LEN("RAND()")', "", False), ("MYNOW()", "", False), ("TODAYS(1)", "", False), ("NOW+RAND", "", False),
+            ("ROUND(A1,2)", "", False),
+        ):  # fmt: skip
+            for cell in (f"<c><f{attributes}>{formula}</f><v>12</v></c>", f'<c t="str"><f{attributes}>{formula}</f><v>12</v></c>'):
+                found, fault = self.read(E=cell)
+                self.assertEqual((fault, found is None), (said.format(formula), True) if is_volatile else (None, False), cell)
+                self.assertIsNone(self.read(J=cell)[1])
+        found, _ = self.read(self.computed('calcId="1"'), E="<c><f>10+2</f><v>12</v></c>")
+        self.assertEqual(found.order.price, 1_200)
+
+    def test_volatile_formulas_that_cells_share(self):
+        """Only the first of them, here in a column that isn't used, has the text."""
+        price = b'<c r="E3" t="str"><v>1</v></c>'
+        for formula, other, is_volatile in (("RAND()", 1, True), ("RAND()", 2, False), ("A1", 1, False)):
+            first = f'<c r="J2"><f t="shared" ref="J2:J9" si="1">{formula}</f><v>5</v></c></row>'.encode()
+            same = f'<c r="E3"><f t="shared" si="{other}"/><v>1</v></c>'.encode()
+            data = made.workbook_of_sheet(self.HEADS, order(2, "K1").replace(b"</row>", first), order(3, "K2").replace(price, same), made.CLOSE)
+            with self.subTest(formula, other=other):
+                if is_volatile:
+                    with self.assertRaisesRegex(order_table.BadOrders, "^line 3, column price_eur_mwh: '=' is a formula whose value changes"):
+                        order_table.parse_tables([("", data)], 24)
+                else:
+                    self.assertEqual(len(order_table.parse_tables([("", data)], 24).submits), 2)
+
     def test_a_sheet_without_its_values(self):
         """It says so after its cells, of which none may then have a formula."""
         price = b'<c r="E2" t="str"><v>1</v></c>'
@@ -409,7 +440,7 @@ class Unlike(unittest.TestCase):
                 if refused:
                     said = "^sheet 'orders', cell E2: its formula was saved without its value: open the workbook in Excel, and save it$"
                     with self.assertRaisesRegex(sheets.BadTable, said):
-                        sheets.parse_rows(data)
+                        sheets.parse_rows_and_add_notes(data)
                 else:
                     self.assertEqual(len(order_table.parse_tables([("", data)], 24).submits), 2)
 
@@ -434,9 +465,9 @@ class Unlike(unittest.TestCase):
             found = order_table.parse_cells(made.workbook_of_sheet(heads, cancel.replace(b'<c r="C2" t', cell), made.CLOSE, **parts))
             if fault:
                 with self.assertRaisesRegex(order_table.BadOrders, f"^line 2, column what: {fault}$"):
-                    command_table.parse_commands(found, 24)
+                    command_table.parse_commands_and_notes(found, 24)
             else:
-                self.assertEqual(len(list(command_table.parse_commands(found, 24)[0])), 1)
+                self.assertEqual(len(list(command_table.parse_commands_and_notes(found, 24)[0])), 1)
 
     def test_names_that_excel_shows_in_another_way(self):
         """A name such as 8-20 becomes a date, 007 may be a 7 with a format, and TRUE is another word in another language."""
@@ -490,12 +521,20 @@ class Unlike(unittest.TestCase):
             ("-0", "5"), ("&quot;-&quot;0", "5"), ("(0)", "5"), ("\\-0", "5"), ("-General", "5"), ("0-0", "12"), ("0&quot;:&quot;0", "12"),
             ("0\\:00", "12"), ("0&quot;\uff10&quot;", "5"), ("0&quot;\u00bd&quot;", "5"), ("0&quot;x&quot;0", "12"), ("\uff150", "5"),
             ("0;0", "-5"), ("0.00;0.00", "-5"), ("0.00;[Red]0.00", "-5"), ("\uff0e0", "5"), ("&quot;\u066b&quot;0", "5"),
+            ("0 0", "12"), ("00 00", "1020"), ("00'00", "1020"), ("0_ 0", "12"), ("0* 0", "12"), ("0&quot; &quot;0", "12"), ("0\\ 0", "12"),
+            ("0\u00a00", "12"), ("0[$ ]0", "12"), ("0&#10;0", "12"), ("0\\&#10;0", "12"), ("0&quot;&#10;&quot;0", "12"), ("0&#9;0", "12"), ("000 0", "1020"), ("0 00", "120"), ("#  ##0", "1020"), ("#' ##0", "1020"), ("#* ##0", "1020"),
+            ("0.0 0", "5.25"), ("0 .0", "5"), ("0. 0", "5"), ("0.000 000", "5"), ("0E+ 0", "5"), ("0/ 0", "5"), ("# ? /?", "5"), ("0;0 0;0", "-12"),
+            ("0;-0;0 0", "0"), ("#,##0 0", "5"), ("General 0", "5"), ("General0", "5"),
             ("#", "0"), ("#,###.##", "0"), ("#&quot; EUR&quot;", "0"), ("0;0;#", "0"), ("&quot;\u202e&quot;0", "12"), ("#,###", None),
             ("0.0.0", "5"), ("0).0", "5"), ("0&quot;x&quot;.0", "5"), ("0&quot; MW&quot;,", "5"), ("0*x,", "5"),
             ("0.00;[Red]0.00", None), ("0.00;(0.00)", None), ("0.00E-00", None), ("#\\ ##0.0", None), ("0.00&quot; EUR-MWh&quot;", None),
             ("#,##0.00", None), ("0.00;[Red]-0.00", None), ("0;-0;;@", None), ("0.0&quot; EUR/MWh&quot;", None), ("[$€-407] 0.00", None),
             ("0.00E+00", None), ("# ?/?", None), ("General&quot; EUR&quot;", None), ("0;&quot;7&quot;", None), ("0;-0;", None),
             ("???0", None), ("&quot;MAX -EUR &quot;0", "5"),
+            ("# ##0", None), ("#\u202f##0.00", None), ("0 000 000", None), ("#'##0.0", None), ("#_ ##0", None), ("??? ??0", None), ("# ###.0#", None),
+            ("0&#10;&quot;EUR&quot;", None), ("# ##0.00E+0", None), ("# ??/??", None), ("# ##0&quot; &quot;?/?", None), ("?/?", None), ("_ * # ##0_ ", None), ("0;0 0", None),
+            ("[White]0.00", "5"), ("[white]General", "5"), ("[Color2]0", "5"), ("[COLOR 2]0", "5"), ("0;[White]-0", "-5"), ("0;-0;[White]0", "0"),
+            ("[&gt;3][White]0;0", "5"), ("0;[White]-0", None), ("[Red]0.00", None), ("[Color 22]0", None),
         ):  # fmt: skip
             styles = f'<numFmts><numFmt numFmtId="164" formatCode="{code}"/></numFmts><cellXfs><xf/><xf numFmtId="164"/></cellXfs>'
             styles = {"xl/styles.xml": f'<styleSheet xmlns="{made.MAIN[0]}">{styles}</styleSheet>'.encode()}
@@ -686,7 +725,8 @@ class Unlike(unittest.TestCase):
     def test_formats_of_texts(self):
         """A format may hide a text, or show characters around it."""
         codes = ("@", "General", "0;0;0;@", "[Red]_-@_-", "0.00", "0;&quot;@&quot;", "0;0;0;General", "[$-409]@", "_-* @_-", "[$]@",
-                 ";;;", "@&quot;-1&quot;", "0;0;0;&quot;G&quot;", "0;\\a@", "@@", "@[$X]", "[$A-409]@", "@*0", "General[$X]", "@")  # fmt: skip
+                 "0;-0;[White]0", "[White]0;0;0;@", ";;;", "[White]@", "[Color2]General", "0;0;0;[White]@",
+                 "@&quot;-1&quot;", "0;0;0;&quot;G&quot;", "0;\\a@", "@@", "@[$X]", "[$A-409]@", "@*0", "General[$X]", "@")  # fmt: skip
         shown, fill = codes.index(";;;"), '><alignment horizontal="fill"/></xf>'
         formats = "".join(f'<numFmt numFmtId="{164 + at}" formatCode="{code}"/>' for at, code in enumerate(codes))
         cells = "".join(f'<xf numFmtId="{164 + at}"{"/>" if at < len(codes) - 1 else fill}' for at in range(len(codes)))
@@ -722,7 +762,7 @@ class Unlike(unittest.TestCase):
             data = made.workbook_of_sheet(made.OPEN, order(2, "K1"), made.CLOSE, **{"xl/styles.xml": styles.encode()})
             if fault:
                 with self.assertRaisesRegex(sheets.BadTable, f"^line 1: the Excel workbook can't be read: {fault}$"):
-                    sheets.parse_rows(data)
+                    sheets.parse_rows_and_add_notes(data)
             else:
                 self.assertEqual(len(order_table.parse_tables([("", data)], 24).submits), 1)
         for style in ("x", "-1", "1.0", ""):
@@ -745,7 +785,7 @@ class Unlike(unittest.TestCase):
                     self.assertEqual(len(order_table.parse_tables([("", data)], 24).submits), 1)
                 else:
                     with self.assertRaisesRegex(sheets.BadTable, said):
-                        sheets.parse_rows(data)
+                        sheets.parse_rows_and_add_notes(data)
         for font, fault in (("<b/><strike/><sz/>", "a font that strikes out"), ("<i val='0'/><strike val='0'/><vertAlign val='baseline'/>", None)):
             styles = f'<styleSheet xmlns="{made.MAIN[0]}"><fonts><font/></fonts><dxfs><dxf><font>{font}</font><fill/></dxf></dxfs></styleSheet>'
             close = made.CLOSE.replace(b"</sheetData>", f"</sheetData>{condition.format(0)}".encode())
@@ -792,7 +832,7 @@ class Unlike(unittest.TestCase):
         with self.subTest(fault):
             if fault:
                 with self.assertRaisesRegex(sheets.BadTable, f"^sheet 'orders': {fault}$"):
-                    sheets.parse_rows(data)
+                    sheets.parse_rows_and_add_notes(data)
             else:
                 self.assertEqual(len(order_table.parse_tables([("", data)], 24).submits), 1)
 
@@ -818,6 +858,45 @@ class Unlike(unittest.TestCase):
         said = "(?m)^line 1, column 9: 'group' is struck out: remove its row, or clear its formats$"
         with self.assertRaisesRegex(order_table.BadOrders, said):
             order_table.parse_tables([("", made.workbook_of_sheet(heads, order(2, "K1"), made.CLOSE, **parts))], 24)
+
+    def test_cells_that_are_shown_from_right_to_left(self):
+        """Excel shows 10;20 as 20;10 then, but not if only the columns of the sheet go from right to left."""
+        cells = "".join(f"<xf>{'' if number is None else f'<alignment readingOrder={number}/>'}</xf>" for number in (None, '"0"', '"1"', '"2"', '" 02"'))
+        styles = f'<styleSheet xmlns="{made.MAIN[0]}"><cellXfs>{cells}</cellXfs></styleSheet>'.encode()
+        fault = "line 2, column {}: '{}' is shown from right to left: give its cell the text direction Left-to-Right"
+        for letter, words, changes in (
+            ("G", "10;20", True), ("F", "8;9", True), ("F", "8-9", True), ("F", "8\u20139", True), ("F", "07:00-09:00", True), ("E", "-5", True),
+            ("E", "1 2", True), ("B", "8-A", True), ("B", "-A", True), ("B", "A-", True), ("I", "8-20", True), ("E", "5-", True), ("E", "1.2.3", True),
+            ("B", "K1", False), ("B", "WIND-8", False), ("B", "8A", False), ("B", "7", False), ("C", "block", False), ("E", "12.5", False),
+            ("E", "12,50", False), ("F", "8", False), ("G", "5.5", False), ("H", "", False), ("J", "1;2", False), ("G", " 5 ", False),
+        ):  # fmt: skip
+            parts = {"xl/styles.xml": styles, made.SHARED: f'<sst xmlns="{made.MAIN[0]}"><si><t>{words}</t></si></sst>'.encode()}
+            for style in range(5):
+                for kind, content in (("str", f"<v>{words}</v>"), ("inlineStr", f"<is><t>{words}</t></is>"), ("s", "<v>0</v>")):
+                    _, said = self.read(parts, **{letter: f'<c s="{style}" t="{kind}">{content}</c>'})
+                    with self.subTest(words, style=style, kind=kind):
+                        if changes and style > 2:
+                            self.assertEqual(said, fault.format(self.COLUMNS[letter], words))
+                        else:
+                            self.assertNotIn("from right to left", said or "")
+                            self.assertTrue(changes or said is None, said)
+        for style in range(5):
+            for number in ("-5", "-0.5", "5", "0", "12.5"):
+                found, said = self.read({"xl/styles.xml": styles}, E=f'<c s="{style}"><v>{number}</v></c>')
+                changes = number[0] == "-" and style > 2
+                self.assertEqual((said, found is None), (fault.format("price_eur_mwh", number) if changes else None, changes))
+        view = b"<sheetViews><sheetView rightToLeft='1'/></sheetViews><sheetData>"
+        lists = order(2, "K1").replace(b"<v>8</v>", b"<v>8;9</v>").replace(b"<v>5</v>", b"<v>10;20</v>")
+        data = made.workbook_of_sheet(made.OPEN.replace(b"<sheetData>", view), lists, made.CLOSE)
+        self.assertEqual(order_table.parse_tables([("", data)], 24).submits[0][1].order.volumes, ((8, 100), (9, 200)))
+
+    def test_hidden_rows_and_columns(self):
+        """They are read as the others."""
+        heads = made.OPEN.replace(b"<sheetData>", b'<cols><col min="9" max="9" width="0" hidden="1" customWidth="1"/></cols><sheetData>')
+        hidden = order(3, "K2", ("I3", "G1")).replace(b"<row ", b'<row hidden="1" ')
+        orders = order_table.parse_tables([("", made.workbook_of_sheet(heads, order(2, "K1", ("I2", "G1")), hidden, made.CLOSE))], 24)
+        self.assertEqual([(submit.name, submit.order.group) for _, submit in orders.submits], [("K1", "G1"), ("K2", "G1")])
+        self.assertIn("hidden rows and columns too", " ".join((TOP / "docs" / "TABLES.md").read_text().split()))
 
     def test_parts_of_texts_with_fonts(self):
         """A part may be struck out, or a number have the mark of a note, which would be read as its last digit."""
@@ -900,10 +979,10 @@ class Unlike(unittest.TestCase):
                 data = made.workbook_of_sheet(made.OPEN, made.CLOSE, **{name: part.encode() for name, part in parts.items()})
                 if said:
                     with self.assertRaisesRegex(sheets.BadTable, said):
-                        sheets.parse_rows(data)
+                        sheets.parse_rows_and_add_notes(data)
                 else:
                     notes = []
-                    sheets.parse_rows(data, notes=notes)
+                    sheets.parse_rows_and_add_notes(data, notes=notes)
                     self.assertEqual(notes, ["of 2 sheets, 'a' was read"])
 
     def test_names_of_sheets(self):
@@ -928,7 +1007,7 @@ class Unlike(unittest.TestCase):
         ):
             data = made.workbook_of_sheet(made.OPEN.replace(b">group<", b">scenario<"), b"<row r='2'>" + b"<c/>" * 8 + cell.encode() + b"</row>", made.CLOSE)
             with self.assertRaisesRegex(errors.Fault, f"^a table: line 2, column scenario: {said}"):
-                scenarios.parse_table("a table", data, Book(24))
+                scenarios.parse_table_and_notes("a table", data, Book(24))
 
     def test_dates_of_both_systems(self):
         """A workbook may count days from 1904 on. A time of day is the same in both."""
@@ -950,7 +1029,11 @@ class Long(unittest.TestCase):
         for column, cell, said in (
             ("periods", "7:00" + " " * 30_000 + "x", "should be two clock times"),
             ("periods", "1-100" + ";1-100" * 4_999, "has 5,000 parts: a day has at most 100 periods"),
-            ("periods", "07:00-08:00 " * 2_500, "has 2,500 parts: a day has at most 100 periods"),
+            ("periods", "07:00-08:00 " * 2_500, "has a space between values: write a semicolon there"),
+            ("periods", "07:00-08:00" + " ; 07:00-08:00" * 2_250, "has 2,251 parts: a day has at most 100 periods"),
+            ("periods", "8" + " " * 32_000 + "9", "has a space between values: write a semicolon there"),
+            ("volume_mw", "8" + " 8" * 16_000 + "x", "should be a number of MW"),
+            ("periods", "8" + "\u3000" * 32_000 + "9", "has the white space U\\+3000: write a space instead, or a semicolon between values"),
             ("volume_mw", "5" + ";5" * 14_999, "there are 15000 volumes for 1 period: give one, or one for each"),
         ):
             cells = dict(zip(order_table.ORDER, "A,K1,block,buy,1,8,5,,".split(",")), **{column: cell})
@@ -964,7 +1047,7 @@ class Long(unittest.TestCase):
         heads = ",".join([*(f"c{number}" for number in range(16_000)), "scenario", "what", "participant", "order"])
         data = f"{heads}\n".encode() + b"x\n" * 1_000
         began = time.process_time()
-        for read in (changes.parse_changes, lambda data, _: scenarios.parse_table("a table", data, Book(24))):
+        for read in (changes.parse_changes_and_notes, lambda data, _: scenarios.parse_table_and_notes("a table", data, Book(24))):
             with self.assertRaises(errors.Fault):
                 read(data, 24)
         self.assertLess(time.process_time() - began, 5)
@@ -977,7 +1060,7 @@ class Long(unittest.TestCase):
         held.carry_out(Submit("GAS", "B", Order("block", "sell", 1, ())))
 
         def amended():
-            return changes.book_with_commands(held, changes.parse_changes(data, 96)[0]).rows["GAS", "B"].volumes[::95]
+            return changes.book_with_commands_or_raise(held, changes.parse_changes_and_notes(data, 96)[0]).rows["GAS", "B"].volumes[::95]
 
         def entered():
             return [line.rpartition(":")[2] for line in requests.parse_table_records_and_notes(data, "GAS", 96)[0]][::2_999]
@@ -992,7 +1075,7 @@ class Long(unittest.TestCase):
 
     def test_equal_volumes_are_read_once(self):
         data = b"what,participant,order,price_eur_mwh,periods,volume_mw\namend,A,K,1,1-96,5\namend,A,L,2,1-96,5\namend,A,L,2,2-97,5\n"
-        first, same, other = (command.volumes for _, command in changes.parse_changes(data, 100)[0])
+        first, same, other = (command.volumes for _, command in changes.parse_changes_and_notes(data, 100)[0])
         self.assertTrue(first is same)
         self.assertEqual((first[0], other[0]), ((1, 50), (2, 50)))
 

@@ -1,5 +1,6 @@
 -- The modules of lemmas, each after those that it uses.
 pub mod Keys
+pub mod KeyBytes
 pub mod Histories
 pub mod Equality
 pub mod RowFacts

@@ -76,6 +76,8 @@ impl NetLimits {
         ensures eligible { (problem : ProblemState) (selection : List Bool) (w : ℤ)
             → AreLimits problem self.now.limits → IsEligible problem selection w
             → HasSlack self.now.limits selection every_place result.slacks }
+        ensures whole { (k : ℕ) (d : ℤ) → k < most_limits
+            → slice_index_or result.slacks k d ≡ (limit_in self.now.limits k).slack }
     {
         let mut slacks = [0; MOST_LIMITS];
         for k in 0..MOST_LIMITS {

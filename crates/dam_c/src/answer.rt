@@ -17,7 +17,7 @@ pub struct DamAnswer {
 
 /// Copies as much of the text as there is room for, and leaves the rest of the buffer. Returns the length of the whole
 /// text.
-fn copy_to_buffer(text: &[u8], buffer: &mut [u8]) -> usize
+pub(crate) fn copy_to_buffer(text: &[u8], buffer: &mut [u8]) -> usize
     ensures { HoldsText buffer.old buffer.new result text.now }
 {
     let count = text.len().min(buffer.len());

@@ -111,6 +111,13 @@ first_file is_number (word ∷ words) =
     else if is_option word then first_file (not (has_number word)) words
     else Some word
 
+-- the quote on each side of a file's name, with which a shell takes it for one word. A name has it if it is empty or has a
+-- blank, unless it has such a quote itself. The bytes of a blank and of the quote are 32 and 39
+abbrev pub quote_of : List ℕ → List ℕ
+quote_of name =
+    if (length name == 0 || list_any (λ byte. byte == 32) name) && not (list_any (λ byte. byte == 39) name) then codes "'"
+    else []
+
 -- the command, if the first word is one, and after it the first word that may be a file
 abbrev pub command_and_file : List (List ℕ) → Option (List ℕ × List ℕ)
 command_and_file [] = None

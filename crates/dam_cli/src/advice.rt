@@ -8,7 +8,7 @@ ghost use Rattle.dam_results.specs.declared.journal_reading.JournalFault.{Journa
 ghost use Rattle.dam_engines.specs.Fault.{fault_status, input_status};
 ghost use Rattle.dam_book.specs.Limits.{lowest_price, highest_price, greatest_volume, most_entries};
 ghost use Rattle.dam_cli.specs.Advice.{BeginsWithField, HasNumber, NamesItsField, ShowsDays, ShowsItsLimits, ShowsLimitsOfField, ShowsRange, rule_text};
-ghost use Rattle.dam_cli.specs.Advice.{command_and_file, first_file, has_number, is_command, is_option, is_version_word};
+ghost use Rattle.dam_cli.specs.Advice.{command_and_file, first_file, has_number, is_command, is_option, is_version_word, quote_of};
 
 use dam_book::{GREATEST_VOLUME, HIGHEST_PRICE, LOWEST_PRICE};
 use dam_engines::RunFault;
@@ -68,7 +68,7 @@ pub fn rule_of(fault: &RunFault) -> Option<Rule>
             "a book is cleared when it is closed: end the journal with close,,,,,,,,",
         RunFault::Mismatch(_)
         | RunFault::Unfinished { .. }
-        | RunFault::Collected { .. }
+        | RunFault::AnswerMissingOrRepeated { .. }
         | RunFault::Read
         | RunFault::Memory
         | RunFault::Write { .. } => return None,
@@ -87,7 +87,9 @@ fn rule_of_journal(fault: JournalFault) -> Option<Rule>
         JournalFault::NotAscii(0) => {
             "a journal is plain ASCII: save it without a byte order mark"
         }
-        JournalFault::NotAscii(_) => "a journal is plain ASCII, without accents and the like",
+        JournalFault::NotAscii(_) => {
+            "a journal is plain ASCII, without accents; dam-table --journal turns a workbook into one"
+        }
         JournalFault::TooManyRecords => "a journal has the day and 10,000 commands at most",
         JournalFault::NotDay => {
             "the first record is the day, such as day,24,,,,,,,: a journal has no header, and commas between its fields"
@@ -211,6 +213,18 @@ fn has_number(word: &str) -> bool
     ensures { result ≡ has_number word.now }
 {
     word.as_bytes().contains(&b'=')
+}
+
+/// The quote that a file's name needs on each side, so that a shell takes it for one word.
+pub fn quote_of(file: &str) -> &'static str
+    ensures { result.now ≡ quote_of file.now }
+{
+    let bytes = file.as_bytes();
+    if (bytes.is_empty() || bytes.contains(&b' ')) && !bytes.contains(&b'\'') {
+        "'"
+    } else {
+        ""
+    }
 }
 
 /// Whether a word asks for the version, which the program doesn't know.

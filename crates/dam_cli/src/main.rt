@@ -16,7 +16,7 @@ ghost use Rattle.dam_line.specs.Line.{AsksFor};
 ghost use Rattle.dam_cli.specs.Run.{EndsAsAsked};
 ghost use Rattle.dam_cli.specs.Status.{IsLineStatus, IsNoHelp, IsUnasked, run_status};
 
-use advice::{asks_version, command_and_file, rule_of};
+use advice::{asks_version, command_and_file, quote_of, rule_of};
 use dam_book::Seed;
 use dam_engines::{RunFault, Sink, Source, fixed_fault_line, status, write_text};
 use dam_line::{Job, LineFault, read_job};
@@ -174,8 +174,9 @@ fn print_refusal(rt: &HostRuntime, text: &str, words: &[String]) -> ExitCode
                 "dam: dam-audit --version prints the version; in a clone, ./dam --version does"
             );
         } else if let Some((command, file)) = command_and_file(words) {
+            let quote = quote_of(file);
             let _ = eprintln!(rt;
-                "dam: a journal is read from standard input: dam {command} < {file}"
+                "dam: a journal is read from standard input: dam {command} < {quote}{file}{quote}"
             );
         }
     }

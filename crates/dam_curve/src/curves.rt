@@ -82,8 +82,8 @@ fn shift_of(range: u32, segments: usize) -> u32
     shift
 }
 
-/// Writes the hints of a curve with these segments. The error is out of memory.
-fn write_hints<A: Allocator>(
+/// Appends the hints of a curve with these segments. The error is out of memory.
+fn append_hints<A: Allocator>(
     hints: &mut Vec<u16, A>,
     segments: &[Segment],
 ) -> Result<Hints, AllocError>
@@ -198,7 +198,7 @@ impl<A: Allocator> Curves<A> {
         }
         let first = narrow(self.segments.len())?;
         let count = narrow(segments.len())?;
-        let hints = write_hints(&mut self.hints, segments)?;
+        let hints = append_hints(&mut self.hints, segments)?;
         self.segments.extend_from_slice(segments)?;
         Ok(Curve {
             first,

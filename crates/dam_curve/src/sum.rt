@@ -85,7 +85,7 @@ impl<A: Allocator> CurveSum<A> {
         laws::supported_surplus_is_greatest();
         laws::balances_within_offers();
         laws::price_is_between_ends();
-        write_period_segments(&mut self.own, supply.steps())?;
+        fill_period_segments(&mut self.own, supply.steps())?;
         add_segments(&self.own, &self.segments, &mut self.next)?;
         mem::swap(&mut self.segments, &mut self.next);
         Ok(())
@@ -134,8 +134,8 @@ fn segment_at_price(
     }
 }
 
-/// Writes the segments of a period with these steps, which stand by rising limit.
-fn write_period_segments<A: Allocator>(
+/// Replaces the segments by those of a period with these steps, which stand by rising limit.
+fn fill_period_segments<A: Allocator>(
     segments: &mut Vec<Segment, A>,
     steps: &[Step],
 ) -> Result<(), AllocError>

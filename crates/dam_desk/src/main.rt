@@ -1,8 +1,10 @@
 //! `dam-desk`, which keeps the journal of a day in a file, and answers each command once it is safe there.
 #![tactic(auto)]
 
-ghost use Rattle.std.specs.Prelude.{◌≡◌, ◌↔◌, true, Some};
+ghost use Rattle.std.specs.Prelude.{◌≡◌, ◌↔◌, ℕ, true, false, List, Option, Some, IfOk, OnOk};
+ghost use Rattle.std.specs.Io.KnownBytes.{Appends};
 ghost use Rattle.std.specs.Process.{exit_status};
+ghost use Rattle.dam_desk.specs.DeskJournal.{Journal, OpensTo, desk_journal_text};
 ghost use Rattle.dam_desk.specs.Faults.{fault_status};
 
 mod command_line;
@@ -31,6 +33,7 @@ use output::write_text;
 use run::serve_file;
 use sqlite_std_file::Wary;
 use std::fs;
+use std::io::Write;
 use std::os::unix::fs::MetadataExt;
 use std::process::ExitCode;
 use stored_journal::{read_file_bytes, stored_journal_text};
@@ -46,7 +49,7 @@ fn main(rt: HostRuntime) -> ExitCode {
     };
     let done = match job_of(words.as_slice()) {
         Some(Job::Serve(path)) => serve_standard(&rt, path),
-        Some(Job::Journal(path)) => print_journal(&rt, path),
+        Some(Job::Journal(path)) => print_journal(&rt, path, &mut Sink::new(rt.stdout())),
         Some(Job::Help) => write_text(&mut Sink::new(rt.stdout()), USAGE.as_bytes()),
         None => return print_refusal(&rt),
     };
@@ -99,12 +102,21 @@ fn is_this_file(output: FileNumbers, found: Option<FileNumbers>) -> bool
     found == Some(output)
 }
 
-/// Prints the journal that a file holds. It doesn't lock the file or change it. A file that a desk refuses has the same fault
+/// Writes the journal that a file holds. It doesn't lock the file or change it. A file that a desk refuses has the same fault
 /// here.
-fn print_journal(rt: &HostRuntime, path: &str) -> Result<(), DeskFault> {
+fn print_journal<W: Write>(
+    rt: &HostRuntime,
+    path: &str,
+    writer: &mut Sink<W>,
+) -> Result<(), DeskFault>
+    requires { writer.old.failed ≡ false }
+    ensures printed { IfOk result (λ _. (file : List ℕ) × (journal : Option Journal) × OpensTo journal file
+        × Appends writer.old.taken writer.new.taken (desk_journal_text journal)) }
+    ensures cause { OnOk result (writer.new.failed ≡ false) }
+{
     let bytes = read_file_bytes(rt, path)?;
     let text = stored_journal_text(rt.alloc(), Seed::drawn(rt), bytes.as_slice())?;
-    write_text(&mut Sink::new(rt.stdout()), text.as_slice())
+    write_text(writer, text.as_slice())
 }
 
 /// Prints the fault's line, and gives its status.

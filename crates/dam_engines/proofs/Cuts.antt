@@ -2,7 +2,7 @@
 use Rattle.std.proofs.Common.{◌≤◌, ℕ, List, length, Option, Err}
 use Rattle.dam_engines.specs.declared.fault.RunFault.{RunFault}
 use Rattle.dam_engines.specs.declared.fault.RunFault.TheVariants.{Read, Input, TooManyCommands, CloseGiven, TooManyParticipants, StillOpen}
-use Rattle.dam_engines.specs.declared.fault.RunFault.TheVariants.{Mismatch, Unfinished, Collected, Memory, Write}
+use Rattle.dam_engines.specs.declared.fault.RunFault.TheVariants.{Mismatch, Unfinished, AnswerMissingOrRepeated, Memory, Write}
 use Rattle.dam_engines.specs.Engine.{Ends, IsWritingFault}
 use Rattle.dam_engines.specs.inside.Reading.{IsReadingFault}
 
@@ -17,7 +17,7 @@ cut-told Q old new sent told (TooManyParticipants at) cut = absurd cut
 cut-told Q old new sent told StillOpen cut = absurd cut
 cut-told Q old new sent told (Mismatch why) cut = absurd cut
 cut-told Q old new sent told (Unfinished piece visited) cut = absurd cut
-cut-told Q old new sent told (Collected piece) cut = absurd cut
+cut-told Q old new sent told (AnswerMissingOrRepeated piece) cut = absurd cut
 cut-told Q old new sent told Memory cut = absurd cut
 cut-told Q old new sent told (Write written) cut = told written
 
@@ -33,7 +33,7 @@ cut-ends IsPrinted IsFault old new asked printed is few (TooManyParticipants at)
 cut-ends IsPrinted IsFault old new asked printed is few StillOpen cut = absurd cut
 cut-ends IsPrinted IsFault old new asked printed is few (Mismatch why) cut = absurd cut
 cut-ends IsPrinted IsFault old new asked printed is few (Unfinished piece visited) cut = absurd cut
-cut-ends IsPrinted IsFault old new asked printed is few (Collected piece) cut = absurd cut
+cut-ends IsPrinted IsFault old new asked printed is few (AnswerMissingOrRepeated piece) cut = absurd cut
 cut-ends IsPrinted IsFault old new asked printed is few Memory cut = absurd cut
 cut-ends IsPrinted IsFault old new asked printed is few (Write written) cut = (printed, is, cut, few)
 
@@ -49,7 +49,7 @@ fault-ends IsPrinted IsFault old new asked none (TooManyParticipants at) is = is
 fault-ends IsPrinted IsFault old new asked none StillOpen is = is
 fault-ends IsPrinted IsFault old new asked none (Mismatch why) is = is
 fault-ends IsPrinted IsFault old new asked none (Unfinished piece visited) is = is
-fault-ends IsPrinted IsFault old new asked none (Collected piece) is = is
+fault-ends IsPrinted IsFault old new asked none (AnswerMissingOrRepeated piece) is = is
 fault-ends IsPrinted IsFault old new asked none Memory is = is
 fault-ends IsPrinted IsFault old new asked none (Write written) is = absurd (none written is)
 
@@ -65,7 +65,7 @@ ends-weaker IsPrinted IsText IsFault IsOther old new asked text other (TooManyPa
 ends-weaker IsPrinted IsText IsFault IsOther old new asked text other StillOpen is = other StillOpen is
 ends-weaker IsPrinted IsText IsFault IsOther old new asked text other (Mismatch why) is = other (Mismatch why) is
 ends-weaker IsPrinted IsText IsFault IsOther old new asked text other (Unfinished piece visited) is = other (Unfinished piece visited) is
-ends-weaker IsPrinted IsText IsFault IsOther old new asked text other (Collected piece) is = other (Collected piece) is
+ends-weaker IsPrinted IsText IsFault IsOther old new asked text other (AnswerMissingOrRepeated piece) is = other (AnswerMissingOrRepeated piece) is
 ends-weaker IsPrinted IsText IsFault IsOther old new asked text other Memory is = other Memory is
 ends-weaker IsPrinted IsText IsFault IsOther old new asked text other (Write written) is = (is.0, text is.0 is.1, is.2, is.3)
 
@@ -80,5 +80,5 @@ reading-told Q read memory (TooManyParticipants at) is = absurd is
 reading-told Q read memory StillOpen is = absurd is
 reading-told Q read memory (Mismatch why) is = absurd is
 reading-told Q read memory (Unfinished piece visited) is = absurd is
-reading-told Q read memory (Collected piece) is = absurd is
+reading-told Q read memory (AnswerMissingOrRepeated piece) is = absurd is
 reading-told Q read memory (Write written) is = absurd is

@@ -10,7 +10,7 @@ use Rattle.dam_gate.specs.Day.{AreTaken, IsDayRun}
 use Rattle.dam_plan.specs.Plan.{PlanTerms}
 use Rattle.dam_engines.specs.declared.fault.RunFault.{RunFault}
 use Rattle.dam_engines.specs.declared.fault.RunFault.TheVariants.{Read, Input, TooManyCommands, CloseGiven, TooManyParticipants, StillOpen}
-use Rattle.dam_engines.specs.declared.fault.RunFault.TheVariants.{Mismatch, Unfinished, Collected, Memory, Write}
+use Rattle.dam_engines.specs.declared.fault.RunFault.TheVariants.{Mismatch, Unfinished, AnswerMissingOrRepeated, Memory, Write}
 use Rattle.dam_engines.specs.Clear.{IsBookFault}
 use Rattle.dam_engines.specs.Day.{IsCommandsFault}
 
@@ -43,7 +43,7 @@ book_fault-day plan periods commands entries StillOpen taken day is = let both :
 book_fault-day plan periods commands entries (Mismatch why) taken day is = absurd is
 book_fault-day plan periods commands entries (Unfinished piece visited) taken day is =
     record { taken = taken; entries = entries; day_run = day; cut = is }
-book_fault-day plan periods commands entries (Collected piece) taken day is = absurd is
+book_fault-day plan periods commands entries (AnswerMissingOrRepeated piece) taken day is = absurd is
 book_fault-day plan periods commands entries Memory taken day is = tt
 book_fault-day plan periods commands entries (Write written) taken day is = absurd is
 

@@ -4,7 +4,7 @@ use Rattle.std.proofs.lemmas.List.{length-take}
 use Rattle.dam_device.specs.Device.{SourceState, SinkState, IsFlushedOnce}
 use Rattle.dam_engines.specs.declared.fault.RunFault.{RunFault}
 use Rattle.dam_engines.specs.declared.fault.RunFault.TheVariants.{Read, Input, TooManyCommands, CloseGiven, TooManyParticipants, StillOpen}
-use Rattle.dam_engines.specs.declared.fault.RunFault.TheVariants.{Mismatch, Unfinished, Collected, Memory, Write}
+use Rattle.dam_engines.specs.declared.fault.RunFault.TheVariants.{Mismatch, Unfinished, AnswerMissingOrRepeated, Memory, Write}
 use Rattle.dam_engines.specs.Device.{GivesAll, GivesFront, HasServed, AreDevicesAfter}
 use Rattle.dam_engines.specs.Engine.{most_read, IsWritingFault}
 use Rattle.dam_engines.proofs.Cuts.{cut-told}
@@ -27,7 +27,7 @@ neither-failed Fails ro rn w no_read no_write read unfailed (TooManyParticipants
 neither-failed Fails ro rn w no_read no_write read unfailed StillOpen is = (read, (unfailed, refl))
 neither-failed Fails ro rn w no_read no_write read unfailed (Mismatch why) is = (read, (unfailed, refl))
 neither-failed Fails ro rn w no_read no_write read unfailed (Unfinished piece visited) is = (read, (unfailed, refl))
-neither-failed Fails ro rn w no_read no_write read unfailed (Collected piece) is = (read, (unfailed, refl))
+neither-failed Fails ro rn w no_read no_write read unfailed (AnswerMissingOrRepeated piece) is = (read, (unfailed, refl))
 neither-failed Fails ro rn w no_read no_write read unfailed Memory is = ((read.0, front-of-all ro.unread rn.unread read.1), (unfailed, refl))
 neither-failed Fails ro rn w no_read no_write read unfailed (Write count) is = absurd (no_write count is)
 

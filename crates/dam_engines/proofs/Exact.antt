@@ -9,7 +9,7 @@ use Rattle.dam_results.specs.Journal.{IsMadeFrom, ReadsAs}
 use Rattle.dam_results.specs.Replies.{AreReplies}
 use Rattle.dam_engines.specs.declared.fault.RunFault.{RunFault}
 use Rattle.dam_engines.specs.declared.fault.RunFault.TheVariants.{Read, Input, TooManyCommands, CloseGiven, TooManyParticipants, StillOpen}
-use Rattle.dam_engines.specs.declared.fault.RunFault.TheVariants.{Mismatch, Unfinished, Collected, Memory, Write}
+use Rattle.dam_engines.specs.declared.fault.RunFault.TheVariants.{Mismatch, Unfinished, AnswerMissingOrRepeated, Memory, Write}
 use Rattle.dam_engines.specs.Engine.{Ends, IsRunFault, IsTextFault}
 use Rattle.dam_engines.specs.Clear.{AreResultsWithin, IsClearFault}
 use Rattle.dam_engines.specs.Day.{IsCommandsFault, IsDayText}
@@ -40,7 +40,7 @@ replay-fault law text periods commands reads (TooManyParticipants at) is = absur
 replay-fault law text periods commands reads StillOpen is = absurd is
 replay-fault law text periods commands reads (Mismatch why) is = absurd is
 replay-fault law text periods commands reads (Unfinished piece visited) is = absurd is
-replay-fault law text periods commands reads (Collected piece) is = absurd is
+replay-fault law text periods commands reads (AnswerMissingOrRepeated piece) is = absurd is
 replay-fault law text periods commands reads Memory is = λ i. Memory
 replay-fault law text periods commands reads (Write written) is = absurd is
 
@@ -60,8 +60,8 @@ run-fault law IsFault text periods commands reads memory (Mismatch why) is = mad
     (Mismatch why) is
 run-fault law IsFault text periods commands reads memory (Unfinished piece visited) is = made-one law IsFault text periods commands reads
     (Unfinished piece visited) is
-run-fault law IsFault text periods commands reads memory (Collected piece) is = made-one law IsFault text periods commands reads
-    (Collected piece) is
+run-fault law IsFault text periods commands reads memory (AnswerMissingOrRepeated piece) is = made-one law IsFault text periods commands reads
+    (AnswerMissingOrRepeated piece) is
 run-fault law IsFault text periods commands reads memory Memory is = memory
 run-fault law IsFault text periods commands reads memory (Write written) is = made-one law IsFault text periods commands reads
     (Write written) is

@@ -1,12 +1,12 @@
 -- A text and its front that is one byte longer than a journal may be: if one of them is short enough, they are equal.
-use Rattle.std.proofs.Common.{◌≡◌, ◌≤◌, ℕ, true, min, List, length, take, refl, subst, arith}
+use Rattle.std.proofs.Common.{◌≡◌, ◌≤◌, ℕ, true, min, List, Err, length, take, refl, subst, arith}
 use Rattle.std.proofs.lemmas.List.{take_all, length-take}
 use Rattle.dam_book.specs.Book.{BookState}
 use Rattle.dam_blocks.specs.Problem.{problem_of}
 use Rattle.dam_plan.specs.Plan.{PlanTerms}
-use Rattle.dam_search.specs.Search.{IsUnfinished}
+use Rattle.dam_search.specs.Search.{IsSearched}
 use Rattle.dam_search.specs.declared.fault.SearchFault.{SearchFault}
-use Rattle.dam_search.specs.declared.fault.SearchFault.TheVariants.{Memory as MemoryOfSearch, Collected as IsFaulty, Unfinished as IsCut}
+use Rattle.dam_search.specs.declared.fault.SearchFault.TheVariants.{Memory as MemoryOfSearch, AnswerMissingOrRepeated as IsFaulty, Unfinished as IsCut}
 use Rattle.dam_book.specs.declared.command.Command.{Command}
 use Rattle.dam_results.specs.Limits.{most_bytes}
 use Rattle.dam_results.specs.declared.journal_reading.JournalFault.{JournalFault}
@@ -16,7 +16,7 @@ use Rattle.dam_results.specs.Journal.{IsMadeFrom, ReadsAs}
 use Rattle.dam_results.specs.Faults.{IsJournalFault}
 use Rattle.dam_engines.specs.declared.fault.RunFault.{RunFault}
 use Rattle.dam_engines.specs.declared.fault.RunFault.TheVariants.{Read, Input, TooManyCommands, CloseGiven, TooManyParticipants, StillOpen}
-use Rattle.dam_engines.specs.declared.fault.RunFault.TheVariants.{Mismatch, Unfinished, Collected, Memory, Write}
+use Rattle.dam_engines.specs.declared.fault.RunFault.TheVariants.{Mismatch, Unfinished, AnswerMissingOrRepeated, Memory, Write}
 use Rattle.dam_engines.specs.Engine.{most_read, IsRunFault, IsTextFault}
 use Rattle.dam_engines.specs.Fault.{search_fault_of}
 use Rattle.dam_engines.specs.Clear.{IsBookFault}
@@ -47,7 +47,7 @@ text_fault-given given (TooManyParticipants at) is = absurd is
 text_fault-given given StillOpen is = absurd is
 text_fault-given given (Mismatch why) is = absurd is
 text_fault-given given (Unfinished piece visited) is = absurd is
-text_fault-given given (Collected piece) is = absurd is
+text_fault-given given (AnswerMissingOrRepeated piece) is = absurd is
 text_fault-given given Memory is = tt
 text_fault-given given (Write written) is = absurd is
 
@@ -66,7 +66,7 @@ run_fault-given IsFault given (TooManyParticipants at) is = made-given IsFault g
 run_fault-given IsFault given StillOpen is = made-given IsFault given StillOpen is
 run_fault-given IsFault given (Mismatch why) is = made-given IsFault given (Mismatch why) is
 run_fault-given IsFault given (Unfinished piece visited) is = made-given IsFault given (Unfinished piece visited) is
-run_fault-given IsFault given (Collected piece) is = made-given IsFault given (Collected piece) is
+run_fault-given IsFault given (AnswerMissingOrRepeated piece) is = made-given IsFault given (AnswerMissingOrRepeated piece) is
 run_fault-given IsFault given Memory is = tt
 run_fault-given IsFault given (Write written) is = made-given IsFault given (Write written) is
 
@@ -81,7 +81,7 @@ text_fault-run IsFault text (TooManyParticipants at) is = absurd is
 text_fault-run IsFault text StillOpen is = absurd is
 text_fault-run IsFault text (Mismatch why) is = absurd is
 text_fault-run IsFault text (Unfinished piece visited) is = absurd is
-text_fault-run IsFault text (Collected piece) is = absurd is
+text_fault-run IsFault text (AnswerMissingOrRepeated piece) is = absurd is
 text_fault-run IsFault text Memory is = tt
 text_fault-run IsFault text (Write written) is = absurd is
 
@@ -97,16 +97,14 @@ made_fault-run IsFault text none (TooManyParticipants at) is = is
 made_fault-run IsFault text none StillOpen is = is
 made_fault-run IsFault text none (Mismatch why) is = is
 made_fault-run IsFault text none (Unfinished piece visited) is = is
-made_fault-run IsFault text none (Collected piece) is = is
+made_fault-run IsFault text none (AnswerMissingOrRepeated piece) is = is
 made_fault-run IsFault text none Memory is = tt
 made_fault-run IsFault text none (Write written) is = is
 
 -- the answer of the search of a closed book's problem is the answer for the book
 pub search_fault-book : (plan : PlanTerms) (book : BookState) (fault : SearchFault) → book.closed ≡ true
-    → ((piece visited : ℕ) → fault ≡ IsCut piece visited → IsUnfinished (problem_of book)
-    (min plan.cut (length (problem_of book).blocks)) plan.nodes piece visited)
-    → ((piece : ℕ) → ¬ (fault ≡ IsFaulty piece))
+    → IsSearched (problem_of book) (min plan.cut (length (problem_of book).blocks)) plan.nodes (Err fault)
     → IsBookFault plan book (search_fault_of fault)
-search_fault-book plan book MemoryOfSearch closed cut whole = tt
-search_fault-book plan book (IsFaulty piece) closed cut whole = absurd (whole piece refl)
-search_fault-book plan book (IsCut piece visited) closed cut whole = record { closed = closed; unfinished = cut piece visited refl }
+search_fault-book plan book MemoryOfSearch closed searched = tt
+search_fault-book plan book (IsFaulty piece) closed searched = absurd searched
+search_fault-book plan book (IsCut piece visited) closed searched = record { closed = closed; unfinished = searched }

@@ -9,10 +9,10 @@ use Rattle.dam_gate.specs.declared.settlement.Mismatch.{Mismatch as Unmatched}
 use Rattle.dam_gate.specs.declared.settlement.Mismatch.TheVariants.{StillOpen as OpenGate, Missing, Doubled, Differs, Extra}
 use Rattle.dam_gate.specs.declared.settlement.Mismatch.TheVariants.{Memory as MemoryOfSettlement}
 use Rattle.dam_search.specs.declared.fault.SearchFault.{SearchFault}
-use Rattle.dam_search.specs.declared.fault.SearchFault.TheVariants.{Memory as MemoryOfSearch, Collected as IsFaulty, Unfinished as IsCut}
+use Rattle.dam_search.specs.declared.fault.SearchFault.TheVariants.{Memory as MemoryOfSearch, AnswerMissingOrRepeated as IsFaulty, Unfinished as IsCut}
 use Rattle.dam_engines.specs.declared.fault.RunFault.{RunFault}
 use Rattle.dam_engines.specs.declared.fault.RunFault.TheVariants.{Read, Input, TooManyCommands, CloseGiven, TooManyParticipants, StillOpen}
-use Rattle.dam_engines.specs.declared.fault.RunFault.TheVariants.{Mismatch, Unfinished, Collected, Memory, Write}
+use Rattle.dam_engines.specs.declared.fault.RunFault.TheVariants.{Mismatch, Unfinished, AnswerMissingOrRepeated, Memory, Write}
 
 -- the printed text of a fault of the input
 abbrev pub input_text : JournalFault → List ℕ
@@ -44,7 +44,7 @@ fault_text StillOpen = codes "input: StillOpen"
 fault_text (Mismatch why) = mismatch_text why
 fault_text (Unfinished piece visited) = codes "unfinished: piece " ++
     (decimal piece ++ (codes " after " ++ (decimal visited ++ codes " nodes")))
-fault_text (Collected piece) = codes "mismatch: Collected " ++ decimal piece
+fault_text (AnswerMissingOrRepeated piece) = codes "mismatch: Collected " ++ decimal piece
 fault_text Memory = codes "memory"
 fault_text (Write written) = codes "device: write after " ++ (decimal written ++ codes " bytes")
 
@@ -78,7 +78,7 @@ fault_status (TooManyParticipants at) = 1
 fault_status StillOpen = 1
 fault_status (Mismatch why) = mismatch_status why
 fault_status (Unfinished piece visited) = 3
-fault_status (Collected piece) = 5
+fault_status (AnswerMissingOrRepeated piece) = 5
 fault_status Memory = 4
 fault_status (Write written) = 4
 
@@ -100,5 +100,5 @@ problem_fault_of MemoryOfProblem = Memory
 -- the fault of a run whose search has that fault
 abbrev pub search_fault_of : SearchFault → RunFault
 search_fault_of MemoryOfSearch = Memory
-search_fault_of (IsFaulty piece) = Collected piece
+search_fault_of (IsFaulty piece) = AnswerMissingOrRepeated piece
 search_fault_of (IsCut piece visited) = Unfinished piece visited

@@ -2,14 +2,16 @@ ghost use Rattle.std.specs.Prelude.{◌≡◌, ◌≤◌, ◌+◌, ◌-◌, ◌�
 ghost use Rattle.dam_book.specs.Book.{run};
 ghost use Rattle.dam_book.specs.declared.command.Command.{Command};
 ghost use Rattle.dam_results.specs.Journal.{IsMadeFrom, ReadsAs};
+ghost use Rattle.dam_results.specs.Run.{HasRefused};
 ghost use Rattle.dam_engines.specs.Device.{AreDevicesAfter, most_asked};
 ghost use Rattle.dam_engines.specs.Engine.{Ends, IsRunFault, IsTextFault};
 ghost use Rattle.dam_engines.specs.Clear.{AreResultsWithin, IsBookFault, IsClearFault, IsClearedWithin};
+ghost use Rattle.dam_engines.specs.inside.Watch.{MayHearOf, piece_count};
 
 use crate::fault::RunFault;
 use crate::input::read_input;
 use crate::output::write_text;
-use crate::watch::Watch;
+use crate::watch::{Listener, Watch, WatchOfCaller};
 use dam_blocks::Problem;
 use dam_book::{Book, Seed};
 use dam_device::{Sink, Source};
@@ -48,12 +50,12 @@ pub fn run_clear<H: Threads + Sync, R: Read, W: Write, T: Watch + Sync>(
     ensures asked { reader.new.asked ≤ reader.old.asked + most_asked reader.old.unread }
 {
     let text = read_input(alloc, reader)?;
-    let results = clear_journal(rt, alloc, seed, text, plan, watch)?;
+    let results = clear_journal(rt, alloc, seed, text, plan, &WatchOfCaller(watch))?;
     write_text(writer, results.as_slice())
 }
 
 /// The results text of the book of a journal's text. The text is freed before the search.
-fn clear_journal<H: Threads + Sync, T: Watch + Sync>(
+fn clear_journal<H: Threads + Sync, T: Listener + Sync>(
     rt: &H,
     alloc: Global,
     seed: Seed,
@@ -61,6 +63,8 @@ fn clear_journal<H: Threads + Sync, T: Watch + Sync>(
     plan: Plan,
     watch: &T,
 ) -> Result<Vec<u8>, RunFault>
+    requires watched { MayHearOf (T.may_hear_refused watch.now) (T.may_hear_pieces watch.now) plan
+        (ReadsAs text.items) }
     ensures done { IfOk result (λ results.
         IsMadeFrom (AreResultsWithin plan) text.items results.items) }
     ensures fault { IfErr result (IsRunFault (IsClearFault plan) text.items) }
@@ -74,20 +78,22 @@ fn clear_journal<H: Threads + Sync, T: Watch + Sync>(
 /// Runs the journal of a text. A text that is too long may have been cut after the first byte too many.
 fn run_journal(alloc: Global, seed: Seed, text: &[u8]) -> Result<Run, RunFault>
     ensures done { IfOk result (λ found. (periods : ℕ) × (commands : List Command)
-        × ReadsAs text.now periods commands × (found.book ≡ run periods commands)) }
+        × ReadsAs text.now periods commands × (found.book ≡ run periods commands)
+        × HasRefused periods commands found.refused) }
     ensures fault { IfErr result (IsTextFault text.now) }
 {
     Ok(run_of_text(alloc, seed, text)?)
 }
 
 /// The results text of a closed book. The answer to an open one is `StillOpen`, before any memory is asked for.
-pub(crate) fn clear_book<H: Threads + Sync, T: Watch + Sync>(
+pub(crate) fn clear_book<H: Threads + Sync, T: Listener + Sync>(
     rt: &H,
     alloc: Global,
     book: &Book,
     plan: Plan,
     watch: &T,
 ) -> Result<Vec<u8>, RunFault>
+    requires watched { T.may_hear_pieces watch.now (piece_count plan book.now) }
     ensures done { IfOk result (λ results. IsClearedWithin plan book.now results.items) }
     ensures fault { IfErr result (IsBookFault plan book.now) }
     ensures still_open { IsErrOf result RunFault.StillOpen ↔ (book.now.closed ≡ false) }

@@ -9,12 +9,13 @@ ghost use Rattle.dam_engines.specs.Device.{AreDevicesAfter, most_asked};
 ghost use Rattle.dam_engines.specs.Engine.{Ends, IsRunFault};
 ghost use Rattle.dam_engines.specs.Clear.{IsBookFault, IsClearedWithin};
 ghost use Rattle.dam_engines.specs.Day.{IsCommandsFault, IsDayText, with_results};
+ghost use Rattle.dam_engines.specs.inside.Watch.{piece_count};
 
 use crate::clear::clear_book;
 use crate::fault::RunFault;
 use crate::input::read_input;
 use crate::output::write_text;
-use crate::watch::Watch;
+use crate::watch::{Listener, Watch, WatchOfCaller};
 use dam_book::{DayLength, PackedCommand, Seed};
 use dam_device::{Sink, Source};
 use dam_gate::{DayFault, Journal, Settled, run_packed};
@@ -104,7 +105,7 @@ fn run_day_of_commands<H: Threads + Wait + Sync, T: Watch + Sync, U: Turnstile +
     ensures fault { IfErr result (IsCommandsFault plan periods commands.now) }
 {
     let settled = enter_and_settle(rt, alloc, seed, periods, commands, entrance)?;
-    clear_to_day_text(rt, alloc, settled.journal(), plan, watch)
+    clear_to_day_text(rt, alloc, settled.journal(), plan, &WatchOfCaller(watch))
 }
 
 /// Runs a day of the commands at a gate. A command's place is counted from 0, a record's number
@@ -135,13 +136,14 @@ fn enter_and_settle<H: Threads + Wait + Sync, U: Turnstile + Sync>(
 }
 
 /// Clears the journal's book, and returns the written journal, the line `results`, and the results text.
-fn clear_to_day_text<H: Threads + Sync, T: Watch + Sync>(
+fn clear_to_day_text<H: Threads + Sync, T: Listener + Sync>(
     rt: &H,
     alloc: Global,
     journal: &Journal,
     plan: Plan,
     watch: &T,
 ) -> Result<Vec<u8>, RunFault>
+    requires watched { T.may_hear_pieces watch.now (piece_count plan journal.now.book) }
     ensures done { IfOk result (λ text. (results : List ℕ)
         × IsClearedWithin plan journal.now.book results
         × (text.items ≡ with_results journal.now.book.periods journal.now.entries results)) }

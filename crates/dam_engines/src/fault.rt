@@ -33,7 +33,7 @@ pub enum RunFault {
     Unfinished { piece: u32, visited: Nodes },
     /// The answers of the search's workers lack this piece or repeat it. The search never answers so, and
     /// so no run does.
-    Collected { piece: u32 },
+    AnswerMissingOrRepeated { piece: u32 },
     /// Memory ran out.
     Memory,
     /// The writer failed after it had taken this many bytes of the text: all of them, if it failed to flush them.
@@ -79,7 +79,9 @@ impl From<SearchFault> for RunFault {
     fn from(fault: SearchFault) -> RunFault {
         match fault {
             SearchFault::Memory => RunFault::Memory,
-            SearchFault::Collected { piece } => RunFault::Collected { piece },
+            SearchFault::AnswerMissingOrRepeated { piece } => RunFault::AnswerMissingOrRepeated {
+                piece,
+            },
             SearchFault::Unfinished { piece, visited } => RunFault::Unfinished { piece, visited },
         }
     }
@@ -110,6 +112,6 @@ pub fn status(fault: &RunFault) -> u8
         | RunFault::StillOpen => 1,
         RunFault::Unfinished { .. } => 3,
         RunFault::Read | RunFault::Memory | RunFault::Write { .. } => 4,
-        RunFault::Mismatch(_) | RunFault::Collected { .. } => 5,
+        RunFault::Mismatch(_) | RunFault::AnswerMissingOrRepeated { .. } => 5,
     }
 }

@@ -132,7 +132,10 @@ pub(crate) fn fault_text(fault: &RunFault) -> ArrayString<ROOM>
         RunFault::StillOpen => line_of_words("input: StillOpen"),
         RunFault::Mismatch(why) => mismatch_line(why),
         RunFault::Unfinished { piece, visited } => unfinished_line(piece, visited),
-        RunFault::Collected { piece } => line_with_number("mismatch: Collected ", u64::from(piece)),
+        RunFault::AnswerMissingOrRepeated { piece } => line_with_number(
+            "mismatch: Collected ",
+            u64::from(piece),
+        ),
         RunFault::Memory => line_of_words("memory"),
         RunFault::Write { written } => failed_write_line(written),
     }

@@ -19,3 +19,55 @@ impl Watch for FreeTurn {
 
     fn search_ends(&self) {}
 }
+
+/// A watch as the functions below `run_clear` and `run_day` see it. These are generic in it, and their own contracts let
+/// it hear the true numbers only: a call with another number isn't proved.
+///
+/// Only tests show that each call is made, once and in its turn.
+pub(crate) trait Listener: Turnstile {
+    ghost use Rattle.std.specs.Prelude.{ℕ};
+
+    ghost may_hear_refused: { Self → ℕ → Type 0 };
+
+    ghost may_hear_pieces: { Self → ℕ → Type 0 };
+
+    fn commands_refused(&self, commands: u32)
+        requires { may_hear_refused self.now commands };
+
+    fn search_begins(&self, pieces: u32)
+        requires { may_hear_pieces self.now pieces };
+
+    fn search_ends(&self);
+}
+
+/// A caller's watch, which hears every number. Only tests show that each call is handed on as it is made.
+#[derive(Drop)]
+pub(crate) struct WatchOfCaller<'a, T: Watch>(pub(crate) &'a T);
+
+impl<T: Watch> Turnstile for WatchOfCaller<'_, T> {
+    fn before(&self, job: u32) {
+        self.0.before(job);
+    }
+
+    fn after(&self, job: u32) {
+        self.0.after(job);
+    }
+}
+
+impl<T: Watch> Listener for WatchOfCaller<'_, T> {
+    ghost may_hear_refused = { λ _ _. Unit {0} };
+
+    ghost may_hear_pieces = { λ _ _. Unit {0} };
+
+    fn commands_refused(&self, commands: u32) {
+        self.0.commands_refused(commands);
+    }
+
+    fn search_begins(&self, pieces: u32) {
+        self.0.search_begins(pieces);
+    }
+
+    fn search_ends(&self) {
+        self.0.search_ends();
+    }
+}

@@ -54,9 +54,9 @@ impl Plain<PackedEntry, PackedEntry, u64> for Add {
     ghost state = { λ entry. None };
 }
 
-/// The word that counts the entries.
+/// The word that counts the entries. An entry is added to the history only through it.
 #[derive(Drop)]
-pub(crate) struct EntryCount<J: GateName> {
+pub(crate) struct EntryCounter<J: GateName> {
     word: Word<PackedEntry, u64, CountRule>,
     of: PhantomData<J>,
     ghost count_is: { word ≡ count_of J.opening.history },
@@ -140,11 +140,11 @@ impl<J: GateName> History<J> {
     }
 }
 
-impl<J: GateName> EntryCount<J> {
-    pub(crate) fn new(word: Word<PackedEntry, u64, CountRule>) -> EntryCount<J>
+impl<J: GateName> EntryCounter<J> {
+    pub(crate) fn new(word: Word<PackedEntry, u64, CountRule>) -> EntryCounter<J>
         requires { word ≡ count_of J.opening.history }
     {
-        EntryCount {
+        EntryCounter {
             word,
             of: PhantomData,
         }

@@ -225,7 +225,7 @@ impl<A: Allocator + Copy> Keeper<A> {
         let number = self.len() + 1;
         self.entries.reserve(1)?;
         let outcome = self.books.book().outcome(command);
-        let book = self.book_after(command, &outcome)?;
+        let book = self.prepare_book_after(command, &outcome)?;
         Ok(PreparedStep {
             entry: PackedEntry::new(number, packed, outcome.reply()),
             book,
@@ -233,8 +233,11 @@ impl<A: Allocator + Copy> Keeper<A> {
         })
     }
 
-    /// The book after the command: another one, or, if the command is refused, the present one.
-    fn book_after(
+    /// Prepares the book after the command: another one, or, if the command is refused, the present one.
+    ///
+    /// To make another one, it takes the book before the present one. If it then fails, that book is lost, and the next
+    /// call copies the present one instead.
+    fn prepare_book_after(
         &mut self,
         command: &Command,
         outcome: &Outcome,

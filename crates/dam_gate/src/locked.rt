@@ -11,7 +11,7 @@ ghost use Rattle.dam_gate.specs.inside.Shown.{IsAtMostNext, IsNext, IsNoteOf, sl
 ghost use Rattle.left_right.specs.Handles.{pending, published};
 
 use crate::gate::{GateFault, PassFault};
-use crate::history::{EntryCount, History};
+use crate::history::{EntryCounter, History};
 use crate::journal::Journal;
 use crate::keeper::{Keeper, KeeperFault, PreparedStep};
 use crate::limits::MOST_PASSES;
@@ -38,7 +38,8 @@ where
 {
     alloc: Global,
     pub(crate) keeper: Keeper,
-    count: EntryCount<J>,
+    // adds the entries to the history
+    entry_counter: EntryCounter<J>,
     // the history before the first entry, and after the last one
     start: History<J>,
     history: History<J>,
@@ -50,9 +51,9 @@ where
     // how many passes were given, and may be given
     issued: u8,
     most_passes: u8,
-    // as many as the entries, and the parts of the passes that weren't given
-    answered: LedgerTotal<Answered<J>>,
-    rest: LedgerPart<Answered<J>>,
+    // the total over the passes: as many answered calls as entries; and the parts of the passes that weren't given
+    answered_calls: LedgerTotal<Answered<J>>,
+    unissued_parts: LedgerPart<Answered<J>>,
     ghost starts: { start ≡ [] },
 }
 
@@ -73,10 +74,10 @@ where
         × (l.keeper.journal.book.periods ≡ J.opening.periods)
         × IsNoteOf (slot_name (published l.writer).slot) l.keeper.journal l.shown_note
         × IsAtMostNext l.staged_slot (pending l.writer)
-        × (l.answered.total ≡ length l.keeper.journal.entries)
+        × (l.answered_calls.total ≡ length l.keeper.journal.entries)
         × (l.most_passes ≡ J.opening.passes)
-        × (l.rest.parts + l.issued ≡ J.opening.passes)
-        × (l.rest.amount ≡ 0) };
+        × (l.unissued_parts.parts + l.issued ≡ J.opening.passes)
+        × (l.unissued_parts.amount ≡ 0) };
 }
 
 /// The version with all entries of the journal.
@@ -158,7 +159,7 @@ fn release_earlier_version<J: GateName, R: Wait + Drop>(
 /// The next version takes the place of the present one in its box, because no memory may be refused once the history
 /// has gone on.
 fn extend_history_and_fill<J: GateName>(
-    count: &EntryCount<J>,
+    entry_counter: &EntryCounter<J>,
     history: &History<J>,
     seen: &History<J>,
     learnt: &History<J>,
@@ -179,7 +180,7 @@ fn extend_history_and_fill<J: GateName>(
         (fault ≡ GateFault.Memory) ⊎ (fault ≡ GateFault.NoVersion)) }
 {
     let book = prepared.clone_book_handle()?;
-    let Some(after) = count.add_entry(history, seen, learnt, prepared.entry()) else {
+    let Some(after) = entry_counter.add_entry(history, seen, learnt, prepared.entry()) else {
         return Err(GateFault::NoVersion);
     };
     *version = Version::new(book, after.copy());
@@ -207,17 +208,17 @@ impl<J: GateName, R: Wait + Drop> Locked<J, R> {
         let keeper = Keeper::for_day(alloc, periods, seed)?;
         let most_passes = opening.passes();
         let NamedOpening {
-            count,
+            entry_counter,
             start,
-            answered,
-            rest,
+            answered_calls,
+            unissued_parts,
         } = opening.into_named::<J>();
         let (slot, shown_note) = filled_slot(alloc, version_of(alloc, &keeper, &start)?)?;
         let writer = writer_from(rt, alloc, &slot)?;
         Ok(Locked {
             alloc,
             keeper,
-            count,
+            entry_counter,
             start: start.copy(),
             history: start,
             writer,
@@ -225,8 +226,8 @@ impl<J: GateName, R: Wait + Drop> Locked<J, R> {
             staged_slot: None,
             issued: 0,
             most_passes,
-            answered,
-            rest,
+            answered_calls,
+            unissued_parts,
         })
     }
 
@@ -290,10 +291,10 @@ impl<J: GateName, R: Wait + Drop> Locked<J, R> {
     {
         let Locked {
             keeper,
-            mut answered,
+            mut answered_calls,
             ..
         } = self;
-        answered.audit(parts);
+        answered_calls.audit(parts);
         keeper.into_journal()
     }
 
@@ -313,7 +314,7 @@ impl<J: GateName, R: Wait + Drop> Locked<J, R> {
             return Err(PassFault::NoPlace);
         };
         let receipts = Vec::with_capacity(self.alloc, FIRST_RECEIPTS)?;
-        let part = self.rest.split_off(1, 0);
+        let part = self.unissued_parts.split_off(1, 0);
         self.issued += 1;
         Ok(Pass::new(holder, receipts, self.start.copy(), reader, part))
     }
@@ -354,7 +355,7 @@ impl<J: GateName, R: Wait + Drop> Locked<J, R> {
         let version = version_of(self.alloc, &self.keeper, &self.history)?;
         let slot = stage_next_slot(self.alloc, &mut self.writer, &mut self.staged_slot)?;
         let (after, shown_note) = extend_history_and_fill(
-            &self.count,
+            &self.entry_counter,
             &self.history,
             seen,
             learnt,
@@ -371,7 +372,7 @@ impl<J: GateName, R: Wait + Drop> Locked<J, R> {
         let entry = prepared.entry();
         let answer = (entry.number(), entry.reply());
         self.keeper.append_prepared(prepared);
-        self.answered.add(part, 1);
+        self.answered_calls.add(part, 1);
         self.history = after.copy();
         Ok((answer, after))
     }

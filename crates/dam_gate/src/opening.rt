@@ -4,7 +4,7 @@ ghost use Rattle.std.specs.Prelude.{◌≡◌, []};
 ghost use Rattle.dam_gate.specs.Limits.{most_passes};
 ghost use Rattle.dam_gate.specs.inside.History.{count_of};
 
-use crate::history::{CountRule, EntryCount, History};
+use crate::history::{CountRule, EntryCounter, History};
 use crate::limits::MOST_PASSES;
 use dam_book::PackedEntry;
 use logbook::{Seen, Start, Word};
@@ -108,9 +108,9 @@ impl Opening {
     pub(crate) fn into_named<J: GateName>(self) -> NamedOpening<J>
         requires { self ≡ J.opening }
         ensures start { result.start ≡ [] }
-        ensures none { result.answered.total ≡ 0 }
-        ensures whole { result.rest.parts ≡ J.opening.passes }
-        ensures nothing { result.rest.amount ≡ 0 }
+        ensures none { result.answered_calls.total ≡ 0 }
+        ensures whole { result.unissued_parts.parts ≡ J.opening.passes }
+        ensures nothing { result.unissued_parts.amount ≡ 0 }
     {
         let Opening {
             word,
@@ -118,12 +118,12 @@ impl Opening {
             blank,
             ..
         } = self;
-        let (answered, rest) = blank.open::<Answered<J>>();
+        let (answered_calls, unissued_parts) = blank.open::<Answered<J>>();
         NamedOpening {
-            count: EntryCount::new(word),
+            entry_counter: EntryCounter::new(word),
             start: History::empty(seen),
-            answered,
-            rest,
+            answered_calls,
+            unissued_parts,
         }
     }
 }
@@ -132,8 +132,8 @@ impl Opening {
 /// its parts, of which each pass gets one.
 #[derive(Drop)]
 pub(crate) struct NamedOpening<J: GateName> {
-    pub(crate) count: EntryCount<J>,
+    pub(crate) entry_counter: EntryCounter<J>,
     pub(crate) start: History<J>,
-    pub(crate) answered: LedgerTotal<Answered<J>>,
-    pub(crate) rest: LedgerPart<Answered<J>>,
+    pub(crate) answered_calls: LedgerTotal<Answered<J>>,
+    pub(crate) unissued_parts: LedgerPart<Answered<J>>,
 }

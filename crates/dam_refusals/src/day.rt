@@ -7,12 +7,13 @@ use crate::answer::{Answer, Stop, TRIES, Told};
 use crate::passes::Passes;
 use dam_book::{Command, DayLength, PackedEntry, Seed};
 use dam_gate::{
-    Account, DayFault, FreeTurn, Gate, GateName, Journal, Keeper, MOST_PASSES, Mismatch, Opening,
-    Settled, run_commands, settle,
+    Account, DayFault, Gate, GateName, Journal, Keeper, MOST_PASSES, Mismatch, Opening, Settled,
+    run_commands, settle,
 };
+use dam_plan::Turnstile;
 use std::alloc::Global;
 use std::marker::Brand;
-use std::sync::Wait;
+use std::sync::{Mutex, Wait};
 use std::thread::Threads;
 
 /// Settles the journal, and says how many calls were refused memory.
@@ -111,7 +112,52 @@ pub fn hold_day<R: Wait>(
     hold_at_gate::<Brand, R>(rt, alloc, Opening::new(periods.get()), seed, &keeper)
 }
 
-/// Has participants enter the commands on threads of their own, at a gate whose book hashes names by the seed.
+/// How many jobs a turnstile was called before, and after.
+#[derive(Clone, Copy, PartialEq, Eq)]
+struct Met {
+    before: u32,
+    after: u32,
+}
+
+/// A turnstile that counts its calls.
+#[derive(Drop)]
+struct Counting<'a, R: Wait> {
+    rt: &'a R,
+    met: Mutex<Met>,
+}
+
+impl<'a, R: Wait> Counting<'a, R> {
+    fn new(rt: &'a R) -> Counting<'a, R> {
+        Counting {
+            rt,
+            met: Mutex::new(Met {
+                before: 0,
+                after: 0,
+            }),
+        }
+    }
+
+    /// Whether it was called after as many jobs as before.
+    fn is_balanced(&self) -> bool {
+        let met = self.met.lock(self.rt);
+        met.before == met.after
+    }
+}
+
+impl<'a, R: Wait> Turnstile for Counting<'a, R> {
+    fn before(&self, _job: u32) {
+        let mut met = self.met.lock(self.rt);
+        met.before = met.before.saturating_add(1);
+    }
+
+    fn after(&self, _job: u32) {
+        let mut met = self.met.lock(self.rt);
+        met.after = met.after.saturating_add(1);
+    }
+}
+
+/// Has participants enter the commands on threads of their own, at a gate whose book hashes names by the seed. The gate
+/// has to call its turnstile after the work of each job that it called it before, also if memory is refused to it.
 pub fn run_threads_again<R: Threads + Wait + Sync>(
     rt: &R,
     alloc: Global,
@@ -120,7 +166,12 @@ pub fn run_threads_again<R: Threads + Wait + Sync>(
     commands: &[Command],
 ) -> Result<Told, Stop> {
     for refused in 0..TRIES {
-        match run_commands(rt, alloc, periods, seed, commands, &FreeTurn) {
+        let turnstile = Counting::new(rt);
+        let done = run_commands(rt, alloc, periods, seed, commands, &turnstile);
+        if !turnstile.is_balanced() {
+            return Err(Stop::Wrong);
+        }
+        match done {
             Ok(day) => {
                 let entries = day.settled.journal().entries().len();
                 return Ok(Told {

@@ -148,8 +148,8 @@ fn read_block(row: &NineFields, command: &mut Command) -> Result<(), usize>
     Ok(())
 }
 
-/// The number of the least field that breaks its rule, in a submit whose form is neither `hour` nor `block`.
-fn unknown_form_fault(row: &NineFields) -> Result<(), usize>
+/// Fails with the number of the least field that breaks its rule, in a submit whose form is neither `hour` nor `block`.
+fn fail_unknown_form(row: &NineFields) -> Result<(), usize>
     requires kind { row.now.kind.now ≡ codes "submit" }
     requires hour { bytes_eq row.now.form.now (codes "hour") ≡ false }
     requires block { bytes_eq row.now.form.now (codes "block") ≡ false }
@@ -168,7 +168,7 @@ fn read_submit(row: &NineFields, command: &mut Command) -> Result<(), usize>
     match row.form {
         b"hour" => read_hourly_order(row, command),
         b"block" => read_block(row, command),
-        _ => unknown_form_fault(row),
+        _ => fail_unknown_form(row),
     }
 }
 

@@ -1,10 +1,8 @@
 -- One answer more changes the highest selection that was found.
 use Rattle.std.proofs.Common.{◌≡◌, ◌≢◌, ℕ, ◌+◌, ◌-◌, ◌^◌, ◌<◌, ◌≤◌, ◌⊎◌, inl, inr, Bool, true, false, cond, ◌==◌, Option}
 use Rattle.std.proofs.Common.{Some, None, List, [], ◌∷◌, ◌++◌, length, take, slice_index_or, slice_set, replicate, ◌∙◌, ap, sym, subst}
-use Rattle.std.proofs.Common.{Ok, Err, refl, arith}
+use Rattle.std.proofs.Common.{refl, arith}
 use Rattle.std.specs.List.{All, Contains, count_by}
-use Rattle.std.specs.Result.{IsErrOf}
-use Rattle.std.specs.declared.result.Result.{Result}
 use Rattle.std.proofs.lemmas.Bool.Decides.{nat_tests}
 use Rattle.std.proofs.lemmas.List.Elements.{All-contains, All-push, All-weaker, Contains-push, Contains-append_left, Contains-append_right}
 use Rattle.std.proofs.lemmas.List.Sums.{sum_by-append, count_by_more_yes, count_by_more_no}
@@ -15,8 +13,6 @@ use Rattle.dam_blocks.specs.declared.selection.Solution.{Solution}
 use Rattle.dam_blocks.specs.Problem.{ProblemState, IsProblem}
 use Rattle.dam_search.specs.declared.answer.PieceAnswer.{PieceAnswer}
 use Rattle.dam_blocks.specs.Selection.{choice}
-use Rattle.dam_search.specs.declared.fault.SearchFault.{SearchFault}
-use Rattle.dam_search.specs.declared.fault.SearchFault.TheVariants.{Memory, Collected, Unfinished}
 use Rattle.dam_search.specs.Piece.{Rises, node_count, live_nodes, IsSound, IsSpent}
 use Rattle.dam_search.specs.Search.{IsFinished, IsUnfinished}
 use Rattle.dam_search.specs.Answer.{AreAnswered, AreConclusive}
@@ -133,11 +129,11 @@ finished_before problem depth nodes answers u few in_cutting worked one least le
     let done = done_before a.piece u.piece a.done (omega (arith, is, less)) after in
     subst (λ (n : ℕ). IsFinished problem depth nodes n) is (record {
       best = a.best;
-      read = a.read;
+      incumbent_read = a.incumbent_read;
       visited = a.visited;
-      sound = subst (λ (d : Bool). IsSound problem (choice depth a.piece) a.best a.read d) done work.sound;
+      sound = subst (λ (d : Bool). IsSound problem (choice depth a.piece) a.best a.incumbent_read d) done work.sound;
       reached = work.reached;
-      spent = subst (λ (d : Bool). IsSpent problem (choice depth a.piece) (length problem.blocks - depth) 0 nodes a.visited a.read d)
+      spent = subst (λ (d : Bool). IsSpent problem (choice depth a.piece) (length problem.blocks - depth) 0 nodes a.visited a.incumbent_read d)
           done (work.spent few);
     })
 
@@ -148,7 +144,7 @@ below_bound nodes bound false e enough = elim (cases_lt nodes bound) [
   | inr many ↦ absurd (let no = enough (omega (arith, many)) in cc)
 ]
 
-least_is : (problem : ProblemState) (depth nodes : ℕ) (answers : List PieceAnswer) (u : PieceAnswer)
+pub least_is : (problem : ProblemState) (depth nodes : ℕ) (answers : List PieceAnswer) (u : PieceAnswer)
     → All (λ (a : PieceAnswer). IsWorked problem depth nodes a) answers → AreOneEach answers (2 ^ depth)
     → IsLeastUnfinished answers (Some u) → IsUnfinished problem depth nodes u.piece u.visited
 least_is problem depth nodes answers u worked one least =
@@ -164,22 +160,6 @@ least_is problem depth nodes answers u worked one least =
           (spent.done_by_live 0 (omega arith));
       least = finished_before problem depth nodes answers u few work.in_cutting worked one least.2;
     }
-
--- a result that names a piece names the least unfinished one
-abbrev NamesLeast : ProblemState → ℕ → ℕ → Result Solution SearchFault → Type 0
-NamesLeast problem depth nodes (Ok best) = Unit {0}
-NamesLeast problem depth nodes (Err Memory) = Unit {0}
-NamesLeast problem depth nodes (Err (Collected piece)) = Unit {0}
-NamesLeast problem depth nodes (Err (Unfinished piece visited)) = IsUnfinished problem depth nodes piece visited
-
-pub least_named : (problem : ProblemState) (depth nodes : ℕ) (answers : List PieceAnswer) (u : PieceAnswer)
-    → All (λ (a : PieceAnswer). IsWorked problem depth nodes a) answers → AreOneEach answers (2 ^ depth)
-    → IsLeastUnfinished answers (Some u) → (piece visited : ℕ)
-    → IsErrOf {T = Solution} (Err (Unfinished u.piece u.visited)) (Unfinished piece visited)
-    → IsUnfinished problem depth nodes piece visited
-least_named problem depth nodes answers u worked one least piece visited e =
-    subst (λ (r : Result Solution SearchFault). NamesLeast problem depth nodes r) e
-    (least_is problem depth nodes answers u worked one least)
 
 -- ---- the counts of the answers about each piece
 

@@ -30,7 +30,7 @@ AreChoices = (xs : List Bool) → (k : ℕ) × (k < 2 ^ length xs) × (choice (l
 
 -- none of the answers read more than some eligible selection has
 abbrev pub AreReached : ProblemState → List PieceAnswer → Type 0
-AreReached problem answers = All (λ (a : PieceAnswer). IsReached problem a.read) answers
+AreReached problem answers = All (λ (a : PieceAnswer). IsReached problem a.incumbent_read) answers
 
 -- one of several sound answers
 sound_one : (problem : ProblemState) (depth : ℕ) (answers : List PieceAnswer) (a : PieceAnswer) → AreAnswered problem depth answers
@@ -65,7 +65,7 @@ result_matched problem depth answers sel w choices few are reached result =
     let a = answer.0 in
     let sound = sound_one problem depth answers a are answer.1 in
     let done = All-contains (λ (x : PieceAnswer). x.done ≡ true) answers a are.done answer.1 in
-    let read = All-contains (λ (x : PieceAnswer). IsReached problem x.read) answers a reached answer.1 in
+    let read = All-contains (λ (x : PieceAnswer). IsReached problem x.incumbent_read) answers a reached answer.1 in
     let here = subst (λ (k : ℕ). IsCompletion (choice depth k) sel) (sym answer.2) piece.2 in
     let ranks = (result.others read.selection read.welfare read.eligible).by_welfare in
     let most = read.reaches in
@@ -162,10 +162,10 @@ reached_zero problem sel w e h = record { selection = sel; welfare = w; eligible
 
 -- no value read above a value that is reached
 pub all_reached : (problem : ProblemState) (answers : List PieceAnswer) (value : ℕ) → IsReached problem value
-    → All (λ (a : PieceAnswer). a.read ≤ value) answers → AreReached problem answers
+    → All (λ (a : PieceAnswer). a.incumbent_read ≤ value) answers → AreReached problem answers
 all_reached problem answers value r all =
-    All-weaker (λ (a : PieceAnswer). a.read ≤ value) (λ (a : PieceAnswer). IsReached problem a.read)
-    (λ (a : PieceAnswer) (h : a.read ≤ value). reached_less problem value a.read h r) answers all
+    All-weaker (λ (a : PieceAnswer). a.incumbent_read ≤ value) (λ (a : PieceAnswer). IsReached problem a.incumbent_read)
+    (λ (a : PieceAnswer) (h : a.incumbent_read ≤ value). reached_less problem value a.incumbent_read h r) answers all
 
 -- ---- a worker's answer
 
@@ -209,4 +209,4 @@ limit_needed problem depth nodes answers b worked are result piece less =
     let work = All-contains (λ (a : PieceAnswer). IsWorked problem depth nodes a) answers found.0 worked found.1 in
     let done = All-contains (λ (a : PieceAnswer). a.done ≡ true) answers found.0 are.done found.1 in
     subst (λ (n : ℕ). HasNeeded problem (choice depth n) left b.welfare nodes) found.2
-    (answer_needed problem (choice depth found.0.piece) left nodes found.0.visited found.0.read found.0.done b work.spent done work.reached result)
+    (answer_needed problem (choice depth found.0.piece) left nodes found.0.visited found.0.incumbent_read found.0.done b work.spent done work.reached result)

@@ -7,7 +7,7 @@ use Rattle.dam_blocks.specs.Problem.{ProblemState}
 use Rattle.dam_search.specs.declared.answer.PieceAnswer.{PieceAnswer}
 use Rattle.dam_search.specs.Piece.{welfare_found}
 use Rattle.dam_search.specs.Answer.{IsReached}
-use Rattle.dam_search.specs.Work.{IsWalkedPiece}
+use Rattle.dam_search.specs.inside.Work.{IsWalkedPiece}
 use Rattle.dam_search.specs.inside.Collect.{IsWorked, AreOneEach}
 use Rattle.dam_search.proofs.Collecting.{reached_less, reached_greater, reached_found}
 
@@ -19,13 +19,13 @@ one_alone a zero piece less = grind (arith, nat_tests, zero, less)
 
 -- the answer about the whole
 pub worked_is : (problem walked : ProblemState) (first nodes : ℕ) (a : PieceAnswer) → walked ≡ problem → IsWalkedPiece walked 0 nodes a
-    → IsReached problem first → a.read ≤ max first (welfare_found a.best) → IsWorked problem 0 nodes a
+    → IsReached problem first → a.incumbent_read ≤ max first (welfare_found a.best) → IsWorked problem 0 nodes a
 worked_is problem walked first nodes a same answer reached read =
     let own = subst (λ (p : ProblemState). IsWalkedPiece p 0 nodes a) same answer in
     record {
       in_cutting = own.in_cutting;
       sound = own.sound;
-      reached = reached_less problem (max first (welfare_found a.best)) a.read read
+      reached = reached_less problem (max first (welfare_found a.best)) a.incumbent_read read
           (reached_greater problem first (welfare_found a.best) reached
           (reached_found problem [] a.best (reached_less problem first 0 (omega arith) reached) own.sound.found));
       spent = own.spent;

@@ -246,7 +246,7 @@ covers_either first problem accepted rejected place left best read node one othe
 
 -- nothing is found
 pub walked_nothing : (problem : ProblemState) (accepted : List Bool) (left : List ℕ) (read offer : ℕ) (found : WalkState) → IsReady read offer found
-    → CoversOpen problem accepted left found.best found.read → IsWalkedOpen problem accepted left offer read offer found found
+    → CoversOpen problem accepted left found.best found.incumbent_read → IsWalkedOpen problem accepted left offer read offer found found
 walked_nothing problem accepted left read offer found ready covers = record {
   finds = finds_none problem accepted left found.best;
   covers = covers;
@@ -257,8 +257,8 @@ walked_nothing problem accepted left read offer found ready covers = record {
 
 -- the value was read again, and nothing is found
 pub walked_over : (problem : ProblemState) (accepted : List Bool) (left : List ℕ) (read offer read' offer' : ℕ) (before now : WalkState)
-    → IsReady read offer before → now.best ≡ before.best → before.read ≤ now.read → now.read ≡ read' → offer' ≡ offer
-    → CoversOpen problem accepted left now.best now.read → IsWalkedOpen problem accepted left offer read' offer' before now
+    → IsReady read offer before → now.best ≡ before.best → before.incumbent_read ≤ now.incumbent_read → now.incumbent_read ≡ read' → offer' ≡ offer
+    → CoversOpen problem accepted left now.best now.incumbent_read → IsWalkedOpen problem accepted left offer read' offer' before now
 walked_over problem accepted left read offer read' offer' before now ready same more told kept covers = record {
   finds = subst (λ (o : Option Solution). FindsOpen problem accepted left before.best o) (sym same) (finds_none problem accepted left before.best);
   covers = covers;
@@ -283,8 +283,8 @@ walked_both first problem accepted rejected place left read₀ offer₀ read₁ 
     let grows = one.grows in let grows' = other.grows in let offered = one.offered in let offered' = other.offered in
     record {
       finds = finds_either first (not first) problem accepted place left a.best b.best c.best through ready.long one.finds other.finds;
-      covers = covers_either first problem accepted rejected place left c.best c.read node
-          (covers_later problem (with_place_if first accepted place) left b.best c.best b.read c.read through long_b long_c other.finds.rises grows' one.covers)
+      covers = covers_either first problem accepted rejected place left c.best c.incumbent_read node
+          (covers_later problem (with_place_if first accepted place) left b.best c.best b.incumbent_read c.incumbent_read through long_b long_c other.finds.rises grows' one.covers)
           other.covers;
       grows = omega (arith, grows, grows');
       read = other.read;
@@ -353,7 +353,7 @@ with_rows problem relaxed accepted w same e = subst (λ (p : ProblemState). sele
 
 -- it is found
 pub walked_leaf : (problem : ProblemState) (accepted : List Bool) (read offer read' offer' : ℕ) (before after : WalkState) (best : Solution)
-    → length accepted ≡ most_blocks → IsReady read offer before → after.best ≡ Some best → after.read ≡ before.read → best.selection ≡ accepted
+    → length accepted ≡ most_blocks → IsReady read offer before → after.best ≡ Some best → after.incumbent_read ≡ before.incumbent_read → best.selection ≡ accepted
     → IsEligible problem accepted (pos best.welfare) → Rises before.best (Some best) → read' ≡ read → offer' ≡ max offer best.welfare
     → IsWalkedOpen problem accepted [] offer read' offer' before after
 walked_leaf problem accepted read offer read' offer' before after best long ready found kept is eligible rises told offered = record {

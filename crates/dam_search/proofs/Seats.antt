@@ -2,8 +2,6 @@
 use Rattle.std.proofs.Common.{true, ◌≡◌, ℕ, pos, cond, ◌==◌, ◌+◌, ◌-◌, ◌<◌, ◌≤◌, ◌^◌, max, List, [], ◌∷◌, ◌++◌, map, length, slice_index_or, ◌∙◌}
 use Rattle.std.proofs.Common.{ap, ap₂, sym, subst, refl, arith, length-append}
 use Rattle.std.specs.List.{All}
-use Rattle.std.specs.Result.{IsErrOf}
-use Rattle.std.specs.declared.result.Result.{Result}
 use Rattle.std.proofs.lemmas.Int.{ints}
 use Rattle.std.proofs.lemmas.Bool.Decides.{nat_tests}
 use Rattle.std.proofs.lemmas.List.Sums.{sum_by-append}
@@ -15,13 +13,11 @@ use Rattle.dam_search.specs.declared.view.View.{View}
 use Rattle.dam_search.specs.Piece.{node_count, welfare_found, IsSound, IsSpent}
 use Rattle.dam_blocks.specs.Selection.{choice}
 use Rattle.dam_search.specs.Answer.{IsReached, greatest_found}
-use Rattle.dam_search.specs.inside.Collect.{IsWorked, answers_about, AreOneEach, IsCollected}
-use Rattle.dam_search.specs.declared.fault.SearchFault.{SearchFault}
-use Rattle.dam_search.specs.declared.fault.SearchFault.TheVariants.{Collected}
+use Rattle.dam_search.specs.inside.Collect.{IsWorked, answers_about, AreOneEach}
 use Rattle.dam_blocks.specs.declared.selection.Solution.{Solution}
 use Rattle.dam_blocks.specs.Eligible.{IsEligible}
 use Rattle.dam_search.specs.Words.{times, once_below, first_view, joined_view, standing, AreClosedWords}
-use Rattle.dam_search.specs.Work.{IsWalkedPiece, AreAnswersOf}
+use Rattle.dam_search.specs.inside.Work.{IsWalkedPiece, AreAnswersOf}
 use Rattle.dam_search.specs.inside.Seats.{AreJoined, AreAllAnswers}
 use Rattle.dam_search.proofs.Collecting.{spent_less, reached_less, reached_greater, reached_greatest}
 
@@ -29,21 +25,21 @@ pub greatest_append : (xs ys : List PieceAnswer) → greatest_found (xs ++ ys) �
 greatest_append [] ys = omega arith
 greatest_append (x ∷ xs) ys = let rest = greatest_append xs ys in omega (arith, rest)
 
-read_more : (answers : List PieceAnswer) (told later : ℕ) → told ≤ later → All (λ (a : PieceAnswer). a.read ≤ told) answers
-    → All (λ (a : PieceAnswer). a.read ≤ later) answers
-read_more answers told later le all = All-weaker (λ (a : PieceAnswer). a.read ≤ told) (λ (a : PieceAnswer). a.read ≤ later)
-    (λ (a : PieceAnswer) (h : a.read ≤ told). omega (arith, h, le)) answers all
+read_more : (answers : List PieceAnswer) (told later : ℕ) → told ≤ later → All (λ (a : PieceAnswer). a.incumbent_read ≤ told) answers
+    → All (λ (a : PieceAnswer). a.incumbent_read ≤ later) answers
+read_more answers told later le all = All-weaker (λ (a : PieceAnswer). a.incumbent_read ≤ told) (λ (a : PieceAnswer). a.incumbent_read ≤ later)
+    (λ (a : PieceAnswer) (h : a.incumbent_read ≤ told). omega (arith, h, le)) answers all
 
 -- a seat with the view w that drew the piece of the answer after v
 pub one_more : (problem : ProblemState) (depth nodes besides : ℕ) (v w : View) (answers : List PieceAnswer) (a : PieceAnswer)
     → AreAnswersOf problem depth nodes besides v answers
-    → w.drawn ≡ v.drawn ++ a.piece ∷ [] → w.greatest_read ≡ max v.greatest_read a.read
+    → w.drawn ≡ v.drawn ++ a.piece ∷ [] → w.greatest_read ≡ max v.greatest_read a.incumbent_read
     → w.greatest_offer ≡ max v.greatest_offer (welfare_found a.best) → IsWalkedPiece problem depth nodes a
     → AreAnswersOf problem depth nodes besides w (answers ++ a ∷ [])
 one_more problem depth nodes besides v w answers a h drawn told top walked = record {
   pieces = map-append (λ (a : PieceAnswer). a.piece) answers (a ∷ []) ∙ ap (λ (xs : List ℕ). xs ++ a.piece ∷ []) h.pieces ∙ sym drawn;
   walked = All-push (λ (a : PieceAnswer). IsWalkedPiece problem depth nodes a) answers a h.walked walked;
-  greatest_read = All-push (λ (a : PieceAnswer). a.read ≤ w.greatest_read) answers a
+  greatest_read = All-push (λ (a : PieceAnswer). a.incumbent_read ≤ w.greatest_read) answers a
       (read_more answers v.greatest_read w.greatest_read (omega (arith, told)) h.greatest_read) (omega (arith, told));
   offered = (let before = h.offered in let more = greatest_append answers (a ∷ []) in omega (arith, before, more, top));
 }
@@ -54,7 +50,7 @@ pub both_answers : (problem : ProblemState) (depth nodes besides : ℕ) (v w : V
 both_answers problem depth nodes besides v w xs ys g h = record {
   pieces = map-append (λ (a : PieceAnswer). a.piece) xs ys ∙ ap₂ (λ (m n : List ℕ). m ++ n) g.pieces h.pieces;
   walked = All-append (λ (a : PieceAnswer). IsWalkedPiece problem depth nodes a) xs ys g.walked h.walked;
-  greatest_read = All-append (λ (a : PieceAnswer). a.read ≤ max v.greatest_read w.greatest_read) xs ys
+  greatest_read = All-append (λ (a : PieceAnswer). a.incumbent_read ≤ max v.greatest_read w.greatest_read) xs ys
       (read_more xs v.greatest_read (max v.greatest_read w.greatest_read) (omega arith) g.greatest_read)
       (read_more ys w.greatest_read (max v.greatest_read w.greatest_read) (omega arith) h.greatest_read);
   offered = (let left = g.offered in let right = h.offered in let more = greatest_append xs ys in omega (arith, left, right, more));
@@ -62,23 +58,23 @@ both_answers problem depth nodes besides v w xs ys g h = record {
 
 -- the answer of a walk over a piece that was drawn
 pub walked_is : (problem : ProblemState) (depth nodes piece told : ℕ) (a : PieceAnswer) → a.piece ≡ piece → piece < 2 ^ depth
-    → IsSound problem (choice depth piece) a.best a.read a.done
-    → IsSpent problem (choice depth piece) (length problem.blocks - depth) told nodes a.visited a.read a.done → IsWalkedPiece problem depth nodes a
+    → IsSound problem (choice depth piece) a.best a.incumbent_read a.done
+    → IsSpent problem (choice depth piece) (length problem.blocks - depth) told nodes a.visited a.incumbent_read a.done → IsWalkedPiece problem depth nodes a
 walked_is problem depth nodes piece told a same within sound spent = record {
   in_cutting = subst (λ (n : ℕ). n < 2 ^ depth) (sym same) within;
-  sound = subst (λ (n : ℕ). IsSound problem (choice depth n) a.best a.read a.done) (sym same) sound;
-  spent = λ few. subst (λ (n : ℕ). IsSpent problem (choice depth n) (length problem.blocks - depth) 0 nodes a.visited a.read a.done)
-      (sym same) (spent_less problem (choice depth piece) (length problem.blocks - depth) told nodes a.visited a.read a.done spent);
+  sound = subst (λ (n : ℕ). IsSound problem (choice depth n) a.best a.incumbent_read a.done) (sym same) sound;
+  spent = λ few. subst (λ (n : ℕ). IsSpent problem (choice depth n) (length problem.blocks - depth) 0 nodes a.visited a.incumbent_read a.done)
+      (sym same) (spent_less problem (choice depth piece) (length problem.blocks - depth) told nodes a.visited a.incumbent_read a.done spent);
   done = spent.done_by_all;
 }
 
 -- the answer of a walk to the end of a piece that was drawn, if the limit can't bind
 pub walked_whole : (problem : ProblemState) (depth nodes piece : ℕ) (a : PieceAnswer) → a.piece ≡ piece → piece < 2 ^ depth
-    → IsSound problem (choice depth piece) a.best a.read a.done → a.done ≡ true → node_count (length problem.blocks - depth) ≤ nodes
+    → IsSound problem (choice depth piece) a.best a.incumbent_read a.done → a.done ≡ true → node_count (length problem.blocks - depth) ≤ nodes
     → IsWalkedPiece problem depth nodes a
 walked_whole problem depth nodes piece a same within sound done many = record {
   in_cutting = subst (λ (n : ℕ). n < 2 ^ depth) (sym same) within;
-  sound = subst (λ (n : ℕ). IsSound problem (choice depth n) a.best a.read a.done) (sym same) sound;
+  sound = subst (λ (n : ℕ). IsSound problem (choice depth n) a.best a.incumbent_read a.done) (sym same) sound;
   spent = λ few. absurd (omega (arith, few, many));
   done = λ h. done;
 }
@@ -202,7 +198,7 @@ all_worked problem depth nodes first answers reached h =
     λ k d l. (let walked = h.walked k d l in record {
       in_cutting = walked.in_cutting;
       sound = walked.sound;
-      reached = reached_less problem (max first (greatest_found answers)) (slice_index_or answers k d).read (h.greatest_read k d l) both;
+      reached = reached_less problem (max first (greatest_found answers)) (slice_index_or answers k d).incumbent_read (h.greatest_read k d l) both;
       spent = walked.spent;
       done = walked.done;
     })
@@ -225,9 +221,3 @@ below_once x bound less = grind (arith, nat_tests, less)
 pub one_each : (problem : ProblemState) (depth nodes first : ℕ) (answers : List PieceAnswer) → AreAllAnswers problem depth nodes first answers
     → AreOneEach answers (2 ^ depth)
 one_each problem depth nodes first answers h piece less = about_times answers piece ∙ h.each piece ∙ below_once piece (2 ^ depth) less
-
--- then no piece is faulty
-pub none_faulty : (depth : ℕ) (answers : List PieceAnswer) (result : Result Solution SearchFault) (piece : ℕ) → IsCollected depth answers result
-    → AreOneEach answers (2 ^ depth) → ¬ (IsErrOf result (Collected piece))
-none_faulty depth answers result piece h one e =
-    let fault = subst (λ (r : Result Solution SearchFault). IsCollected depth answers r) e h in fault.1.faulty (one piece fault.0)

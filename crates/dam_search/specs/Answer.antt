@@ -9,7 +9,7 @@ use Rattle.dam_search.specs.Piece.{Rises, welfare_found, IsSound}
 
 -- a sound answer about its piece of a cutting of this depth
 abbrev pub IsSoundAnswer : ProblemState → ℕ → PieceAnswer → Type 0
-IsSoundAnswer problem depth a = IsSound problem (choice depth a.piece) a.best a.read a.done
+IsSoundAnswer problem depth a = IsSound problem (choice depth a.piece) a.best a.incumbent_read a.done
 
 -- sound answers, all of them done, and one about each piece of a cutting of this depth
 pub record AreAnswered (problem : ProblemState) (depth : ℕ) (answers : List PieceAnswer)
@@ -33,7 +33,7 @@ pub record AreConclusive (problem : ProblemState) (depth : ℕ) (answers : List 
   pub is_problem : IsProblem problem
   pub in_blocks : depth ≤ length problem.blocks
   pub answered : AreAnswered problem depth answers
-  pub reached : All (λ (a : PieceAnswer). IsReached problem a.read) answers
+  pub reached : All (λ (a : PieceAnswer). IsReached problem a.incumbent_read) answers
 
 -- the greatest welfare that the answers found, 0 if they found none
 abbrev pub greatest_found : List PieceAnswer → ℕ

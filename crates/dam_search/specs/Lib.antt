@@ -4,5 +4,4 @@ pub mod Piece
 pub mod Answer
 pub mod Search
 pub mod Words
-pub mod Work
 pub mod inside

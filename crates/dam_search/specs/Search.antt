@@ -1,8 +1,11 @@
--- The meaning of a limit on nodes for a search.
-use Rattle.std.specs.Prelude.{◌≡◌, ℕ, ◌-◌, ◌^◌, ◌<◌, true, Option, length}
+-- The answer of a search, and the meaning of its limit on nodes.
+use Rattle.std.specs.Prelude.{◌≡◌, ℕ, ◌-◌, ◌^◌, ◌<◌, pos, true, Option, Result, Ok, Err, length}
 use Rattle.dam_blocks.specs.declared.selection.Solution.{Solution}
 use Rattle.dam_blocks.specs.Problem.{ProblemState}
 use Rattle.dam_blocks.specs.Selection.{choice}
+use Rattle.dam_blocks.specs.Result.{IsResult}
+use Rattle.dam_search.specs.declared.fault.SearchFault.{SearchFault}
+use Rattle.dam_search.specs.declared.fault.SearchFault.TheVariants.{Memory, AnswerMissingOrRepeated, Unfinished}
 use Rattle.dam_search.specs.Piece.{node_count, live_nodes, HasNeeded, IsSound, IsSpent}
 use Rattle.dam_search.specs.Answer.{IsReached}
 
@@ -10,11 +13,11 @@ use Rattle.dam_search.specs.Answer.{IsReached}
 -- more than some eligible selection has
 pub record IsFinished (problem : ProblemState) (depth nodes piece : ℕ) : Type 0 where
   pub best : Option Solution
-  pub read : ℕ
+  pub incumbent_read : ℕ
   pub visited : ℕ
-  pub sound : IsSound problem (choice depth piece) best read true
-  pub reached : IsReached problem read
-  pub spent : IsSpent problem (choice depth piece) (length problem.blocks - depth) 0 nodes visited read true
+  pub sound : IsSound problem (choice depth piece) best incumbent_read true
+  pub reached : IsReached problem incumbent_read
+  pub spent : IsSpent problem (choice depth piece) (length problem.blocks - depth) 0 nodes visited incumbent_read true
 
 -- the least piece of the cutting that isn't finished: it visited as many nodes as it may, which is less than either
 -- bound on those that it can need
@@ -31,3 +34,14 @@ pub record IsUnfinished (problem : ProblemState) (depth nodes piece visited : �
 abbrev pub LimitHasNeeded : ProblemState → ℕ → ℕ → ℕ → Type 0
 LimitHasNeeded problem depth nodes welfare = (piece : ℕ) → piece < 2 ^ depth
     → HasNeeded problem (choice depth piece) (length problem.blocks - depth) welfare nodes
+
+-- the answer of a search by the cutting of this depth, with this limit on the nodes of each piece. A selection is the
+-- problem's result, and the limit is at least the number of nodes that each piece must visit: a lesser one gives no
+-- result. `Unfinished` names the least piece that isn't finished. Memory may run out. No answer about a piece is missing
+-- or repeated
+abbrev pub IsSearched : ProblemState → ℕ → ℕ → Result Solution SearchFault → Type 0
+IsSearched problem depth nodes (Ok best) =
+    IsResult problem best.selection (pos best.welfare) × LimitHasNeeded problem depth nodes best.welfare
+IsSearched problem depth nodes (Err (Unfinished piece visited)) = IsUnfinished problem depth nodes piece visited
+IsSearched problem depth nodes (Err Memory) = Unit {0}
+IsSearched problem depth nodes (Err (AnswerMissingOrRepeated piece)) = ⊥

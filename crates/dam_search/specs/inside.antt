@@ -3,5 +3,6 @@ pub mod PrefixWalk
 pub mod Conflicts
 pub mod PriceWalk
 pub mod DecisionOrder
+pub mod Work
 pub mod Seats
 pub mod Collect

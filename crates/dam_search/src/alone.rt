@@ -1,10 +1,9 @@
 //! The search on the calling thread alone.
 
-ghost use Rattle.std.specs.Prelude.{◌≡◌, ℕ, pos, true, IfOk, IsErrOf};
-ghost use Rattle.dam_blocks.specs.Result.{IsResult};
+ghost use Rattle.std.specs.Prelude.{◌≡◌, true};
 ghost use Rattle.dam_bound.specs.Relaxed.{without_rows};
 ghost use Rattle.dam_search.specs.Answer.{IsReached};
-ghost use Rattle.dam_search.specs.Search.{IsUnfinished, LimitHasNeeded};
+ghost use Rattle.dam_search.specs.Search.{IsSearched};
 
 use crate::collect::collected;
 use crate::conflicts::Conflicts;
@@ -31,12 +30,7 @@ fn search_alone_by_walk<W: PieceWalk>(
     requires same { W.problem walk.now ≡ problem.now }
     requires suits { W.suits walk.now 0 nodes ≡ true }
     requires reached { IsReached problem.now first_welfare }
-    ensures ok { IfOk result (λ best. IsResult problem.now best.selection (pos best.welfare)) }
-    ensures unfinished { (piece visited : ℕ)
-        → IsErrOf result (SearchFault.Unfinished piece visited)
-        → IsUnfinished problem.now 0 nodes piece visited }
-    ensures needed { IfOk result (λ best. LimitHasNeeded problem.now 0 nodes best.welfare) }
-    ensures whole { (piece : ℕ) → ¬ (IsErrOf result (SearchFault.Collected piece)) }
+    ensures { IsSearched problem.now 0 nodes result }
 {
     let mut incumbent = OwnIncumbent::new();
     incumbent.offer(first_welfare);
@@ -52,12 +46,7 @@ fn search_alone_priced<P: PricedProblem>(
     nodes: Nodes,
 ) -> Result<Solution, SearchFault>
     requires { P.problem priced.now ≡ without_rows problem.now }
-    ensures ok { IfOk result (λ best. IsResult problem.now best.selection (pos best.welfare)) }
-    ensures unfinished { (piece visited : ℕ)
-        → IsErrOf result (SearchFault.Unfinished piece visited)
-        → IsUnfinished problem.now 0 nodes piece visited }
-    ensures needed { IfOk result (λ best. LimitHasNeeded problem.now 0 nodes best.welfare) }
-    ensures whole { (piece : ℕ) → ¬ (IsErrOf result (SearchFault.Collected piece)) }
+    ensures { IsSearched problem.now 0 nodes result }
 {
     let first_welfare = first_selection(problem, priced).welfare;
     if limit_can_bind(problem, 0, nodes) {
@@ -80,15 +69,10 @@ fn search_alone_priced<P: PricedProblem>(
 /// The result of a problem, found on the calling thread alone, without other threads, locks or shared
 /// words. It is for callers that can't start threads.
 ///
-/// It finds the result of `search`, whose clauses it has for a plan that cuts nothing. The whole search
+/// It finds the result of `search`, whose clause it has for a plan that cuts nothing. The whole search
 /// is piece 0. If it needs more than `nodes` nodes, it is unfinished; `MOST_NODES` are enough for any problem.
 pub fn search_alone(alloc: Global, problem: &Problem, nodes: Nodes) -> Result<Solution, SearchFault>
-    ensures ok { IfOk result (λ best. IsResult problem.now best.selection (pos best.welfare)) }
-    ensures unfinished { (piece visited : ℕ)
-        → IsErrOf result (SearchFault.Unfinished piece visited)
-        → IsUnfinished problem.now 0 nodes piece visited }
-    ensures needed { IfOk result (λ best. LimitHasNeeded problem.now 0 nodes best.welfare) }
-    ensures whole { (piece : ℕ) → ¬ (IsErrOf result (SearchFault.Collected piece)) }
+    ensures { IsSearched problem.now 0 nodes result }
 {
     let curves = ClassCurves::of(alloc, problem)?;
     search_alone_priced(alloc, problem, &curves, nodes)

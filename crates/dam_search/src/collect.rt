@@ -1,9 +1,7 @@
-ghost use Rattle.std.specs.Prelude.{◌≡◌, ◌⊎◌, ◌<◌, ◌≤◌, ◌^◌, ℕ, pos, length, All};
-ghost use Rattle.std.specs.Prelude.{MatchOption, IfOk, IsErrOf};
-ghost use Rattle.dam_blocks.specs.Result.{IsResult};
+ghost use Rattle.std.specs.Prelude.{◌≡◌, ◌⊎◌, ◌<◌, ◌≤◌, ◌^◌, length, All, MatchOption};
 ghost use Rattle.dam_plan.specs.Limits.{most_cut};
 ghost use Rattle.dam_search.specs.Piece.{Rises};
-ghost use Rattle.dam_search.specs.Search.{IsUnfinished, LimitHasNeeded};
+ghost use Rattle.dam_search.specs.Search.{IsSearched};
 ghost use Rattle.dam_search.specs.inside.Collect.{IsWorked, AreOneEach, IsFirstFaulty, AreAnswerCounts};
 ghost use Rattle.dam_search.specs.inside.Collect.{is_lesser_unfinished, IsLeastUnfinished};
 ghost use Rattle.dam_search.specs.inside.Collect.{IsLong, IsHighestFound, IsCollected};
@@ -121,17 +119,14 @@ pub(crate) fn collected<A: Allocator>(
     requires depth { depth ≤ length problem.now.blocks }
     requires few { depth ≤ most_cut }
     requires worked { All (λ a. IsWorked problem.now depth nodes a) answers.now }
-    ensures ok { IfOk result (λ best. IsResult problem.now best.selection (pos best.welfare)) }
-    ensures needed { IfOk result (λ best. LimitHasNeeded problem.now depth nodes best.welfare) }
     ensures collected { IsCollected depth answers.now result }
-    ensures unfinished { (piece visited : ℕ)
-        → IsErrOf result (SearchFault.Unfinished piece visited)
-        → IsUnfinished problem.now depth nodes piece visited }
+    ensures searched { AreOneEach answers.now (2 ^ depth)
+        → IsSearched problem.now depth nodes result }
 {
     laws::conclusive_answers_give_result();
     use_invariant(problem);
     if let Some(piece) = first_faulty(answers, piece_count(depth)) {
-        return Err(SearchFault::Collected { piece });
+        return Err(SearchFault::AnswerMissingOrRepeated { piece });
     }
     if let Some(answer) = least_unfinished(answers) {
         return Err(SearchFault::Unfinished {

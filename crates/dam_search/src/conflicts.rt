@@ -70,7 +70,8 @@ impl Conflicts {
         self.needs[place].meets(rejected) || self.excludes[place].meets(accepted)
     }
 
-    /// Whether links forbid rejecting the block at the place if the accepted ones are.
+    /// Whether links forbid rejecting the block at the place if the accepted ones are. It may be impossible even if this is
+    /// `false`.
     pub(crate) fn forbids_rejecting(&self, place: usize, accepted: Selection) -> bool
         requires { place < most_blocks }
         ensures { result ≡ true → (problem : ProblemState) (selection : List Bool) (w : ℤ)

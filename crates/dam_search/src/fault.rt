@@ -12,7 +12,7 @@ pub enum SearchFault {
     /// Some piece has no answer of the workers, or more than one. `search` and `search_alone` never
     /// answer this.
     #[error("piece {piece} has no answer, or more than one")]
-    Collected {
+    AnswerMissingOrRepeated {
         /// The least such piece, from 0.
         piece: u32,
     },

@@ -41,11 +41,11 @@ pub fn conclusive_answers_give_result()
         → AreConclusive problem depth answers → ¬ (All (λ a. a.best ≡ None) answers) }
     ensures conclusive { (problem : ProblemState) (depth : ℕ) (answers : List PieceAnswer)
         → IsProblem problem → depth ≤ length problem.blocks → AreAnswered problem depth answers
-        → All (λ a. a.read ≤ greatest_found answers) answers
+        → All (λ a. a.incumbent_read ≤ greatest_found answers) answers
         → AreConclusive problem depth answers }
     ensures offered { (problem : ProblemState) (depth first : ℕ) (answers : List PieceAnswer)
         → IsProblem problem → depth ≤ length problem.blocks → AreAnswered problem depth answers
-        → IsReached problem first → All (λ a. a.read ≤ max first (greatest_found answers)) answers
+        → IsReached problem first → All (λ a. a.incumbent_read ≤ max first (greatest_found answers)) answers
         → AreConclusive problem depth answers }
 {
     dam_blocks::laws::empty_is_eligible();

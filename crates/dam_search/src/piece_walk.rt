@@ -4,7 +4,7 @@ ghost use Rattle.std.specs.Prelude.{◌≡◌, ◌-◌, ◌^◌, ◌<◌, ◌≤
 ghost use Rattle.dam_book.specs.Limits.{most_blocks};
 ghost use Rattle.dam_blocks.specs.Problem.{ProblemState};
 ghost use Rattle.dam_search.specs.Piece.{node_count, welfare_found};
-ghost use Rattle.dam_search.specs.Work.{IsWalkedPiece};
+ghost use Rattle.dam_search.specs.inside.Work.{IsWalkedPiece};
 
 use crate::answer::PieceAnswer;
 use crate::incumbent::Incumbent;
@@ -13,7 +13,7 @@ use dam_plan::Nodes;
 use std::alloc::Allocator;
 
 /// A way to walk the pieces of a problem's cutting.
-pub trait PieceWalk {
+pub(crate) trait PieceWalk {
     /// The problem.
     ghost problem: { Self → ProblemState };
 
@@ -37,7 +37,7 @@ pub trait PieceWalk {
         ensures offered { I.greatest_offer incumbent.new
             ≡ max (I.greatest_offer incumbent.old) (welfare_found result.best) }
         ensures greatest_read { I.greatest_read incumbent.new
-            ≡ max (I.greatest_read incumbent.old) result.read }
+            ≡ max (I.greatest_read incumbent.old) result.incumbent_read }
         ensures kept { I.kept incumbent.new ≡ I.kept incumbent.old };
 }
 

@@ -46,12 +46,12 @@ impl<A: Allocator, B: Allocator> PrefixWalk<'_, A, B> {
         requires full { length self.now.problem.now.blocks ≡ length prefix.now }
         requires offered { welfare_found found.old.best ≤ I.greatest_offer incumbent.old }
         ensures finds { Finds self.now.problem.now prefix.now found.old.best found.new.best }
-        ensures covers { Covers self.now.problem.now prefix.now found.new.best found.new.read }
+        ensures covers { Covers self.now.problem.now prefix.now found.new.best found.new.incumbent_read }
         ensures offered { I.greatest_offer incumbent.new
             ≡ max (I.greatest_offer incumbent.old) (welfare_found found.new.best) }
         ensures greatest_read { I.greatest_read incumbent.new ≡ I.greatest_read incumbent.old }
         ensures kept { I.kept incumbent.new ≡ I.kept incumbent.old }
-        ensures read { found.new.read ≡ found.old.read }
+        ensures read { found.new.incumbent_read ≡ found.old.incumbent_read }
         ensures visited { found.new.visited ≡ found.old.visited }
     {
         dam_blocks::laws::verdict_tells_eligibility();
@@ -62,7 +62,7 @@ impl<A: Allocator, B: Allocator> PrefixWalk<'_, A, B> {
             return;
         };
         let candidate = Solution { selection, welfare };
-        if welfare < found.read || !ranks_above_found(&candidate, &found.best) {
+        if welfare < found.incumbent_read || !ranks_above_found(&candidate, &found.best) {
             return;
         }
         found.best = Some(candidate);
@@ -106,11 +106,11 @@ impl<A: Allocator, B: Allocator> PrefixWalk<'_, A, B> {
             self.offer_if_best(prefix, incumbent, found);
             return true;
         }
-        found.read = incumbent.read();
-        let Some(bound) = self.live_bound(prefix, found.read) else {
+        found.incumbent_read = incumbent.read();
+        let Some(bound) = self.live_bound(prefix, found.incumbent_read) else {
             return true;
         };
-        let accept = bound_equals(bound, found.read);
+        let accept = bound_equals(bound, found.incumbent_read);
         if !self.visit(nodes, &prefix.extended(accept), incumbent, found) {
             return false;
         }
@@ -138,28 +138,28 @@ pub fn walk_by_prefixes<A: Allocator, B: Allocator, I: Incumbent>(
     requires depth { depth ≤ length problem.now.blocks }
     requires piece { piece < 2 ^ depth }
     ensures piece { result.piece ≡ piece }
-    ensures sound { IsSound problem.now (choice depth piece) result.best result.read result.done }
+    ensures sound { IsSound problem.now (choice depth piece) result.best result.incumbent_read result.done }
     ensures spent { IsSpent problem.now (choice depth piece) (length problem.now.blocks - depth)
-        (I.greatest_read incumbent.old) nodes result.visited result.read result.done }
+        (I.greatest_read incumbent.old) nodes result.visited result.incumbent_read result.done }
 
     // The incumbent after the call.
     ensures offered { I.greatest_offer incumbent.new
         ≡ max (I.greatest_offer incumbent.old) (welfare_found result.best) }
     ensures greatest_read { I.greatest_read incumbent.new
-        ≡ max (I.greatest_read incumbent.old) result.read }
+        ≡ max (I.greatest_read incumbent.old) result.incumbent_read }
     ensures kept { I.kept incumbent.new ≡ I.kept incumbent.old }
 
     // The greatest value read in the call. That the incumbent is read at each node under full depth is only tested.
     ensures read { 0 < result.visited → depth < length problem.now.blocks
-        → result.read ≡ I.greatest_read incumbent.new }
+        → result.incumbent_read ≡ I.greatest_read incumbent.new }
     ensures unread { (result.visited ≡ 0) ⊎ (depth ≡ length problem.now.blocks)
-        → result.read ≡ 0 }
+        → result.incumbent_read ≡ 0 }
 {
     use_invariant(problem);
     let prefix_walk = PrefixWalk { problem, relaxed };
     let mut found = WalkState {
         best: None,
-        read: 0,
+        incumbent_read: 0,
         visited: 0,
     };
     let prefix = Prefix::of_piece(depth, piece);
@@ -167,7 +167,7 @@ pub fn walk_by_prefixes<A: Allocator, B: Allocator, I: Incumbent>(
     PieceAnswer {
         piece,
         best: found.best,
-        read: found.read,
+        incumbent_read: found.incumbent_read,
         visited: found.visited,
         done,
     }

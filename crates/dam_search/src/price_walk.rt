@@ -8,7 +8,7 @@ ghost use Rattle.dam_blocks.specs.Eligible.{IsEligible};
 ghost use Rattle.dam_bound.specs.Relaxed.{without_rows};
 ghost use Rattle.dam_bound.specs.Open.{IsOpen};
 ghost use Rattle.dam_search.specs.Piece.{IsMatched, Rises, welfare_found, IsSound};
-ghost use Rattle.dam_search.specs.inside.Conflicts.{AcceptsAll, AcceptsNone, AreConflicts};
+ghost use Rattle.dam_search.specs.inside.Conflicts.{AcceptsAll, AcceptsNone, AreConflicts, IsSetOf};
 ghost use Rattle.dam_search.specs.inside.PriceWalk.{IsNode, IsBounded, IsReady, IsSlack, IsWalkedOpen, IsDecisionOrder, with_place_if};
 
 use crate::answer::PieceAnswer;
@@ -47,7 +47,7 @@ pub(crate) struct PriceWalk<'a, A: Allocator, P: PricedProblem> {
 /// so far. The welfare of an eligible selection is never below 0.
 fn better_than_found(selection: Selection, welfare: i64, found: &WalkState) -> Option<Solution>
     ensures none { IfNone result
-        ((welfare <ℤ pos found.now.read) ⊎ IsMatched welfare selection found.now.best) }
+        ((welfare <ℤ pos found.now.incumbent_read) ⊎ IsMatched welfare selection found.now.best) }
     ensures some { IfSome result (λ b. (b.selection ≡ selection) × (pos b.welfare ≡ welfare)
         × Rises found.now.best (Some b)) }
 {
@@ -58,7 +58,7 @@ fn better_than_found(selection: Selection, welfare: i64, found: &WalkState) -> O
         selection,
         welfare: welfare as u64,
     };
-    if found.read <= best.welfare && ranks_above_found(&best, &found.best) {
+    if found.incumbent_read <= best.welfare && ranks_above_found(&best, &found.best) {
         Some(best)
     } else {
         None
@@ -71,11 +71,11 @@ fn is_passed(node: &Node, found: &WalkState) -> bool
     requires { IsNode node.now.accepted node.now.rejected node.now.left.now }
     ensures passed { result ≡ true → (selection : List Bool) (w : ℤ)
         → IsOpen node.now.accepted node.now.left.now selection → w ≤ℤ node.now.bound
-        → (w <ℤ pos found.now.read) ⊎ IsMatched w selection found.now.best }
+        → (w <ℤ pos found.now.incumbent_read) ⊎ IsMatched w selection found.now.best }
     ensures reached { result ≡ false
-        → (pos found.now.read ≤ℤ node.now.bound) × (found.now.read < 2 ^ 63) }
+        → (pos found.now.incumbent_read ≤ℤ node.now.bound) × (found.now.incumbent_read < 2 ^ 63) }
 {
-    if !bound_reaches(node.bound, found.read) {
+    if !bound_reaches(node.bound, found.incumbent_read) {
         return true;
     }
     let Some(best) = found.best else {
@@ -102,7 +102,7 @@ impl<A: Allocator, P: PricedProblem> PriceWalk<'_, A, P> {
         found: &mut WalkState,
     )
         requires long { length selection ≡ most_blocks }
-        requires fits { found.old.read < 2 ^ 63 }
+        requires fits { found.old.incumbent_read < 2 ^ 63 }
         requires bounded { (bound : ℤ)
             × IsBounded (P.problem self.now.priced.now) pricing.now selection [] bound }
         requires ready { IsReady
@@ -117,9 +117,12 @@ impl<A: Allocator, P: PricedProblem> PriceWalk<'_, A, P> {
         dam_bound::laws::balanced_selections_have_prices();
         use_invariant(self.problem);
         let mut prices = ClassPrices::placeholder();
-        let Some(welfare) = self
-            .priced
-            .clear_selection(selection, pricing, found.read as i64, &mut prices)
+        let Some(welfare) = self.priced.clear_selection(
+            selection,
+            pricing,
+            found.incumbent_read as i64,
+            &mut prices,
+        )
         else {
             return;
         };
@@ -172,7 +175,7 @@ impl<A: Allocator, P: PricedProblem> PriceWalk<'_, A, P> {
     {
         dam_bound::laws::pricing_bounds_open_selections();
         found.visited = found.visited.saturating_add(1);
-        found.read = incumbent.read();
+        found.incumbent_read = incumbent.read();
         if is_passed(node, found) {
             return;
         }
@@ -194,7 +197,7 @@ impl<A: Allocator, P: PricedProblem> PriceWalk<'_, A, P> {
             node.now.accepted node.now.left.now node.now.bound }
         requires slack { IsSlack self.now.problem.now self.now.conflicts.now.limits.limits
             node.now.accepted node.now.left.now node.now.slack.now }
-        requires reached { (pos found.old.read ≤ℤ node.now.bound) × (found.old.read < 2 ^ 63) }
+        requires reached { (pos found.old.incumbent_read ≤ℤ node.now.bound) × (found.old.incumbent_read < 2 ^ 63) }
         requires ready { IsReady
             (I.greatest_read incumbent.old) (I.greatest_offer incumbent.old) found.old }
         ensures walked { IsWalkedOpen self.now.problem.now node.now.accepted node.now.left.now
@@ -235,7 +238,7 @@ impl<A: Allocator, P: PricedProblem> PriceWalk<'_, A, P> {
             node.now.accepted node.now.left.now node.now.bound }
         requires slack { IsSlack self.now.problem.now self.now.conflicts.now.limits.limits
             node.now.accepted node.now.left.now node.now.slack.now }
-        requires reached { (pos found.old.read ≤ℤ node.now.bound) × (found.old.read < 2 ^ 63) }
+        requires reached { (pos found.old.incumbent_read ≤ℤ node.now.bound) × (found.old.incumbent_read < 2 ^ 63) }
         requires ready { IsReady
             (I.greatest_read incumbent.old) (I.greatest_offer incumbent.old) found.old }
         ensures walked { IsWalkedOpen self.now.problem.now node.now.accepted node.now.left.now
@@ -299,8 +302,7 @@ impl<A: Allocator, P: PricedProblem> PriceWalk<'_, A, P> {
 /// The places under `depth` that the selection rejects.
 fn rejected_under(depth: usize, selection: Selection) -> Selection
     requires { depth ≤ most_blocks }
-    ensures { (place : ℕ) → accepts result place ≡ true
-        → (place < depth) × (accepts selection place ≡ false) }
+    ensures { IsSetOf depth (λ place. not (accepts selection place)) result }
 {
     let mut rejected = Selection::none();
     for place in 0..depth {
@@ -320,36 +322,24 @@ impl<A: Allocator, P: PricedProblem> PriceWalk<'_, A, P> {
         requires piece { piece < 2 ^ self.now.depth }
         ensures piece { result.piece ≡ piece }
         ensures sound { IsSound self.now.problem.now (choice self.now.depth piece)
-            result.best result.read result.done }
+            result.best result.incumbent_read result.done }
         ensures done { result.done ≡ true }
 
         // The incumbent after the call.
         ensures offered { I.greatest_offer incumbent.new
             ≡ max (I.greatest_offer incumbent.old) (welfare_found result.best) }
         ensures greatest_read { I.greatest_read incumbent.new
-            ≡ max (I.greatest_read incumbent.old) result.read }
+            ≡ max (I.greatest_read incumbent.old) result.incumbent_read }
         ensures kept { I.kept incumbent.new ≡ I.kept incumbent.old }
     {
         dam_blocks::laws::fronts_are_admissible();
         use_invariant(self.problem);
         let accepted = Selection::choice(self.depth, piece);
         if !admissible(self.problem, accepted) {
-            return PieceAnswer {
-                piece,
-                best: None,
-                read: 0,
-                visited: 0,
-                done: true,
-            };
+            return PieceAnswer::nothing_in(piece);
         }
         let Some(slack) = slack_of_piece(&self.conflicts.limits, accepted, self.depth) else {
-            return PieceAnswer {
-                piece,
-                best: None,
-                read: 0,
-                visited: 0,
-                done: true,
-            };
+            return PieceAnswer::nothing_in(piece);
         };
         let mut pricing = Pricing::placeholder();
         let bound = write_pricing_of_piece(
@@ -369,14 +359,14 @@ impl<A: Allocator, P: PricedProblem> PriceWalk<'_, A, P> {
         };
         let mut found = WalkState {
             best: None,
-            read: incumbent.read(),
+            incumbent_read: incumbent.read(),
             visited: 0,
         };
         self.visit(&node, incumbent, &mut found);
         PieceAnswer {
             piece,
             best: found.best,
-            read: found.read,
+            incumbent_read: found.incumbent_read,
             visited: found.visited,
             done: true,
         }

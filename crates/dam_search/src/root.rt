@@ -1,12 +1,12 @@
 //! The bound and the slack with which the walk of a piece begins.
 
-ghost use Rattle.std.specs.Prelude.{◌≡◌, ◌<◌, ◌≤◌, ℤ, List, Bool, None, not, nat_lt, length, All, IfSome};
+ghost use Rattle.std.specs.Prelude.{◌≡◌, ◌<◌, ◌≤◌, ℕ, ℤ, List, Bool, None, not, nat_lt, length, slice_index_or, All, IfSome};
 ghost use Rattle.dam_book.specs.Limits.{most_blocks};
 ghost use Rattle.dam_blocks.specs.Eligible.{IsEligible};
 ghost use Rattle.dam_blocks.specs.Problem.{ProblemState};
-ghost use Rattle.dam_bound.specs.NetLimits.{AreLimits, AreSlacks, HasSlack};
+ghost use Rattle.dam_bound.specs.NetLimits.{most_limits, limit_in, AreLimits, AreSlacks, HasSlack};
 ghost use Rattle.dam_bound.specs.Prices.{bound_of, IsPricing};
-ghost use Rattle.dam_search.specs.inside.PriceWalk.{AgreesUnder};
+ghost use Rattle.dam_search.specs.inside.PriceWalk.{slack_left, AgreesUnder};
 
 use crate::decision_order::all_places;
 use crate::priced_problem::PricedProblem;
@@ -51,7 +51,8 @@ pub(crate) fn write_pricing_of_piece<P: PricedProblem>(
     bound
 }
 
-/// The slack that the decisions of `accepted` on the first `depth` blocks leave; `None` only if no eligible selection has them.
+/// The slack that the decisions of `accepted` on the first `depth` blocks leave; `None` only if no eligible selection has
+/// them. Some may be left even if none has them.
 pub(crate) fn slack_of_piece(limits: &NetLimits, accepted: Selection, depth: usize) -> Option<Slack>
     requires depth { depth ≤ most_blocks }
     requires limits { (problem : ProblemState) × AreLimits problem limits.now.limits }
@@ -63,6 +64,8 @@ pub(crate) fn slack_of_piece(limits: &NetLimits, accepted: Selection, depth: usi
         → AreLimits problem limits.now.limits → IsEligible problem selection w
         → AgreesUnder depth accepted selection
         → HasSlack limits.now.limits selection (λ place. not (nat_lt place depth)) slack.slacks) }
+    ensures left { IfSome result (λ slack. (k : ℕ) (d : ℤ) → k < most_limits
+        → slice_index_or slack.slacks k d ≡ slack_left (limit_in limits.now.limits k) accepted depth) }
 {
     let mut slack = limits.slack();
     for at in 0..depth {

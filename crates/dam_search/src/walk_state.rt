@@ -9,7 +9,7 @@ use dam_plan::Nodes;
 pub(crate) struct WalkState {
     pub(crate) best: Option<Solution>,
     /// The greatest value read.
-    pub(crate) read: u64,
+    pub(crate) incumbent_read: u64,
     pub(crate) visited: Nodes,
 }
 

@@ -1,10 +1,9 @@
 //! The search by several workers. `alone` has the same on the calling thread.
 
-ghost use Rattle.std.specs.Prelude.{◌≡◌, min, ℕ, pos, true, length, IfOk, IsErrOf};
-ghost use Rattle.dam_blocks.specs.Result.{IsResult};
+ghost use Rattle.std.specs.Prelude.{◌≡◌, min, true, length};
 ghost use Rattle.dam_bound.specs.Relaxed.{without_rows};
 ghost use Rattle.dam_search.specs.Answer.{IsReached};
-ghost use Rattle.dam_search.specs.Search.{IsUnfinished, LimitHasNeeded};
+ghost use Rattle.dam_search.specs.Search.{IsSearched};
 
 use crate::collect::collected;
 use crate::conflicts::Conflicts;
@@ -37,14 +36,7 @@ fn search_by_walk<R: Threads + Sync, W: PieceWalk + Sync, T: Turnstile + Sync>(
     requires depth { depth ≡ min plan.cut (length problem.now.blocks) }
     requires suits { W.suits walk.now depth plan.nodes ≡ true }
     requires reached { IsReached problem.now first_welfare }
-    ensures ok { IfOk result (λ best. IsResult problem.now best.selection (pos best.welfare)) }
-    ensures unfinished { (piece visited : ℕ)
-        → IsErrOf result (SearchFault.Unfinished piece visited)
-        → IsUnfinished problem.now (min plan.cut (length problem.now.blocks))
-        plan.nodes piece visited }
-    ensures needed { IfOk result (λ best. LimitHasNeeded problem.now
-        (min plan.cut (length problem.now.blocks)) plan.nodes best.welfare) }
-    ensures whole { (piece : ℕ) → ¬ (IsErrOf result (SearchFault.Collected piece)) }
+    ensures { IsSearched problem.now depth plan.nodes result }
 {
     let task = Task {
         alloc,
@@ -69,14 +61,7 @@ fn search_priced<R: Threads + Sync, P: PricedProblem + Sync, T: Turnstile + Sync
     turnstile: &T,
 ) -> Result<Solution, SearchFault>
     requires { P.problem priced.now ≡ without_rows problem.now }
-    ensures ok { IfOk result (λ best. IsResult problem.now best.selection (pos best.welfare)) }
-    ensures unfinished { (piece visited : ℕ)
-        → IsErrOf result (SearchFault.Unfinished piece visited)
-        → IsUnfinished problem.now (min plan.cut (length problem.now.blocks))
-        plan.nodes piece visited }
-    ensures needed { IfOk result (λ best. LimitHasNeeded problem.now
-        (min plan.cut (length problem.now.blocks)) plan.nodes best.welfare) }
-    ensures whole { (piece : ℕ) → ¬ (IsErrOf result (SearchFault.Collected piece)) }
+    ensures { IsSearched problem.now (min plan.cut (length problem.now.blocks)) plan.nodes result }
 {
     let first_welfare = first_selection(problem, priced).welfare;
     let depth = plan.depth(problem.block_count());
@@ -122,8 +107,11 @@ fn search_priced<R: Threads + Sync, P: PricedProblem + Sync, T: Turnstile + Sync
 /// The search first finds a good selection, and offers its welfare before any worker starts. The cutting decides as
 /// many of the first blocks as the plan says, or all of them if there are fewer. The workers, each on a thread of its
 /// own, draw its pieces as they come free, and prune by the greatest welfare that any of them has found. If a thread
-/// can't be made, the calling one does its work. The fault `Memory` comes first, then `Collected`, and then
-/// `Unfinished`.
+/// can't be made, the calling one does its work.
+///
+/// The clause says three things more. If there is a result, the limit on nodes is at least the number that each piece
+/// must visit, so a lesser limit gives none. `Unfinished` names the least piece that isn't finished. No search ends in
+/// `AnswerMissingOrRepeated`. The fault `Memory` comes before `Unfinished`.
 pub fn search<R: Threads + Sync, T: Turnstile + Sync>(
     rt: &R,
     alloc: Global,
@@ -131,18 +119,7 @@ pub fn search<R: Threads + Sync, T: Turnstile + Sync>(
     plan: Plan,
     turnstile: &T,
 ) -> Result<Solution, SearchFault>
-    ensures ok { IfOk result (λ best. IsResult problem.now best.selection (pos best.welfare)) }
-    ensures unfinished { (piece visited : ℕ)
-        → IsErrOf result (SearchFault.Unfinished piece visited)
-        → IsUnfinished problem.now (min plan.cut (length problem.now.blocks))
-        plan.nodes piece visited }
-
-    // The limit is at least the number of nodes that each piece must visit: a lesser one gives no result.
-    ensures needed { IfOk result (λ best. LimitHasNeeded problem.now
-        (min plan.cut (length problem.now.blocks)) plan.nodes best.welfare) }
-
-    // It never ends in the fault of a piece that lacks its answer or has two.
-    ensures whole { (piece : ℕ) → ¬ (IsErrOf result (SearchFault.Collected piece)) }
+    ensures { IsSearched problem.now (min plan.cut (length problem.now.blocks)) plan.nodes result }
 {
     let curves = ClassCurves::of(alloc, problem)?;
     search_priced(rt, alloc, problem, &curves, plan, turnstile)

@@ -1,6 +1,6 @@
 ghost use Rattle.std.specs.Prelude.{◌≡◌, ◌^◌, ◌≤◌, true, length, IfOk, IfErr};
 ghost use Rattle.dam_search.specs.Answer.{greatest_found};
-ghost use Rattle.dam_search.specs.Work.{IsFresh, AreAnswersOf};
+ghost use Rattle.dam_search.specs.inside.Work.{IsFresh, AreAnswersOf};
 ghost use Rattle.dam_search.specs.Words.{view_of};
 
 use crate::answer::PieceAnswer;
@@ -16,11 +16,10 @@ use std::alloc::{AllocError, Allocator};
 /// `nodes` on each. It takes memory for an answer about every piece from `alloc` before the first
 /// draw: after a refusal nothing was drawn, and it asks for nothing more later.
 ///
-/// Only [`search`](crate::search) makes seats, and so it alone can call this, once for each worker, on a
-/// thread of its own. It gives a fresh seat, made for the pieces of a cutting of this depth. Every piece is
-/// answered only if all seats of the words have worked and none was refused memory. A worker waits for
-/// nothing but the turnstile.
-pub fn walk_drawn_pieces<A: Allocator, W: PieceWalk, T: Turnstile>(
+/// [`search`](crate::search) calls it once for each worker, on a thread of its own, with a fresh seat, made
+/// for the pieces of a cutting of this depth. Every piece is answered only if all seats of the words have
+/// worked and none was refused memory. A worker waits for nothing but the turnstile.
+pub(crate) fn walk_drawn_pieces<A: Allocator, W: PieceWalk, T: Turnstile>(
     alloc: A,
     walk: &W,
     depth: usize,

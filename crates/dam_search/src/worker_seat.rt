@@ -9,21 +9,20 @@ use crate::words::{CLAIM, Draw, INCUMBENT, JoinIn, Offer, Read, Seat, SplitOff, 
 /// A worker's seat at the two words of a search: it draws pieces, and it is the incumbent that prunes the worker's
 /// pieces. A contract sees its knowledge as `view_of seat`.
 ///
-/// In the program [`search`](crate::search) alone makes seats, as no other crate can: it splits one
-/// for each worker off the first one, joins all of them into it after their work, and closes the words
-/// with it. A test that makes them by hand has the same duty: a seat that is dropped instead
-/// of joined is missing at the close, which asks for all of them. And a seat that drew past the last
-/// piece draws no more.
+/// In the program [`search`](crate::search) alone makes seats: it splits one for each worker off the first
+/// one, joins all of them into it after their work, and closes the words with it. A test that makes them by
+/// hand has the same duty: a seat that is dropped instead of joined is missing at the close, which asks for
+/// all of them. And a seat that drew past the last piece draws no more.
 ///
 /// A draw is one `fetch_add`, a read one load and an offer one `fetch_max`, all of them sequentially
 /// consistent. That is enough, because the steps on both words then have one order, and each step in
 /// it keeps the rule of the words. The words pass nothing else from thread to thread. The problem and
 /// its bounds were there before the threads began, and a thread's answers are read when it has ended.
 #[derive(Drop)]
-pub struct WorkerSeat<'a> {
+pub(crate) struct WorkerSeat<'a> {
     words: &'a Words,
     /// The right to step on the words, and its knowledge of them.
-    pub seat: Seat,
+    pub(crate) seat: Seat,
     pieces: u32,
     ghost seated: { seat.table_id ≡ words.now.shared.table_id },
     ghost two_words: { words.now.shared.table_id.words ≡ 2 },
@@ -87,7 +86,7 @@ impl<'a> WorkerSeat<'a> {
     }
 
     /// The number of pieces.
-    pub fn piece_count(&self) -> u32
+    pub(crate) fn piece_count(&self) -> u32
         ensures { result ≡ (view_of self.now.seat).pieces }
     {
         self.pieces
@@ -95,7 +94,7 @@ impl<'a> WorkerSeat<'a> {
 
     /// Draws the next piece that nobody has drawn, or `None` past the last one. Takes no memory, and
     /// waits for nobody.
-    pub fn draw(&mut self) -> Option<u32>
+    pub(crate) fn draw(&mut self) -> Option<u32>
         requires { (view_of self.old.seat).draws_past_the_end ≡ 0 }
         ensures table { self.new.seat.table_id ≡ self.old.seat.table_id }
         ensures piece { IfSome result (λ piece. (piece < (view_of self.old.seat).pieces)

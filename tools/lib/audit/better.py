@@ -1,9 +1,9 @@
 """The search for a better selection of blocks, and the lines about one."""
 
-from ..base import aside, text
+from ..base import child_call, text
 from ..results import selection
 from ..tool import command, modules
-from . import best
+from . import recursive_enumeration
 
 ENUMERATION, HIGHS = METHODS = ["enumeration", "highs"]
 
@@ -11,46 +11,46 @@ ENUMERATION, HIGHS = METHODS = ["enumeration", "highs"]
 FEW_BLOCKS = 10
 
 
-def find_better(problem, published, method, progress, jobs):
+def find_better_and_how_or_stop(problem, published, method, progress, jobs):
     """A selection that ranks above the one of right results, or None; and how it was looked for. Ends the tool if the time is over, or
     if the search fails."""
     try:
-        return {ENUMERATION: search_all, HIGHS: ask_highs}[method](problem, published, progress, jobs)
-    except (TimeoutError, aside.Died) as fault:
+        return {ENUMERATION: find_better_and_how_by_enumeration, HIGHS: find_better_and_how_by_highs}[method](problem, published, progress, jobs)
+    except (TimeoutError, child_call.Died) as fault:
         status = command.UNDECIDED if isinstance(fault, TimeoutError) else command.FAILED
         raise command.Stop(f"the results obey the other rules, but {fault}", status) from None
 
 
-def search_all(problem, published, progress, jobs, few=FEW_BLOCKS):
+def find_better_and_how_by_enumeration(problem, published, progress, jobs, few=FEW_BLOCKS):
     """With numpy; without it if the blocks are few, or if it is missing and they aren't too many."""
     count = len(problem.blocks)
-    if count <= few or count <= best.ENUMERABLE and not modules.has_module("numpy"):
+    if count <= few or count <= recursive_enumeration.ENUMERABLE and not modules.has_module("numpy"):
         try:
-            found, how = best.enumerate_all(problem, progress)
+            found, how = recursive_enumeration.find_best_and_how(problem, progress)
         finally:
-            progress.end()
+            progress.stop_and_erase()
         return (None if found.accepted == published.accepted else found), how
     modules.exec_or_require_modules("numpy")
-    from . import enumeration
+    from . import numpy_enumeration
 
-    return enumeration.find_better(problem, frozenset(published.accepted), published.welfare, progress, jobs)
+    return numpy_enumeration.find_better_and_how(problem, frozenset(published.accepted), published.welfare, progress, jobs)
 
 
-def ask_highs(problem, published, progress, jobs):
+def find_better_and_how_by_highs(problem, published, progress, jobs):
     """By HiGHS, which takes no program of a day without blocks."""
     if not problem.blocks:
-        return search_all(problem, published, progress, jobs)
+        return find_better_and_how_by_enumeration(problem, published, progress, jobs)
     modules.exec_or_require_modules("scipy")
 
     def ask(tell):
-        from . import solver
+        from . import highs_search
 
         try:
-            return solver.find_better(problem, frozenset(published.accepted), published.welfare, progress, tell)
-        except solver.GaveUp as fault:
+            return highs_search.find_better_and_how(problem, frozenset(published.accepted), published.welfare, progress, tell)
+        except highs_search.GaveUp as fault:
             raise TimeoutError(f"HiGHS gave up (its status is {fault}): without --by highs every selection is tried") from None
 
-    return aside.run_aside(ask, progress, "HiGHS is still searching")
+    return child_call.run_in_child(ask, progress, "HiGHS is still searching")
 
 
 def block_names(problem, places):
@@ -61,7 +61,7 @@ def better_lines(problem, published, better_selection):
     """The lines about a better selection: its blocks and welfare, its prices, and how it differs from the published one."""
     more = better_selection.welfare - published.welfare
     if more:
-        kind = f"it has a greater welfare, {problem.euros(better_selection.welfare)} EUR, which is {problem.euros(more)} EUR more"
+        kind = f"it has a greater welfare, {problem.euros_text(better_selection.welfare)} EUR, which is {problem.euros_text(more)} EUR more"
         yield f"a better selection accepts {block_names(problem, better_selection.accepted)}: {kind}"
     else:
         first = problem.blocks[min(better_selection.accepted ^ published.accepted)]

@@ -40,7 +40,7 @@ def list_pairs_by_name(folder):
     day of which two files have one name isn't read."""
     found, alike = {}, {}
     for path in sorted(folder.iterdir()):
-        key = split_suffix(path.name)
+        key = stem_and_suffix(path.name)
         if key[1] in (JOURNAL, RESULTS) and found.setdefault(key, path) is not path:
             said = f"{command.shown(found[key])} and {command.shown(path)} have one name: rename one of them"
             alike.setdefault(key[0], said)
@@ -49,7 +49,7 @@ def list_pairs_by_name(folder):
     return [pair._replace(unread=alike[pair.name]) if pair.name in alike else pair for pair in pairs]
 
 
-def split_suffix(name):
+def stem_and_suffix(name):
     """A file's name without its suffix, and the suffix in small letters. The file `.csv` is a day too, whose name is empty."""
     stem, dot, suffix = name.rpartition(".")
     return stem, f"{dot}{suffix.lower()}"
@@ -64,22 +64,22 @@ def find_pair(name, journal, published):
 def require_listed_pairs(path, notes):
     """The pairs of a manifest: a table with the columns `journal` and `results`, whose files are sought from its own folder."""
     data = file_io.read_bytes(path)
-    kind = kinds.kind_of(data)
+    kind = kinds.kind_or_none(data)
     if kind in kinds.FILES:
         raise command.Stop(f"{command.shown(path)} is {kind}: save the table of days as CSV")
     try:
-        rows = iter(sheets.text_rows(data, notes))
+        rows = iter(sheets.parse_text_rows_and_add_note(data, notes))
         header = next(rows, (0, []))[1]
         heads = sheets.column_names(header)
         refuse_wrong_heads(path, heads)
         refuse_lost_day(path, header)
         pairs, lines = [], {}
-        for line, row in rows_within_limit(path, rows):
-            cells = {name: without_outer_spaces(path.parent, cell) for name, cell in zip(heads, row)}
-            pairs.append(find_listed_pair(path.parent, cells, extra_cells_words(line, row, heads)))
+        for line, row in rows_within_limit_or_stop(path, rows):
+            cells = {name: find_file_name_in_cell(path.parent, cell) for name, cell in zip(heads, row)}
+            pairs.append(find_listed_pair(path.parent, cells, extra_cells_words_or_none(line, row, heads)))
             if cells.get(NAME):
                 lines[len(pairs) - 1] = line
-        pairs = mark_shared_names(pairs, lines)
+        mark_shared_names(pairs, lines)
     except sheets.BadTable as fault:
         raise command.Stop(f"{command.shown(path)} isn't a table of days: {fault}") from None
     if not pairs:
@@ -87,7 +87,7 @@ def require_listed_pairs(path, notes):
     return pairs
 
 
-def rows_within_limit(path, rows):
+def rows_within_limit_or_stop(path, rows):
     """The rows of a manifest, which may not have too many days."""
     for count, row in enumerate(rows):
         if count == MOST_DAYS:
@@ -107,12 +107,12 @@ def refuse_wrong_heads(path, heads):
 def refuse_lost_day(path, header):
     """Ends the audit if the header of a manifest goes on with the files of a day."""
     for cell in header:
-        if split_suffix(cell.strip())[1] in (JOURNAL, RESULTS):
+        if stem_and_suffix(cell.strip())[1] in (JOURNAL, RESULTS):
             words = f"{text.quoted(cell)} of its first line is no heading, but may be of a day: write each day on a line of its own"
             raise command.Stop(f"{command.shown(path)} isn't a table of days: {words}")
 
 
-def extra_cells_words(line, row, heads):
+def extra_cells_words_or_none(line, row, heads):
     """Why a row of a manifest can't be read, if it has cells in no named column. A name with a comma that isn't quoted is two cells."""
     if len(row) > len(heads):
         return f"line {line} of the table has {len(row)} cells, but the header has {len(heads)}"
@@ -125,14 +125,14 @@ def find_listed_pair(folder, cells, extra):
     journal, published = (folder / cells.get(name, "") for name in COLUMNS)
     has_results = bool(cells.get("results"))
     missing = None if has_results else f"its row names no results, and {command.shown(journal)} has no line 'results'"
-    unread = extra or unread_row_words(cells) or file_io.find_unread_reason(journal)
+    unread = extra or unread_row_words_or_none(cells) or file_io.find_unread_reason(journal)
     unread = unread or (file_io.find_unread_reason(published) if has_results else None)
     return Pair(cells.get(NAME) or journal.stem, journal, published if has_results else None, unread, missing)
 
 
 def mark_shared_names(pairs, lines):
-    """The pairs of a manifest, of which none is read whose row gives it another's name. `lines` has the line of each such row, by the place
-    of its pair."""
+    """Lets none of the pairs be read whose row gives it another's name. `lines` has the line of each row with a name, by the place of its
+    pair."""
     places = {}  # by name
     for place in lines:
         places.setdefault(pairs[place].name, []).append(place)
@@ -141,15 +141,14 @@ def mark_shared_names(pairs, lines):
             both = f"lines {lines[first]} and {lines[others[0] if place == first else place]}"
             said = f"{both} of the table give two days the name {text.quoted(name)}: change one of them"
             pairs[place] = pairs[place]._replace(unread=pairs[place].unread or said)
-    return pairs
 
 
-def without_outer_spaces(folder, cell):
+def find_file_name_in_cell(folder, cell):
     """A cell without the spaces around it, unless a file has them in its name."""
     return cell if "\0" not in cell and os.path.lexists(folder / cell) else cell.strip()
 
 
-def unread_row_words(cells):
+def unread_row_words_or_none(cells):
     """Why a row of a manifest names no files, if it names none."""
     if not cells.get("journal"):
         return "its row names no journal"

@@ -7,8 +7,8 @@ import threading
 import zlib
 from pathlib import Path
 
-from ..base import ending, record, text
-from ..tool import command, day_files, modules
+from ..base import audit_record, ending, text
+from ..tool import command, day_files, file_io, modules
 from . import day_pairs, verdict
 from ..runs.by_program import Running
 from ..base.progress import StepBar
@@ -33,7 +33,7 @@ def options_of(args):
     return words + (["--seconds", str(args.seconds)] if args.seconds is not None else [])
 
 
-def file_name(path):
+def argument_of_path(path):
     """The name of a file on the command line of a day; `-` alone would be standard input."""
     return f"./{path}" if str(path) == "-" else str(path)
 
@@ -48,7 +48,7 @@ def run_audit_of_day(pair, options, running, seconds=MORE_SECONDS, is_json=False
     if pair.unread is not None:
         return kept_part(record_without_verdict(pair, command.NO_INPUT, pair.unread), is_json)
     try:
-        status, out, err = run_process(pair, options, running, seconds)
+        status, out, err = capture_status_and_outputs(pair, options, running, seconds)
         with READING:
             return kept_part(record_of_process(pair, status, out, err), is_json, out)
     except subprocess.TimeoutExpired as fault:
@@ -68,10 +68,10 @@ def kept_part(day_record, is_json, out=b""):
         return short
     if not day_record["faults"]:
         out = json.dumps({key: text.for_json(value) for key, value in day_record.items() if key != "name"}, indent=1).encode()
-    return {**short, "printed": compressed(day_record["name"], out.strip())}
+    return {**short, "printed": compressed_lines(day_record["name"], out.strip())}
 
 
-def compressed(name, out):
+def compressed_lines(name, out):
     """The lines of a day's record in the record of all days, compressed. `out` is the text of the record without the day's name."""
     stream = zlib.compressobj(1)
     parts = [stream.compress(f'  {{\n   "name": {json.dumps(text.for_json(name))},'.encode())]
@@ -80,7 +80,7 @@ def compressed(name, out):
     return b"".join([*parts, stream.flush()])
 
 
-def decompressed(data):
+def decompressed_parts(data):
     """The bytes of a packed record, in parts."""
     stream = zlib.decompressobj()
     while data:
@@ -89,21 +89,21 @@ def decompressed(data):
     yield stream.flush()
 
 
-def record_texts(status, records):
+def record_parts(status, records):
     """The record of all days, in parts: the records of the days aren't unpacked together."""
-    before, _, end = json.dumps({**record.record_of_days(status, records), "days": [[]]}, indent=1).encode().rpartition(b"  []")
+    before, _, end = json.dumps({**audit_record.record_of_days(status, records), "days": [[]]}, indent=1).encode().rpartition(b"  []")
     for made in records:
         yield before
-        yield from decompressed(made["printed"])
+        yield from decompressed_parts(made["printed"])
         before = b",\n"
     yield end + b"\n"
 
 
-def run_process(pair, options, running, seconds):
+def capture_status_and_outputs(pair, options, running, seconds):
     """The status of the process of a day, its output and its lines on standard error. Until it ends, it is among the `running`; after
     this number of seconds it is ended."""
-    files = [file_name(path) for path in (pair.journal, pair.results) if path is not None]
-    words = [*modules.this_python(), os.fspath(TOOL), "--json", *options, "--", *files]
+    files = [argument_of_path(path) for path in (pair.journal, pair.results) if path is not None]
+    words = [*modules.words_of_this_python(), os.fspath(TOOL), "--json", *options, "--", *files]
     with running.running_process(words, stdin=subprocess.DEVNULL, stdout=subprocess.PIPE, stderr=subprocess.PIPE) as process, process:
         try:
             out, err = process.communicate(timeout=seconds)
@@ -130,8 +130,8 @@ def record_of_process(pair, status, out, err):
 
 def record_without_verdict(pair, status, message):
     """A record of a day without a verdict, of which no file was read."""
-    files = [(role, file_name(path)) for role, path in (("journal", pair.journal), ("results", pair.results)) if path]
-    return {"name": pair.name, **record.unread_record(verdict.OF_STATUS[status], status, message, files)}
+    files = [(role, argument_of_path(path)) for role, path in (("journal", pair.journal), ("results", pair.results)) if path]
+    return {"name": pair.name, **audit_record.unread_record(verdict.OF_STATUS[status], status, message, files)}
 
 
 class Audits:
@@ -143,14 +143,14 @@ class Audits:
         self.lock, self.done = threading.Lock(), threading.Semaphore(0)
         self.wrong = 0  # how many of the records are of wrong days
 
-    def take_next_place(self):
+    def take_next_place_or_none(self):
         """The place of the next day that no thread has taken; None if there is none."""
         with self.lock:
             return next(self.places, None)
 
     def audit_days(self):
         """The work of a thread: audits days as long as there are any."""
-        while (at := self.take_next_place()) is not None:
+        while (at := self.take_next_place_or_none()) is not None:
             try:
                 self.keep_record(at, run_audit_of_day(self.pairs[at], self.options, self.running, self.seconds, self.is_json))
             except MemoryError:
@@ -173,7 +173,7 @@ class Audits:
                     self.audit_days()
                 return
 
-    def end(self):
+    def end_processes(self):
         """No day is begun any more, and those that run end."""
         with self.lock:
             self.places = iter(())
@@ -188,10 +188,10 @@ def run_audits(pairs, options, jobs, bar, seconds=MORE_SECONDS, is_json=False):
         for _ in pairs:
             while not audits.done.acquire(timeout=AWAKE):
                 pass
-            bar.step(1, f"{audits.wrong} wrong" if audits.wrong else "")
+            bar.count_and_show(1, f"{audits.wrong} wrong" if audits.wrong else "")
     finally:
-        audits.end()
-        bar.end()
+        audits.end_processes()
+        bar.erase()
     without = ending.failure_words(MemoryError())
     return [made or kept_part(record_without_verdict(pair, command.FAILED, without), is_json) for pair, made in zip(pairs, audits.records)]
 
@@ -210,7 +210,7 @@ def row_of_day(day_record):
 
 def total_row(records):
     """The last row: how many days there are of each verdict, and the sums."""
-    told = ", ".join(f"{count} {kind}" for kind, count in record.verdict_counts(records).items() if count)
+    told = ", ".join(f"{count} {kind}" for kind, count in audit_record.verdict_counts(records).items() if count)
 
     def summed(name):
         return sum((made["day"] or {}).get(name, 0) for made in records)
@@ -243,6 +243,7 @@ def require_and_audit_days(args):
     """As much as is kept of the records of all days."""
     notes = []
     pairs = day_pairs.require_pairs(args.days, notes)
+    file_io.refuse_own_outputs(path for pair in pairs for path in (pair.journal, pair.results) if path is not None)
     for note in [] if args.quiet else notes:
         command.print_note("audit", f"{command.shown(args.days)}: {note}")
     jobs = min(args.jobs or os.cpu_count() or 1, len(pairs))

@@ -11,9 +11,9 @@ from ..results import check, encodings, results, selection, sums
 from ..sheets import kinds
 from ..tool import command, day_files, file_io
 from . import better
-from ..results.faults import Fault, matched_places
+from ..results.faults import Fault, matched_pairs
 from ..base.progress import Progress
-from ..base.record import ENCODING, FAILED, RIGHT, UNDECIDED, UNREAD, WRONG
+from ..base.audit_record import ENCODING, FAILED, RIGHT, UNDECIDED, UNREAD, WRONG
 from ..base.rules import VERSION
 
 # The verdict for each status.
@@ -49,6 +49,7 @@ class Audit:
         self.checked = []
         self.day = None  # figures of the day, if its journal could be read
         self.wrong, self.odd = [], []  # faults, and differences of encoding alone
+        self.sent = None  # how many commands the participant has in the journal, and how many of them the book refused
         self.notes = []  # on a table of orders that was sent
         self.unlike = 0  # how many of the faults, the first ones, are of the commands that were sent
         self.unsigned = 0  # and how many after these are differences from the signed head and the receipts
@@ -61,12 +62,12 @@ class Audit:
     def make_checks(self):
         """Makes the checks that the options ask for. Ends with `command.Stop` if that can't be done."""
         options = self.options
-        journal_data, published_data = self.read_texts()
-        read = self.parse_journal(journal_data)
-        closed, reasons = book.run_commands(read)
+        journal_data, published_data = self.read_and_note_texts()
+        read = self.parse_journal_and_note(journal_data)
+        closed, reasons = book.book_and_refusals(read)
         self.day = {"periods": read.periods, "commands": len(reasons), "refused": sum(reason is not None for reason in reasons)}
         try:
-            signed = self.read_signed(read, reasons) if options.head is not None else None
+            signed = self.read_and_note_signed(read, reasons) if options.head is not None else None
         except command.Stop as fault:
             if fault.status != command.DIFFERS:
                 raise
@@ -103,23 +104,23 @@ class Audit:
         """How long a search, or a comparison of commands, may take."""
         return SECONDS if self.options.seconds is None else self.options.seconds
 
-    def read_input(self, role, path):
+    def read_and_note_input(self, role, path):
         told = {"role": role, "file": str(path), "bytes": None, "sha256": None}
         self.inputs.append(told)
         data = file_io.read_bytes(path)
         told.update(bytes=len(data), sha256=hashlib.sha256(data).hexdigest())
         return data
 
-    def read_texts(self):
+    def read_and_note_texts(self):
         """The bytes of the journal, and of the results or replies; None if there are none, which only --sent allows."""
         options = self.options
         if options.results is not None:
-            written, published = self.read_input("journal", options.journal), self.read_input("results", options.results)
+            written, published = self.read_and_note_input("journal", options.journal), self.read_and_note_input("results", options.results)
             day_files.refuse_other_kind(options.journal, written, kinds.JOURNAL, HINTS)
             day_files.refuse_other_kind(options.results, published, kinds.REPLIES if options.replies else kinds.RESULTS, HINTS)
             return written, published
-        data = self.read_input("day", options.journal)
-        written, published = results.split_day(data) or (data, None)
+        data = self.read_and_note_input("day", options.journal)
+        written, published = results.journal_and_results_or_none(data) or (data, None)
         if published is not None and data[len(written) :].startswith(b"results\r") and b"\r" not in published:
             self.odd.append(Fault("the line 'results' ends with CR LF instead of LF alone", "encoding"))
         day_files.refuse_other_kind(options.journal, written, kinds.JOURNAL, HINTS)
@@ -129,7 +130,7 @@ class Audit:
             self.inputs[0]["role"] = "journal"
         return written, published
 
-    def parse_journal(self, written):
+    def parse_journal_and_note(self, written):
         read = day_files.require_journal(self.options.journal, written)
         is_of_day = self.inputs[0]["role"] == "day"
         if is_of_day and journal.journal_text(read).encode() != written:
@@ -159,7 +160,7 @@ class Audit:
         self.checked += ["sums"] if published is not None else []
         self.day.update(day_figures(problem, published))
         if wrong:
-            self.last = unmade_checks_line(published is not None, self.options.best)
+            self.last = unmade_checks_line_or_none(published is not None, self.options.best)
             return
         how = self.look_for_better_and_note(problem, published) if self.options.best else None
         if self.search is None or self.search["better"] is None:
@@ -176,7 +177,7 @@ class Audit:
         self.progress = Progress("audit", self.seconds, options.quiet, whole)
         self.search = {"by": by, "selections": whole, "tried": 0, "better": None, "how": None}
         try:
-            found, how = better.find_better(problem, published, by, self.progress, options.jobs or 1)
+            found, how = better.find_better_and_how_or_stop(problem, published, by, self.progress, options.jobs or 1)
         finally:
             self.search["tried"] = None if by == better.HIGHS else self.progress.tried_count()
         self.checked.append("best selection")
@@ -197,37 +198,39 @@ class Audit:
         published = sent.published_of(read, reasons, options.participant)
         has_none = bool(published) and all(who != options.participant for who, _ in closed.rows)
         try:
-            own = sent.parse_sent(self.read_input("sent", options.sent), options.participant, read.periods, has_none)
+            own = sent.parse_sent(self.read_and_note_input("sent", options.sent), options.participant, read.periods, has_none)
         except sent.BadSentText as fault:
             raise command.Stop(f"{command.shown(options.sent)} isn't what {options.participant} sent: {fault}") from None
+        self.sent = {"commands": len(published), "refused": sum(entry.reason is not None for entry in published)}
         self.notes = [f"{command.shown(options.sent)}: {note}" for note in own.notes]
         for note in [] if options.quiet else self.notes:
             command.print_note("audit", note)
         self.progress = Progress("audit", self.seconds, options.quiet)
         words = f"the commands of {options.participant} aren't compared yet"
         try:
-            wrong, right = sent.compare_sent(own, published, closed, options.participant, lambda: self.progress.show_time_or_raise(words), proof_words)
+            look = functools.partial(self.progress.show_time_or_raise, words)
+            wrong, right = sent.faults_and_lines_of_sent(own, published, closed, options.participant, look, proof_words)
         except TimeoutError as fault:
             raise command.Stop(str(fault), command.UNDECIDED) from None
         finally:
-            self.progress.end()
+            self.progress.stop_and_erase()
         self.wrong, self.unlike = wrong, len(wrong)
         self.right += right if not wrong else []
 
-    def read_signed(self, read, reasons):
+    def read_and_note_signed(self, read, reasons):
         """The journal with what the operator signed: its head, and receipts."""
         from ..receipts import receipts, under_head
         from ..seal import heads
 
         options = self.options
-        key = receipts.parse_key(options.key, self.read_input("key", options.key))
+        key = receipts.parse_key(options.key, self.read_and_note_input("key", options.key))
         odd = []
-        head = receipts.parse_head(options.head, self.read_input("head", options.head), key, odd, options.day)
-        data = self.read_input("salts", options.salts)
-        salts = receipts.parse_value(options.salts, data, heads.parse_salts, "the salts of a journal", odd)
+        head = receipts.parse_head_and_note(options.head, self.read_and_note_input("head", options.head), key, odd, options.day)
+        data = self.read_and_note_input("salts", options.salts)
+        salts = receipts.parse_value_and_note(options.salts, data, heads.parse_salts, "the salts of a journal", odd)
         if salts.day != head.day:
             raise command.Stop(f"{command.shown(options.salts)} has the salts of {salts.day}, and the head is of {head.day}")
-        read_receipts = functools.partial(self.read_input, "receipts")
+        read_receipts = functools.partial(self.read_and_note_input, "receipts")
         found = under_head.read_findings_of_folder(options.receipts, key, read_receipts) if options.receipts is not None else []
         signed = under_head.UnderHead(key, head, salts, read, reasons, found)
         signed.odd += odd
@@ -238,7 +241,7 @@ class Audit:
         options = self.options
         self.checked += ["head", "receipts"] if options.receipts is not None else ["head"]
         for path in options.earlier:
-            signed.add_earlier_head(path, self.read_input("earlier", path))
+            signed.add_earlier_head(path, self.read_and_note_input("earlier", path))
         wrong = [*signed.head_faults(), *signed.earlier_faults(), *signed.receipt_faults()]
         right = f"as signed: {signed.head}"
         if signed.earlier:
@@ -279,6 +282,7 @@ class Audit:
             "checked": self.checked,
             "day": self.day,
             "search": self.search,
+            "sent": self.sent,
             "notes": self.notes,
         }
         made["faults"] = [fault.record() for fault in [*self.wrong, *self.foreign, *self.odd]]
@@ -287,10 +291,10 @@ class Audit:
 
 def reply_faults(periods, reasons, data):
     """The lines of a replies text that differ from the book's replies."""
-    (wanted, _), (found, more) = (results.lines_and_faults(part) for part in (book.replies_of(periods, reasons).encode(), data))
+    (wanted, _), (found, more) = (results.lines_and_faults(part) for part in (book.replies_text_of(periods, reasons).encode(), data))
     numbers = [[line.split(b",")[0] for line in part] for part in (wanted, found)]
     wrong, last = more if data else [Fault("the replies are empty", "form")], 0
-    for at, place in matched_places(*numbers):
+    for at, place in matched_pairs(*numbers):
         last = last if place is None else place + 1
         if place is None:
             wrong.append(Fault(f"replies line {last + 1}: {text.quoted(wanted[at])} is missing", "missing", last + 1))
@@ -320,7 +324,7 @@ def lines_of_participant(data, who):
             yield f"results line {number}: {line}"
 
 
-def unmade_checks_line(is_compared, is_best):
+def unmade_checks_line_or_none(is_compared, is_best):
     """The lines after the faults of results about the checks that weren't made."""
     if not is_compared:
         return NEITHER if is_best else NOT_COMPARED
@@ -329,7 +333,7 @@ def unmade_checks_line(is_compared, is_best):
 
 def right_line(problem, published, reasons):
     hourly = text.counted(len(problem.rows) - len(problem.blocks), "hourly order")
-    welfare = f"welfare {problem.euros(published.welfare)} EUR"
+    welfare = f"welfare {problem.euros_text(published.welfare)} EUR"
     return (
         f"as the rules say: {problem.periods} periods, {hourly}, {len(published.accepted)} of"
         f" {text.counted(len(problem.blocks), 'block')} accepted, {welfare}{sent.refused_words(reasons)}"

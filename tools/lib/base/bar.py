@@ -34,9 +34,9 @@ class ShareBar:
             self.most = max(self.most, min(share, 1.0))
         full = round(self.most * WIDTH)
         drawn = "" if share is None else f" [{'#' * full}{'.' * (WIDTH - full)}] {self.most:.0%}"
-        self.write_stderr("\r\033[K" + self.cut_to_terminal(f"dam: {self.name}{drawn} {taken}{', ' if words else ''}{words}"))
+        self.write_stderr("\r\033[K" + self.line_cut_to_terminal(f"dam: {self.name}{drawn} {taken}{', ' if words else ''}{words}"))
 
-    def cut_to_terminal(self, line):
+    def line_cut_to_terminal(self, line):
         """Returns the line as far as the terminal is wide: a longer one would leave its first part behind."""
         try:
             # a terminal without a size says 0

@@ -7,7 +7,7 @@ import signal
 import subprocess
 
 
-def heed_children():
+def stop_ignoring_children():
     """From now on this process sees how its children end."""
     signal.signal(signal.SIGCHLD, signal.SIG_DFL)
 

@@ -33,7 +33,7 @@ def end_times(periods, number):
     return begin_time(periods, number + 1), time_span(periods, number).rpartition(" ")[2]
 
 
-def parse_clock_span(periods, first, last):
+def parse_periods_between_times(periods, first, last):
     """The periods of a day from one clock time to another, such as `07:00` and `09:00`. A ValueError names the fault of a time."""
     numbers = range(1, periods + 1)
     starts = [number for number in numbers if begin_time(periods, number) == first]

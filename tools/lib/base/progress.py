@@ -16,7 +16,7 @@ class Line:
         sys.stderr.flush()
         self.shown = len(line)
 
-    def end(self):
+    def erase(self):
         """No line is left."""
         if self.shown:
             self.show("")
@@ -68,7 +68,7 @@ class Progress(Line):
         """The message when no time is left."""
         return f"after {self.seconds:g} seconds, {words}: --seconds gives more time"
 
-    def step_or_raise(self, done=1):
+    def count_and_show_or_raise(self, done=1):
         """This many more steps are done. Raises TimeoutError if no time is left."""
         took = time.monotonic() - self.begun
         if self.stopped or took >= self.seconds:
@@ -79,10 +79,10 @@ class Progress(Line):
             if self.is_shown:
                 self.show(f"{self.tool}: {100 * self.done // max(self.steps, 1)} % of all selections, {took:.0f} s")
 
-    def end(self):
+    def stop_and_erase(self):
         """The run is over: no line is left, and its threads end at their next step."""
         self.stopped = True
-        super().end()
+        super().erase()
 
 
 class StepBar(Line):
@@ -98,7 +98,7 @@ class StepBar(Line):
         self.begun = self.last = time.monotonic()
         self.done = 0
 
-    def step(self, steps=1, words=""):
+    def count_and_show(self, steps=1, words=""):
         """This number of further steps is done."""
         self.done += steps
         now = time.monotonic()

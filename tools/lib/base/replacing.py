@@ -17,13 +17,13 @@ MOST_LINKS = 40  # that Linux follows
 def write_replacing(path, data):
     """Writes a file. A device, a pipe, and a file that can't be replaced are written in place."""
     with contextlib.ExitStack() as cleanups:
-        prepare_write(path, data, cleanups)()
+        write_beside_and_return_put(path, data, cleanups)()
 
 
-def prepare_write(path, data, cleanups):
+def write_beside_and_return_put(path, data, cleanups):
     """The call that puts a file in its place. Unless it's to be written in place, it's written before, next to that, and `cleanups` removes it
     if it isn't put."""
-    target = resolve_link_target(str(Path(path)))
+    target = link_target_or_none(str(Path(path)))
     old = stat_or_none(target) if target is not None else None
     # `Path` leaves out a slash or dot at the end, which only a folder has
     if os.path.basename(path) in ("", ".") or old is not None and stat.S_ISDIR(old.st_mode):
@@ -34,7 +34,7 @@ def prepare_write(path, data, cleanups):
         os.close(os.open(target, os.O_WRONLY))  # a file that can't be written isn't replaced
     in_place = functools.partial(write_in_place, target, data)
     try:
-        rename = prepare_replacement(target, old, data, cleanups)
+        rename = write_beside_and_return_rename(target, old, data, cleanups)
     except OSError as fault:
         return in_place_call_or_raise(in_place, old, fault)
 
@@ -47,7 +47,7 @@ def prepare_write(path, data, cleanups):
     return put
 
 
-def prepare_new(path, data, cleanups):
+def write_new_beside_and_return_put(path, data, cleanups):
     """The call that puts a new file in its place, and ends with FileExistsError if there is one by then, or a link. The file is written
     before, next to its place; `cleanups` removes it if it isn't put."""
     path = str(Path(path))
@@ -95,7 +95,7 @@ def write_in_place(target, data):
         file.truncate()
 
 
-def resolve_link_target(path):
+def link_target_or_none(path):
     """The file to which symbolic links lead from a path; None for an open file, as /dev/stdout names it."""
     for _ in range(MOST_LINKS):
         folder, name = os.path.split(path)
@@ -115,7 +115,7 @@ def stat_or_none(path):
         return None
 
 
-def prepare_replacement(target, old, data, cleanups):
+def write_beside_and_return_rename(target, old, data, cleanups):
     """Writes a new file next to the target. The call that gives it the target's name; `cleanups` removes it if that isn't called."""
     made = path_beside(target)
     create_file(made, data, cleanups, None if old is None else functools.partial(copy_rights, target=target, old=old))

@@ -22,7 +22,7 @@ MOST_BYTES, MOST_RECORDS = 16_777_216, 10_001  # of a journal
 MOST_DAY_COMMANDS, MOST_DAY_PARTICIPANTS = 9_999, 8  # of the input of `dam day`
 
 
-def price_between(low, high):
+def price_and_case(low, high):
     """The price of a period whose supporting prices go from `low` to `high`, and which case of the rule it is."""
     if low == LOWEST_PRICE and high < HIGHEST_PRICE:
         return high, "the greatest, since the least is the limit"

@@ -15,7 +15,7 @@ def parse_periods(words, greatest, separators=";", periods=None):
     """The periods of a text, in its order; a ValueError says the right form of the text, for a day of this number of periods if they are
     known."""
     numbers = []
-    parts = [part for part in re.split(rf"[{separators}\s]+", words) if part]
+    parts = [part for each in re.split(f"[{separators}]", words) if (part := each.strip(" "))]
     for part in parts or [""]:
         found = RUN.fullmatch(part)
         first, last = (int(found[1]), int(found[2] or found[1])) if found else (0, 0)
@@ -26,7 +26,7 @@ def parse_periods(words, greatest, separators=";", periods=None):
     return numbers
 
 
-def runs(numbers):
+def runs_of(numbers):
     """The first and the last number of each run of numbers that follow one another."""
     found = []
     for number in numbers:
@@ -38,7 +38,7 @@ def runs(numbers):
 
 
 def spans_text(numbers, to="-", between=";"):
-    return between.join(str(first) if first == last else f"{first}{to}{last}" for first, last in runs(numbers))
+    return between.join(str(first) if first == last else f"{first}{to}{last}" for first, last in runs_of(numbers))
 
 
 def spans_words(numbers):

@@ -33,22 +33,23 @@ def placed_records(text, comma=b","):
     quote isn't closed goes to the end of the text; the text after a closing quote belongs to the field. Of a long line with far too many
     fields, separated by commas, only the first ones are read."""
     begin, taken = 0, []
-    for fields in csv.reader(noting_lengths(csv_lines(text), taken), delimiter=comma.decode()):
+    raise_field_limit(len(text))
+    for fields in csv.reader(texts_adding_lengths(csv_lines(text), taken), delimiter=comma.decode()):
         if fields:
             yield begin, [field.replace(NO_NUL, "\0").encode("latin-1") for field in fields]
         begin += sum(taken)
         taken.clear()
 
 
-def noting_lengths(texts, taken):
+def texts_adding_lengths(texts, taken):
     """The texts, of which the length is noted as soon as one is taken. A long one that begins a record is cut."""
     for text in texts:
         is_first = not taken
         taken.append(len(text))
-        yield first_fields(text) if is_first and len(text) > LONG_LINE else text
+        yield first_fields_text(text) if is_first and len(text) > LONG_LINE else text
 
 
-def first_fields(line):
+def first_fields_text(line):
     """A long line without the fields after the first ones, if it has more."""
     if '"' not in line:
         return ",".join(line.split(",", MANY_FIELDS + 1)[: MANY_FIELDS + 1])
@@ -61,16 +62,21 @@ def count_lines(text, begin, end):
     return text.count(b"\n", begin, end) + text.count(b"\r", begin, end) - text.count(b"\r\n", begin, end)
 
 
+def raise_field_limit(length):
+    """Lets `csv` read fields of this length, in the whole process."""
+    if length > csv.field_size_limit():
+        csv.field_size_limit(length)
+
+
 def csv_lines(text):
     """The lines of a text for `csv`, each with its end and the empty lines after it."""
-    if len(text) > csv.field_size_limit():
-        csv.field_size_limit(len(text))
     return (line[0] for line in LINE.finditer(text.decode("latin-1").replace("\0", NO_NUL)))
 
 
-def find_open_quote(text, comma=b","):
+def open_quote_place_or_none(text, comma=b","):
     """Where a quote begins that isn't closed on its line; None if there is none."""
     begin = 0
+    raise_field_limit(len(text))
     for line in csv_lines(text):
         if '"' not in line:
             begin += len(line)
@@ -83,7 +89,7 @@ def find_open_quote(text, comma=b","):
     return None
 
 
-def parse_number(text, least, greatest):
+def parse_number_or_none(text, least, greatest):
     """The number that a text is: decimal, without leading zeros, with a `-` if it is below zero. None for any other text."""
     if not NUMBER.fullmatch(text):
         return None
@@ -91,34 +97,34 @@ def parse_number(text, least, greatest):
     return value if least <= value <= greatest else None
 
 
-def parse_price(text):
-    return parse_number(text, rules.LOWEST_PRICE, rules.HIGHEST_PRICE)
+def parse_price_or_none(text):
+    return parse_number_or_none(text, rules.LOWEST_PRICE, rules.HIGHEST_PRICE)
 
 
-def parse_volume(text):
-    return parse_number(text, 1, rules.GREATEST_VOLUME)
+def parse_volume_or_none(text):
+    return parse_number_or_none(text, 1, rules.GREATEST_VOLUME)
 
 
-def parse_volumes(text):
+def parse_volumes_or_none(text):
     """Pairs `period:volume`, separated by `;`, by increasing period. None for any other text."""
     pairs = []
     if text.count(b";") >= rules.GREATEST_PERIOD:
         return None
     for pair in text.split(b";"):
         period, colon, quantity = pair.partition(b":")
-        period = parse_number(period, 1, rules.GREATEST_PERIOD)
-        quantity = parse_volume(quantity)
+        period = parse_number_or_none(period, 1, rules.GREATEST_PERIOD)
+        quantity = parse_volume_or_none(quantity)
         if not colon or period is None or quantity is None or pairs and period <= pairs[-1][0]:
             return None
         pairs.append((period, quantity))
     return tuple(pairs)
 
 
-def parse_participant(text):
+def parse_participant_or_none(text):
     return text.decode() if PARTICIPANT.fullmatch(text) else None
 
 
-def parse_name(text):
+def parse_name_or_none(text):
     return text.decode() if NAME.fullmatch(text) else None
 
 
@@ -131,7 +137,7 @@ def for_json(value):
     return SURROGATE.sub(lambda found: escaped(found[0]), value) if isinstance(value, str) else value
 
 
-def require_unrepeated(fault_of, pairs):
+def require_unrepeated_members(fault_of, pairs):
     """The object of these members of JSON, none of which comes twice: readers differ in which they would take. `fault_of` makes the
     exception of the name of one that does."""
     members = {}
@@ -158,7 +164,7 @@ def escaped(words):
     return words if words.isprintable() else "".join(map(shown, words))
 
 
-def shortened(words, most):
+def shortened_and_length_words(words, most):
     """The beginning of a stranger's text or bytes, as it may be printed, and how long the whole is if that is longer."""
     words = words.decode(errors="surrogateescape") if isinstance(words, bytes) else words
     return escaped(words[:most]), f" ({len(words):,} characters)" if len(words) > most else ""
@@ -166,13 +172,13 @@ def shortened(words, most):
 
 def safe(words, most=MOST_SHOWN):
     """A stranger's text or bytes in a message: on one line, with nothing that a terminal would obey, and cut, with its length said."""
-    shown, length = shortened(words, most)
+    shown, length = shortened_and_length_words(words, most)
     return f"{shown}..{length}" if length else shown
 
 
 def quoted(words, most=MOST_SHOWN):
     """The same in quotes."""
-    shown, length = shortened(words, most)
+    shown, length = shortened_and_length_words(words, most)
     return f"'{shown}..'{length}" if length else f"'{shown}'"
 
 

@@ -30,14 +30,32 @@ LIBRARY = "dam_c"
 IN_C = ("build", "dam.h", "exports.map", "heap.c")
 
 
+class UnreadableSource(Exception):
+    """A file or a folder of the sources can't be read."""
+
+
+def raise_fault(fault):
+    raise fault
+
+
+def unreadable_words(fault):
+    """The message about a file of the repository, or a folder, that can't be read."""
+    if fault.filename is None:
+        return f"they can't be read: {fault.strerror}"
+    name = os.path.relpath(fault.filename, TOP)
+    if os.path.islink(fault.filename) and not os.path.exists(fault.filename):
+        return f"{name} is a link to no file, as an editor makes it beside a file with unsaved changes"
+    return f"{name} can't be read: {fault.strerror}"
+
+
 def read_own_crates():
     """Returns each crate of crates.txt with those of its libraries that belong to this repository."""
     return crates.without_foreign(crates.read_crates(TOP))
 
 
 def list_source_files(name):
-    folders = [f"{TOP}/crates/{name}/{part}" for part in PARTS]
-    return [f"{at}/{it}" for folder in folders for at, _, names in os.walk(folder) for it in names]
+    folders = [folder for folder in (f"{TOP}/crates/{name}/{part}" for part in PARTS) if os.path.isdir(folder)]
+    return [f"{at}/{it}" for folder in folders for at, _, names in os.walk(folder, onerror=raise_fault) for it in names]
 
 
 def read_file_sum(path):
@@ -53,7 +71,14 @@ def read_sum_of_files(folder, files, *words):
 
 
 def read_source_sums(crate):
-    """Returns the sum of the sources of a crate, and of each crate below it."""
+    """Returns the sum of the sources of a crate, and of each crate below it. Raises UnreadableSource if one of them can't be read."""
+    try:
+        return read_sums_of_crates(crate)
+    except OSError as fault:
+        raise UnreadableSource(unreadable_words(fault)) from None
+
+
+def read_sums_of_crates(crate):
     below = crates.read_crates(TOP)
     # a repository without threads has no file HANDLES
     handles = read_file_sum(f"{TOP}/HANDLES") if os.path.exists(f"{TOP}/HANDLES") else ""
@@ -65,7 +90,7 @@ def read_source_sums(crate):
     return found
 
 
-def run_for_first_line(command):
+def capture_first_line(command):
     """Returns the first line that a command prints, or 'unknown'."""
     try:
         ran = subprocess.run(command, cwd=TOP, stdin=subprocess.DEVNULL, stdout=subprocess.PIPE, stderr=subprocess.DEVNULL,
@@ -75,34 +100,34 @@ def run_for_first_line(command):
     return (ran.stdout.splitlines() or ["unknown"])[0]
 
 
-def run_for_kit():
+def capture_kit():
     """Returns the name and the logic of the kit, as `rt version` prints them."""
-    return run_for_first_line(["rt", "version"])
+    return capture_first_line(["rt", "version"])
 
 
 def record_path(path):
     return f"{path}.json"
 
 
-def write_record(crate, before, *paths):
-    """Records that files were built of a crate, if its sources are still those whose sums were taken before. Otherwise it removes what
-    was recorded of these files."""
+def write_or_remove_records(crate, before, *paths):
+    """Records that files were built of a crate, if its sources are still those whose sums were taken before. Otherwise removes the records
+    of these files. Returns whether they have records."""
     is_same = read_source_sums(crate) == before
     for path in paths:
         if not is_same:
             if os.path.exists(record_path(path)):
                 os.remove(record_path(path))
             continue
-        told = {"sha256": read_file_sum(path), "kit": run_for_kit(), "sources": before}
+        told = {"sha256": read_file_sum(path), "kit": capture_kit(), "sources": before}
         if crate == LIBRARY:
-            told["compiler"] = run_for_first_line([*os.environ.get("CC", "cc").split(), "--version"])
+            told["compiler"] = capture_first_line([*os.environ.get("CC", "cc").split(), "--version"])
         with open(record_path(path), "w", encoding="utf-8") as file:
             json.dump(told, file, indent=2, sort_keys=True)
             file.write("\n")
     return is_same
 
 
-def read_record(path):
+def read_record_or_none(path):
     """Returns the record of a file that was built, or None."""
     try:
         with open(record_path(path), encoding="utf-8") as file:
@@ -112,26 +137,29 @@ def read_record(path):
     return told if isinstance(told, dict) and {"sha256", "kit", "sources"} <= told.keys() else None
 
 
-def read_stale_words(path, crate):
+def read_stale_words_or_none(path, crate):
     """Returns why a file was not built of the present sources, or None if it is."""
     name = os.path.relpath(path, TOP)
     if not os.path.isfile(path):
         return f"{name} is missing"
-    told = read_record(path)
+    told = read_record_or_none(path)
     if not told:
         return f"{name} has no record of the sources that it was built of"
     if told["sha256"] != read_file_sum(path):
         return f"{name} is not the file that was built: another one took its place"
-    present = read_source_sums(crate)
+    try:
+        present = read_source_sums(crate)
+    except UnreadableSource as fault:
+        return f"{name} may be older than its sources: {fault}"
     others = sorted(it for it in {*present, *told["sources"]} if present.get(it) != told["sources"].get(it))
     return f"{name} was built of other sources: {', '.join(others)} changed since" if others else None
 
 
-def print_stale_words_or_date(path, crate):
+def print_or_touch_and_return_status(path, crate):
     """Prints why a file was not built of the present sources, and returns 1. Otherwise gives the file the date before they were read, so
     that it is newer than its sources, and returns 0."""
     began = time.time_ns()
-    words = read_stale_words(path, crate)
+    words = read_stale_words_or_none(path, crate)
     if words:
         print(words)
         return 1
@@ -149,10 +177,13 @@ def main(words):
         return 0
     crate, before, *paths = words
     if before == "--fault":
-        return print_stale_words_or_date(paths[0], crate)
+        return print_or_touch_and_return_status(paths[0], crate)
     with open(before, encoding="utf-8") as file:
-        return 0 if write_record(crate, json.load(file), *paths) else 1
+        return 0 if write_or_remove_records(crate, json.load(file), *paths) else 1
 
 
 if __name__ == "__main__":
-    sys.exit(main(sys.argv[1:]))
+    try:
+        sys.exit(main(sys.argv[1:]))
+    except UnreadableSource as unreadable:
+        sys.exit(f"sources.py: {unreadable}")

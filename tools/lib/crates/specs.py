@@ -20,7 +20,7 @@ class Unknown(command.Stop):
     """A name that leads to no definition, or a definition that no contract names."""
 
 
-def names_used(text):
+def words_of(text):
     return set(WORD.findall(COMMENT.sub("", text)))
 
 
@@ -40,18 +40,18 @@ class Repository:
         self.texts = {}
         self.modules = {}
 
-    def read(self, path):
+    def read_or_none(self, path):
         if path not in self.texts:
             file = self.top / path
             self.texts[path] = file_io.read_bytes(file).decode() if file.is_file() else None
         return self.texts[path]
 
-    def definitions(self, crate, module):
+    def read_definitions(self, crate, module):
         """The text of each definition of a module of `specs/`: it ends where the next one or a comment at the margin begins."""
         found = self.modules.get((crate, module))
         if found is None:
             found, name = {}, None
-            for line in (self.read(f"crates/{crate}/specs/{module}.antt") or "").splitlines():
+            for line in (self.read_or_none(f"crates/{crate}/specs/{module}.antt") or "").splitlines():
                 head = HEAD.match(line)
                 if head:
                     name = head[1]
@@ -62,9 +62,9 @@ class Repository:
             self.modules[crate, module] = found
         return found
 
-    def sentence(self, crate, module, name):
+    def read_sentence(self, crate, module, name):
         """The comment above a definition."""
-        lines = self.read(f"crates/{crate}/specs/{module}.antt").splitlines()
+        lines = self.read_or_none(f"crates/{crate}/specs/{module}.antt").splitlines()
         at = next(place for place, line in enumerate(lines) if (HEAD.match(line) or [None, None])[1] == name)
         first = at
         while lines[first - 1].startswith("-- "):
@@ -73,49 +73,49 @@ class Repository:
             raise Unknown(f"crates/{crate}/specs/{module}.antt says nothing above {name}")
         return " ".join(line[3:] for line in lines[first:at])
 
-    def subject(self, crate, module):
+    def read_subject(self, crate, module):
         """The comment at the head of a module: its subject."""
-        lines = self.read(f"crates/{crate}/specs/{module}.antt").splitlines()
+        lines = self.read_or_none(f"crates/{crate}/specs/{module}.antt").splitlines()
         comment = list(itertools.takewhile(lambda line: line.startswith("-- "), lines))
         if not comment:
             raise Unknown(f"crates/{crate}/specs/{module}.antt doesn't say what it is about")
         return " ".join(line[3:] for line in comment)
 
-    def own_modules(self, crate):
+    def read_own_modules(self, crate):
         """The modules of a crate's `specs/` in the order of its `Lib`, without those for contracts inside the crate."""
-        declared = re.findall(r"^(?:pub )?mod (\w+)$", self.read(f"crates/{crate}/specs/Lib.antt") or "", re.M)
-        return [module for module in declared if self.read(f"crates/{crate}/specs/{module}.antt") is not None]
+        declared = re.findall(r"^(?:pub )?mod (\w+)$", self.read_or_none(f"crates/{crate}/specs/Lib.antt") or "", re.M)
+        return [module for module in declared if self.read_or_none(f"crates/{crate}/specs/{module}.antt") is not None]
 
-    def whole(self, crate, module, name):
+    def read_holder_name(self, crate, module, name):
         """The definition of which a name is a part, such as a field, or the name."""
-        texts = self.definitions(crate, module)
+        texts = self.read_definitions(crate, module)
         holders = (key for key, text in texts.items() if re.search(rf"^  (?:pub )?{re.escape(name)} :", text, re.M))
         return name if name in texts else next(holders, name)
 
-    def cited(self):
+    def read_cited(self):
         """Each definition that the clauses of a public function name, with the function."""
         for crate in self.crates:
             folder = self.top / "crates" / crate / "src"
             for path in sorted(folder.rglob("*.rt")):
                 module = str(path.relative_to(folder).with_suffix(""))
-                text, found = self.source_names(crate, module)
+                text, found = self.read_source_and_targets(crate, module)
                 for function in FUNCTION.finditer(text):
                     clauses = CLAUSE.search(function[0])
-                    for name in sorted(names_used(function[0][clauses.start() :])) if clauses else ():
+                    for name in sorted(words_of(function[0][clauses.start() :])) if clauses else ():
                         node = found.get(name)
                         if node and node[1] == "specs" and not node[2].startswith("inside"):
-                            yield (*node[:3], self.whole(node[0], *node[2:])), f"{crate}::{module}::{function[2]}"
+                            yield (*node[:3], self.read_holder_name(node[0], *node[2:])), f"{crate}::{module}::{function[2]}"
 
-    def home(self, crate, module):
+    def read_home_crate(self, crate, module):
         """The crate of a module of `specs/`: a crate may re-export modules of a lower one."""
-        while self.read(f"crates/{crate}/specs/{module}.antt") is None:
-            given = re.search(rf"^pub use Rattle\.(\w+)\.specs\.{module}$", self.read(f"crates/{crate}/specs/Lib.antt") or "", re.M)
+        while self.read_or_none(f"crates/{crate}/specs/{module}.antt") is None:
+            given = re.search(rf"^pub use Rattle\.(\w+)\.specs\.{module}$", self.read_or_none(f"crates/{crate}/specs/Lib.antt") or "", re.M)
             if not given:
                 raise Unknown(f"{crate} has no module {module} of definitions")
             crate = given[1]
         return crate
 
-    def definition(self, path, name):
+    def read_target_or_none(self, path, name):
         """The target of a name of a `use` line, or nothing if that is the kit's."""
         parts = path.split(".")
         if parts[0] != "Rattle" or parts[1] not in self.crates:
@@ -126,35 +126,34 @@ class Repository:
         if kind != "specs" or rest[0] == "contracts":
             return None
         module = "/".join(rest)
-        return self.home(crate, module), "specs", module, name
+        return self.read_home_crate(crate, module), "specs", module, name
 
-    def add_used_names(self, text, into):
-        """The targets of the names of a file's text, by its `use` lines."""
+    def add_targets_of_used_names(self, text, into):
+        """Adds the targets of the names of a file's text, by its `use` lines."""
         for path, words in USE.findall(text):
             for alias, name in aliases(words):
-                into[alias] = self.definition(path, name)
-        return into
+                into[alias] = self.read_target_or_none(path, name)
 
-    def type_of(self, crate, name):
+    def read_type_target_or_none(self, crate, name):
         """Where a crate declares a type, or the crate whose type it re-exports."""
         folder = self.top / "crates" / crate / "src"
         for path in sorted(folder.glob("*.rt")):
-            if re.search(rf"^pub(?:\(crate\))? (?:struct|enum) {name}\b", self.read(path.relative_to(self.top)), re.M):
+            if re.search(rf"^pub(?:\(crate\))? (?:struct|enum) {name}\b", self.read_or_none(path.relative_to(self.top)), re.M):
                 return crate, "src", path.stem, name
-        for given, words in re.findall(r"^pub use (\w+)::\{([^}]*)\};$", self.read(f"crates/{crate}/src/lib.rt") or "", re.M):
+        for given, words in re.findall(r"^pub use (\w+)::\{([^}]*)\};$", self.read_or_none(f"crates/{crate}/src/lib.rt") or "", re.M):
             if given in self.crates and name in dict(aliases(words)):
-                return self.type_of(given, name)
+                return self.read_type_target_or_none(given, name)
         return None
 
-    def source(self, crate, module):
-        text = self.read(f"crates/{crate}/src/{module}.rt")
+    def read_source(self, crate, module):
+        text = self.read_or_none(f"crates/{crate}/src/{module}.rt")
         if text is None:
             raise Unknown(f"{crate} has no source {module}")
         return text
 
-    def source_names(self, crate, module):
+    def read_source_and_targets(self, crate, module):
         """The targets of the names of a source: by its own types, its imports, and its `ghost use` lines."""
-        text = self.source(crate, module)
+        text = self.read_source(crate, module)
         found = {}
         for name in re.findall(r"^pub(?:\(crate\))? (?:struct|enum) (\w+)", text, re.M):
             found[name] = (crate, "src", module, name)
@@ -162,60 +161,60 @@ class Repository:
             home = crate if origin == "crate" else origin
             if home in self.crates:
                 for alias, name in aliases(words or word):
-                    found[alias] = self.type_of(home, name)
-        self.add_used_names("\n".join(re.findall(r"^ghost use [^;]*;", text, re.M)), found)
+                    found[alias] = self.read_type_target_or_none(home, name)
+        self.add_targets_of_used_names("\n".join(re.findall(r"^ghost use [^;]*;", text, re.M)), found)
         return text, found
 
-    def head(self, function, crate, module):
+    def read_signature(self, function, crate, module):
         """The signature and the clauses of a public function or method."""
         name = function.rpartition(":")[2]
-        whole = re.search(rf'^( *)pub (?:extern "C" )?fn {name}\b.*?^\1\{{$', self.source(crate, module), re.M | re.S)
+        whole = re.search(rf'^( *)pub (?:extern "C" )?fn {name}\b.*?^\1\{{$', self.read_source(crate, module), re.M | re.S)
         if not whole:
             raise Unknown(f"{crate}/src/{module}.rt has no function {function}")
         return whole[0].rstrip("{").rstrip() + "\n"
 
-    def contract(self, function, crate, module):
+    def read_contract_targets(self, function, crate, module):
         """The names in the clauses of a public function or method."""
-        head = self.head(function, crate, module)
-        _, found = self.source_names(crate, module)
-        return {found.get(name) for name in names_used(head[CLAUSE.search(head).start() :])} - {None}
+        head = self.read_signature(function, crate, module)
+        _, found = self.read_source_and_targets(crate, module)
+        return {found.get(name) for name in words_of(head[CLAUSE.search(head).start() :])} - {None}
 
-    def below(self, node):
+    def read_targets_below(self, node):
         """The names in a definition or a type."""
         crate, kind, module, name = node
         if kind == "src":
-            return self.below_type(crate, module, name)
-        texts = self.definitions(crate, module)
+            return self.read_targets_below_type(crate, module, name)
+        texts = self.read_definitions(crate, module)
         if name not in texts:
             holder = next((key for key, text in texts.items() if re.search(rf"^  {re.escape(name)} :", text, re.M)), None)
             if not holder:
                 raise Unknown(f"{crate}/specs/{module}.antt has no definition {name}")
             return {(crate, kind, module, holder)}
         found = {other: (crate, kind, module, other) for other in texts}
-        self.add_used_names(self.read(f"crates/{crate}/specs/{module}.antt"), found)
-        return {found.get(word) for word in names_used(texts[name])} - {None, node}
+        self.add_targets_of_used_names(self.read_or_none(f"crates/{crate}/specs/{module}.antt"), found)
+        return {found.get(word) for word in words_of(texts[name])} - {None, node}
 
-    def below_type(self, crate, module, name):
-        text, found = self.source_names(crate, module)
+    def read_targets_below_type(self, crate, module, name):
+        text, found = self.read_source_and_targets(crate, module)
         model = re.search(rf"^impl(?:<[^>]*>)? Model for {name}\b.*?^\}}$", text, re.M | re.S)
         if model:
-            self.add_used_names(model[0], found)
+            self.add_targets_of_used_names(model[0], found)
             told = re.search(r"ghost Value = \{(.*?)\};", model[0], re.S)[1]
         else:
             told = re.search(rf"^pub(?:\(crate\))? (?:struct|enum) {name}\b.*?(?:^\}}|;)$", text, re.M | re.S)
             if not told:
                 raise Unknown(f"{crate}/src/{module}.rt has no type {name}")
             told = VARIANT.sub("", told[0])
-        return {found.get(word) for word in names_used(told)} - {None, (crate, "src", module, name)}
+        return {found.get(word) for word in words_of(told)} - {None, (crate, "src", module, name)}
 
-    def closure(self, nodes):
+    def read_closure(self, nodes):
         """The names that can be reached from some names, each before those that name it, if there is no circle."""
         ordered, seen = [], set()
 
         def visit(node):
             if node not in seen:
                 seen.add(node)
-                for other in sorted(self.below(node)):
+                for other in sorted(self.read_targets_below(node)):
                     visit(other)
                 ordered.append(node)
 

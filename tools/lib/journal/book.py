@@ -25,25 +25,25 @@ class Book:
         made.closed, made.rows, made.held, made.children = self.closed, dict(self.rows), dict(self.held), Counter(self.children)
         return made
 
-    def apply(self, command):
+    def apply_or_return_refusal(self, command):
         """Carries out the command and returns None, or changes nothing and returns the reason."""
-        reason = self.refusal(command)
+        reason = self.refusal_or_none(command)
         if reason is None:
             self.carry_out(command)
         return reason
 
-    def refusal(self, command):
+    def refusal_or_none(self, command):
         """The first reason that applies."""
         for word, applies in TESTS[type(command)]:
             if applies(self, command):
                 return word
         return None
 
-    def order(self, command):
+    def order_or_none(self, command):
         """The order of the command's participant and name."""
         return self.rows.get((command.who, command.name))
 
-    def parent(self, command):
+    def parent_or_none(self, command):
         """The order that a new block names as its parent."""
         return self.rows.get((command.who, command.order.parent))
 
@@ -95,26 +95,26 @@ class Reason(NamedTuple):
 REASONS = {
     "Closed": Reason("the book was already closed", (Submit, Amend, Cancel, Close), lambda book, _: book.closed),
     "PeriodOutOfDay": Reason("it names a period that the day doesn't have", (Submit, Amend), Book.is_out_of_day),
-    "NameTaken": Reason("the participant has an order of that name", (Submit,), lambda book, command: book.order(command) is not None),
+    "NameTaken": Reason("the participant has an order of that name", (Submit,), lambda book, command: book.order_or_none(command) is not None),
     "UnknownOrder": Reason(
         "the participant has no such order: it was cancelled, refused, or never entered",
         (Amend, Cancel),
-        lambda book, command: book.order(command) is None,
+        lambda book, command: book.order_or_none(command) is None,
     ),
     "WrongShape": Reason(
         "an hourly order has exactly one period",
         (Amend,),
-        lambda book, command: book.order(command).kind == "hour" and len(command.volumes) != 1,
+        lambda book, command: book.order_or_none(command).kind == "hour" and len(command.volumes) != 1,
     ),
     "UnknownParent": Reason(
         "the participant has no order of the parent's name",
         (Submit,),
-        lambda book, command: command.order.parent and book.parent(command) is None,
+        lambda book, command: command.order.parent and book.parent_or_none(command) is None,
     ),
     "ParentNotBlock": Reason(
         "the parent is an hourly order",
         (Submit,),
-        lambda book, command: command.order.parent and book.parent(command).kind == "hour",
+        lambda book, command: command.order.parent and book.parent_or_none(command).kind == "hour",
     ),
     "HourlyFull": Reason(
         f"the book holds {rules.MOST_HOURLY:,} hourly orders",
@@ -138,18 +138,18 @@ TESTS = {
 }
 
 
-def run_commands(journal):
+def book_and_refusals(journal):
     """The book after the commands of a journal, and the reason for each refusal (None if the command was done)."""
     book = Book(journal.periods)
-    return book, [book.apply(command) for command in journal.commands]
+    return book, [book.apply_or_return_refusal(command) for command in journal.commands]
 
 
 def replies_text(journal):
     """The printed text of a run: the day, and the reply to each command."""
-    return replies_of(journal.periods, run_commands(journal)[1])
+    return replies_text_of(journal.periods, book_and_refusals(journal)[1])
 
 
-def replies_of(periods, reasons):
+def replies_text_of(periods, reasons):
     """The same from the reason for each refusal, or None."""
     lines = [f"day,{periods}"]
     for number, reason in enumerate(reasons, 1):

@@ -33,7 +33,7 @@ def word_parser(words):
     return parse
 
 
-def parse_day(field):
+def day_and_advice(field):
     days = [str(periods) for periods in rules.DAYS]
     if field in days:
         return int(field), None
@@ -53,12 +53,12 @@ def name_parser(allowed, parser):
     return parse
 
 
-parse_participant = name_parser(f"1 to {rules.LONGEST_PARTICIPANT} capitals A to Z", text.parse_participant)
-parse_order_name = name_parser(text.A_NAME, text.parse_name)
+participant_and_advice = name_parser(f"1 to {rules.LONGEST_PARTICIPANT} capitals A to Z", text.parse_participant_or_none)
+order_name_and_advice = name_parser(text.A_NAME, text.parse_name_or_none)
 
 
-def parse_price(field):
-    if field.isascii() and text.parse_price(field.encode()) is not None:
+def price_and_advice(field):
+    if field.isascii() and text.parse_price_or_none(field.encode()) is not None:
         return int(field), None
     allowed = f"it should be whole cents per MWh from {rules.LOWEST_PRICE} to {rules.HIGHEST_PRICE}"
     return number_and_advice(field, allowed, 100, "EUR/MWh", rules.LOWEST_PRICE, rules.HIGHEST_PRICE)
@@ -79,16 +79,16 @@ def number_and_advice(field, allowed, factor, unit, least, greatest):
     return int(value), f"{allowed}: write {int(value)}{shown}"
 
 
-def parse_pair(pair):
+def pair_and_advice(pair):
     """A period and a volume of a text `period:volume`, and its fault."""
     number, colon, volume = (part.strip() for part in pair.partition(":"))
     if not colon:
         return None, f"{text.quoted(pair)} should be period:volume, such as 8:450"
     if re.fullmatch(r"[0-9]+-[0-9]+", number):
         return None, f"{text.quoted(pair)} has a range of periods: write a pair for each, such as 8:450;9:450"
-    if text.parse_number(number.encode(), 1, rules.GREATEST_PERIOD) is None:
+    if text.parse_number_or_none(number.encode(), 1, rules.GREATEST_PERIOD) is None:
         return None, f"{text.quoted(number)} in {text.quoted(pair)} should be a period from 1 to {rules.GREATEST_PERIOD}"
-    if volume.isascii() and text.parse_volume(volume.encode()) is not None:
+    if volume.isascii() and text.parse_volume_or_none(volume.encode()) is not None:
         pair_now = int(number), int(volume)
         return pair_now, None if pair == f"{number}:{volume}" else f"{text.quoted(pair)} has a space: write {number}:{volume}"
     allowed = f"{text.quoted(volume)} in {text.quoted(pair)} should be whole tenths of a MW from 1 to {rules.GREATEST_VOLUME}"
@@ -96,17 +96,17 @@ def parse_pair(pair):
     return (None if value is None else (int(number), value)), wrong
 
 
-def parse_volumes(field):
+def volumes_and_advice(field):
     """Pairs by increasing period: all that is wrong with them."""
-    if field.isascii() and text.parse_volumes(field.encode()) is not None:
-        return text.parse_volumes(field.encode()), None
+    if field.isascii() and text.parse_volumes_or_none(field.encode()) is not None:
+        return text.parse_volumes_or_none(field.encode()), None
     if not field:
         return None, "it should be period:volume, such as 8:450, or several, such as 8:450;9:450"
     if (count := field.count(";") + 1) > rules.GREATEST_PERIOD:
         return None, f"it has {count:,} pairs, and a day has at most {rules.GREATEST_PERIOD} periods"
     pairs, wrong = [], []
     for part in field.split(";"):
-        pair, fault = parse_pair(part) if part.strip() else (None, "a pair between `;` is missing, or there is one `;` too many")
+        pair, fault = pair_and_advice(part) if part.strip() else (None, "a pair between `;` is missing, or there is one `;` too many")
         pairs.append(pair)
         wrong += [fault] if fault else []
     numbers = [pair[0] for pair in pairs if pair]
@@ -120,18 +120,18 @@ def parse_volumes(field):
 
 
 PARSERS = {
-    "participant": parse_participant,
-    "order": parse_order_name,
+    "participant": participant_and_advice,
+    "order": order_name_and_advice,
     "kind": word_parser(["hour", "block"]),
     "side": word_parser(["buy", "sell"]),
-    "price": parse_price,
-    "volumes": parse_volumes,
-    "parent": parse_order_name,
-    "group": parse_order_name,
+    "price": price_and_advice,
+    "volumes": volumes_and_advice,
+    "parent": order_name_and_advice,
+    "group": order_name_and_advice,
 }
 
 
-def parse_field(name, field):
+def value_and_advice(name, field):
     """A field without the spaces around it: its value, and its fault."""
     bare = field.strip(" \t\u00a0")
     value, wrong = PARSERS[name](bare)

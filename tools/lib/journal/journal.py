@@ -5,6 +5,9 @@ from typing import NamedTuple
 from ..base import rules, text
 
 
+NAMES_OF_ORDER = text.parse_participant_or_none, text.parse_name_or_none  # the parsers of the first two fields of a command
+
+
 class Order(NamedTuple):
     kind: str  # "hour" or "block"
     side: str  # "buy" or "sell"
@@ -78,12 +81,12 @@ def parse_journal(data):
     return Journal(periods, commands)
 
 
-def parse_empty(field):
+def parse_empty_or_none(field):
     return "" if field == b"" else None
 
 
-def parse_optional_name(field):
-    return "" if field == b"" else text.parse_name(field)
+def parse_optional_name_or_none(field):
+    return "" if field == b"" else text.parse_name_or_none(field)
 
 
 def word_parser(*words):
@@ -91,8 +94,8 @@ def word_parser(*words):
     return lambda field: field.decode() if field.decode() in words else None
 
 
-def parse_one_volume(field):
-    pairs = text.parse_volumes(field)
+def parse_one_volume_or_none(field):
+    pairs = text.parse_volumes_or_none(field)
     return pairs if pairs and len(pairs) == 1 else None
 
 
@@ -101,7 +104,7 @@ def parse_fields(fields, *parsers):
     that breaks its rule is the record's fault."""
     values = []
     for at in range(1, 9):
-        parser = parsers[at - 1] if at <= len(parsers) else parse_empty
+        parser = parsers[at - 1] if at <= len(parsers) else parse_empty_or_none
         value = parser(fields[at])
         if value is None:
             raise BadField(at + 1)
@@ -119,17 +122,18 @@ def parse_command(fields):
     if kind == b"submit":
         # The fields up to the fourth say how the ones after it are read.
         hourly = fields[3] == b"hour"
-        behind = (parse_one_volume, parse_empty, parse_empty) if hourly else (text.parse_volumes, parse_optional_name, parse_optional_name)
-        who, name, *order = parse_fields(
-            fields, text.parse_participant, text.parse_name, word_parser("hour", "block"), word_parser("buy", "sell"), text.parse_price, *behind
-        )
+        behind = [parse_one_volume_or_none] + [parse_empty_or_none] * 2
+        if not hourly:
+            behind = [text.parse_volumes_or_none] + [parse_optional_name_or_none] * 2
+        words = word_parser("hour", "block"), word_parser("buy", "sell")
+        who, name, *order = parse_fields(fields, *NAMES_OF_ORDER, *words, text.parse_price_or_none, *behind)
         return Submit(who, name, Order(*order))
     if kind == b"amend":
-        parsers = text.parse_participant, text.parse_name, parse_empty, parse_empty, text.parse_price, text.parse_volumes
-        who, name, _, _, price, volumes = parse_fields(fields, *parsers)
+        parsers = parse_empty_or_none, parse_empty_or_none, text.parse_price_or_none, text.parse_volumes_or_none
+        who, name, _, _, price, volumes = parse_fields(fields, *NAMES_OF_ORDER, *parsers)
         return Amend(who, name, price, volumes)
     if kind == b"cancel":
-        return Cancel(*parse_fields(fields, text.parse_participant, text.parse_name))
+        return Cancel(*parse_fields(fields, *NAMES_OF_ORDER))
     if kind == b"close":
         parse_fields(fields)
         return Close()
@@ -140,7 +144,7 @@ def volumes_text(volumes):
     return ";".join(f"{period}:{volume}" for period, volume in volumes)
 
 
-def command_record(command):
+def command_record_text(command):
     """The record of a command in the written journal."""
     match command:
         case Submit(who, name, order):
@@ -155,12 +159,12 @@ def command_record(command):
     return ",".join(fields)
 
 
-def day_record(periods):
+def day_record_text(periods):
     """The record of a day in the written journal."""
     return f"day,{periods},,,,,,,"
 
 
 def journal_text(journal):
     """The written journal."""
-    lines = [day_record(journal.periods)] + [command_record(command) for command in journal.commands]
+    lines = [day_record_text(journal.periods)] + [command_record_text(command) for command in journal.commands]
     return "".join(f"{line}\n" for line in lines)

@@ -69,7 +69,7 @@ class Lint:
 
     def collect_findings(self):
         """The findings on the text, by line, and after them the commands that the book would refuse."""
-        other = OTHERS.get(kinds.kind_of(self.data))
+        other = OTHERS.get(kinds.kind_or_none(self.data))
         if other:
             self.add_finding(1, other)
             return self.findings
@@ -77,7 +77,10 @@ class Lint:
             remedy = f"remove empty lines; the day and {rules.MOST_RECORDS - 1} commands take less"
             self.add_finding(1, f"the text has {len(self.data):,} bytes, but a journal has at most {rules.MOST_BYTES:,}: {remedy}")
             return self.findings
-        data, comma = self.mend_text(self.data)
+        data = self.report_and_drop_long_lines(without_late_lines(self.report_and_drop_mark(self.data)))
+        self.report_other_characters(data)
+        comma = self.report_and_find_separator(data)
+        data = self.report_and_mend_quotes(data, comma)
         self.has_semicolons = comma == b";"
         if self.periods and first_word(data, comma) != "day":
             self.held = book.Book(self.periods)
@@ -85,7 +88,7 @@ class Lint:
         for number, (at, record) in enumerate(text.placed_records(data, comma), 1):
             line += text.count_lines(data, behind, at)
             if self.bar:
-                self.bar.step(at - behind)
+                self.bar.count_and_show(at - behind)
             behind = at
             if number > rules.MOST_RECORDS:
                 self.add_finding(line, f"a journal has at most {rules.MOST_RECORDS - 1} commands: remove the rest")
@@ -99,27 +102,18 @@ class Lint:
         self.lint_close(line, number)
         return sorted(self.findings, key=lambda finding: (bool(finding.refusal), finding.line))
 
-    def mend_text(self, data):
-        """Reports the faults that concern all of a text. Returns the text without them, and the separator of its fields."""
+    def report_and_drop_mark(self, data):
+        """Reports a byte order mark. Returns the text in UTF-8 without it."""
         for mark, encoding in BYTE_ORDER_MARKS.items():
             if data.startswith(mark):
                 name, tool = "a byte order mark", ""
                 if encoding == "utf-16":
                     name, tool = "a byte order mark, and the text is in UTF-16", ", or convert it: iconv -f UTF-16 -t UTF-8 FILE"
                 self.add_finding(1, f"the text begins with {name}: save it as plain CSV, in ASCII or UTF-8 without the mark{tool}")
-                data = data.decode(encoding, errors="replace").encode()
-                break
-        data = self.drop_long_lines(self.cut_late_lines(data))
-        self.report_other_characters(data)
-        comma = self.find_separator(data)
-        return self.mend_quotes(data, comma), comma
+                return data.decode(encoding, errors="replace").encode()
+        return data
 
-    def cut_late_lines(self, data):
-        """The text without the lines after those that a journal may have, and the first of them."""
-        further = next(itertools.islice(LINE.finditer(data), rules.MOST_RECORDS + 1, None), None)
-        return data[: further.start()] if further else data
-
-    def drop_long_lines(self, data):
+    def report_and_drop_long_lines(self, data):
         """Reports the long lines, which aren't looked at. Returns the text in which each is empty."""
         places = [found.span() for found in LINE.finditer(data) if found.end() - found.start() > text.LONG_LINE]
         for begin, end in reversed(places):
@@ -128,7 +122,7 @@ class Lint:
             data = data[:begin] + data[end:]
         return data
 
-    def find_separator(self, data):
+    def report_and_find_separator(self, data):
         """The separator of the fields, by the first line. Any but a comma is reported."""
         first = re.split(rb"[\r\n]", data.lstrip(b"\r\n"), maxsplit=1)[0]
         for mark, name in SEPARATORS.items():
@@ -137,11 +131,11 @@ class Lint:
                 return mark.encode()
         return b","
 
-    def mend_quotes(self, data, comma):
+    def report_and_mend_quotes(self, data, comma):
         """Reports the quotes that aren't closed on their line. Returns the text without them, after which no line could be told from another.
         The last field of a journal may have such a quote."""
         for number in range(MOST_QUOTES):
-            at = text.find_open_quote(data, comma)
+            at = text.open_quote_place_or_none(data, comma)
             if at is None or not number and is_journal(data):
                 break
             line = text.count_lines(data, 0, at) + 1
@@ -163,7 +157,7 @@ class Lint:
             at = list(lines)[MOST_LINES]
             self.add_finding(at, f"{len(lines) - MOST_LINES} lines from here on aren't ASCII either: save the file as plain CSV, in ASCII")
 
-    def split_alone(self, line, record):
+    def report_and_split_record_or_none(self, line, record):
         """The fields of a record. If it alone has something other than commas between them, that is reported; None if they are too few or too
         many."""
         for mark, name in SEPARATORS.items():
@@ -174,7 +168,7 @@ class Lint:
         return record
 
     def lint_record(self, line, record):
-        record = self.split_alone(line, record)
+        record = self.report_and_split_record_or_none(line, record)
         if record is None:
             return
         if self.has_semicolons and len(record) > len(fields.NAMES):
@@ -190,9 +184,9 @@ class Lint:
         elif not any(field.strip() for field in record):
             self.add_finding(line, "there is nothing in the line but commas: remove it")
         else:
-            self.lint_entry(line, self.pad_record(line, record, CLOSE if word == "close" else None))
+            self.lint_entry(line, self.report_and_pad_record(line, record, CLOSE if word == "close" else None))
 
-    def pad_record(self, line, record, whole=None):
+    def report_and_pad_record(self, line, record, whole=None):
         """The nine fields of a record. If it has more or fewer, that is reported."""
         count, most = len(record), len(fields.NAMES)
         missing = most - count
@@ -222,9 +216,9 @@ class Lint:
                 self.lint_record(line, record)
             return
         found = record[1].strip() if len(record) > 1 else ""
-        periods, wrong = fields.parse_day(found)
-        whole = journal.day_record(periods or 24)
-        record = self.pad_record(line, record, whole)
+        periods, wrong = fields.day_and_advice(found)
+        whole = journal.day_record_text(periods or 24)
+        record = self.report_and_pad_record(line, record, whole)
         if record[0] != "day":
             self.add_finding(line, f"{text.quoted(record[0])} should be day: write {whole}", "command")
         if wrong or record[1] != found:
@@ -253,7 +247,7 @@ class Lint:
             elif not found and name in ("parent", "group"):
                 values[name] = ""
             else:
-                values[name], wrong = fields.parse_field(name, found)
+                values[name], wrong = fields.value_and_advice(name, found)
                 if name == "volumes" and hourly and values[name] and len(values[name]) != 1:
                     wrong = f"an hourly order has one pair, such as 8:450, not {len(values[name])}" + (f"; {wrong}" if wrong else "")
                 if wrong:
@@ -278,7 +272,7 @@ class Lint:
             command = {"submit": self.submit_of, "amend": journal.Amend, "cancel": journal.Cancel}[kind](
                 *[values[field] for field in fields.USED[kind]]
             )
-        self.note_reply_or_report(line, kind, values, self.held.apply(command))
+        self.note_reply_or_report(line, kind, values, self.held.apply_or_return_refusal(command))
 
     def note_reply_or_report(self, line, kind, values, reason):
         """Keeps the facts by which later commands are judged, or reports why the book refuses the command."""
@@ -339,6 +333,12 @@ class Lint:
             count = len(self.others - {None})
             if count > rules.MOST_DAY_PARTICIPANTS:
                 self.add_finding(line, f"`dam day` takes at most {rules.MOST_DAY_PARTICIPANTS} participants, but there are {count}")
+
+
+def without_late_lines(data):
+    """The text without the lines after those that a journal may have, and the first of them."""
+    further = next(itertools.islice(LINE.finditer(data), rules.MOST_RECORDS + 1, None), None)
+    return data[: further.start()] if further else data
 
 
 def first_word(data, comma=b","):

@@ -71,7 +71,7 @@ def parse_sent(data, who, periods, has_none):
     book at the end, having cancelled them."""
     is_table = not WORDS.match(data.removeprefix(text.MARK).lstrip(SPACES))
     if is_table:
-        own, notes, others = parse_table(data, periods, who)
+        own, notes, others = parse_commands_notes_and_others(data, periods, who)
     else:
         every = list(parse_records(data, periods))
         own, notes = [sent for sent in every if sent.command.who == who], []
@@ -82,7 +82,7 @@ def parse_sent(data, who, periods, has_none):
 
 
 def parse_records(data, periods):
-    own = data if lint.first_word(data) == "day" else f"{journal.day_record(periods)}\n".encode() + data
+    own = data if lint.first_word(data) == "day" else f"{journal.day_record_text(periods)}\n".encode() + data
     try:
         read = journal.parse_journal(own)
     except journal.Fault:
@@ -93,7 +93,7 @@ def parse_records(data, periods):
     return [Sent(at, command) for at, command in enumerate(read.commands, first) if not isinstance(command, journal.Close)]
 
 
-def parse_table(data, periods, who):
+def parse_commands_notes_and_others(data, periods, who):
     """The orders of a participant in a table, as the sent commands; notes on the table; and how many others it has."""
     try:
         table = order_table.parse_cells(data)
@@ -101,7 +101,7 @@ def parse_table(data, periods, who):
             raise BadSentText(f"it is a table of commands, with the column {command_table.WHAT}: give records of a journal, or a table of orders")
         orders = order_table.parse_tables([("", table)], periods, who)
     except order_table.BadOrders as fault:
-        is_table = kinds.kind_of(data) == kinds.ORDERS
+        is_table = kinds.kind_or_none(data) == kinds.ORDERS
         where = "its table has rows that aren't orders" if is_table else "it has no journal records and isn't a table of orders"
         raise BadSentText(f"{where}: {fault}") from None
     return [Sent(number, submit) for number, submit in orders.submits], orders.notes, orders.others
@@ -116,7 +116,7 @@ def published_of(read, reasons, who):
     ]
 
 
-def paired(sent, published, key):
+def pairs_and_rests(sent, published, key):
     """Pairs of entries with the same key, by their order; and the rest of both lists."""
     waiting = defaultdict(deque)
     for entry in published:
@@ -135,7 +135,7 @@ def no_proof_words(_):
     return ""
 
 
-def compare_sent(own, published, closed, who, look, proof_words=no_proof_words):
+def faults_and_lines_of_sent(own, published, closed, who, look, proof_words=no_proof_words):
     """The faults of a participant's commands in a journal, and lines about the right ones. A table of orders may have the commands, or
     the orders at the end: of both, the one with fewer differences is meant. `look` is called now and then, and may end the comparison. Of a
     command that isn't in the journal as it was sent, `proof_words` says whether the operator had it."""
@@ -172,13 +172,13 @@ def difference_faults(sent, published, where=JOURNAL, look=lambda: None, proof_w
     there, here = ({place[side] for place in pairs} for side in (0, 1))
     left = [entry for at, entry in enumerate(sent) if at not in there]
     more = [entry for at, entry in enumerate(published) if at not in here]
-    moved, left, more = paired(left, more, lambda command: command)
-    changed, left, more = paired(left, more, lambda command: (type(command), command.name))
+    moved, left, more = pairs_and_rests(left, more, lambda command: command)
+    changed, left, more = pairs_and_rests(left, more, lambda command: (type(command), command.name))
     sent_times = Counter(entry.command for entry in sent)
     faults = [(other.record, moved_fault(one, other)) for one, other in moved]
     faults += [(other.record, changed_fault(one, other, proof_words(one.command))) for one, other in changed]
     found = [(sent[at].record, published[place].record) for at, place in pairs]
-    faults += [(record_before(one, found), missing_fault(one, where, proof_words(one.command))) for one in left]
+    faults += [(record_number_before(one, found), missing_fault(one, where, proof_words(one.command))) for one in left]
     faults += [(other.record, more_fault(other, sent_times[other.command])) for other in more]
     return [fault for _, fault in sorted(faults, key=lambda placed: placed[0])]
 
@@ -189,25 +189,25 @@ def subject_of(entry):
 
 
 def moved_fault(one, other):
-    shown = journal.command_record(one.command)
+    shown = journal.command_record_text(one.command)
     words = f"sent record {one.record} is moved: {other.place} is out of its order: {shown}"
     return Fault(words, "moved", other.line, subject_of(one))
 
 
 def changed_fault(one, other, proof):
-    was, now = journal.command_record(one.command), journal.command_record(other.command)
+    was, now = journal.command_record_text(one.command), journal.command_record_text(other.command)
     words = f"sent record {one.record} is changed: it was '{was}', and {other.place} is '{now}'{proof}"
     return Fault(words, "changed", other.line, subject_of(one))
 
 
 def missing_fault(one, where, proof):
-    words = f"sent record {one.record} is missing in {where}: {journal.command_record(one.command)}{proof}"
+    words = f"sent record {one.record} is missing in {where}: {journal.command_record_text(one.command)}{proof}"
     return Fault(words, "missing", None, subject_of(one))
 
 
 def more_fault(other, times):
     """The fault of a record that wasn't sent, or not as often; its command was sent this many times."""
-    shown = journal.command_record(other.command)
+    shown = journal.command_record_text(other.command)
     if not times:
         return Fault(f"{other.place} was not sent: {shown}", "unsent", other.line, subject_of(other))
     count = "once" if times == 1 else f"{times} times"
@@ -215,7 +215,7 @@ def more_fault(other, times):
     return Fault(words, "repeated", other.line, subject_of(other))
 
 
-def record_before(one, record_pairs):
+def record_number_before(one, record_pairs):
     """The record of the journal that a missing command should come after. Each pair is of a sent record and one of the journal."""
     before = bisect_left(record_pairs, (one.record,))
     return record_pairs[before - 1][1] if before else 0
@@ -224,5 +224,5 @@ def record_before(one, record_pairs):
 def reply_lines(sent, published):
     """The reply to each command, if all are published as they were sent."""
     for one, other in zip(sent, published):
-        shown = journal.command_record(one.command)
+        shown = journal.command_record_text(one.command)
         yield f"sent record {one.record} is {other.place}; the book's reply is {other.reply}: {shown}"

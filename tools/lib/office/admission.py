@@ -24,7 +24,7 @@ class Admission:
             raise Refused(Fault.NOT_FOUND, "there is no such day")
         return writer
 
-    def require_authorized(self, request):
+    def require_authorized_participant(self, request):
         """The participant whose token the request has, and whose name its path has; all others are refused alike."""
         who = request.match_info["who"]
         try:
@@ -43,15 +43,15 @@ class Admission:
         known = self.office.register.is_token_of(request.match_info["who"], token)
         return known and scheme.lower() == "bearer"
 
-    def admit_and_charge(self, request, buckets=None, count=1):
+    def require_writer_and_participant(self, request, buckets=None, count=1):
         """The day and the participant of a request of its own data."""
-        who = self.require_authorized(request)
+        who = self.require_authorized_participant(request)
         budgets.charge_or_refuse(buckets or self.budgets.reads, who, count)
-        writer = self.require_unstopped(request)
+        writer = self.require_unstopped_writer(request)
         require_known(writer)
         return writer, who
 
-    def require_unstopped(self, request):
+    def require_unstopped_writer(self, request):
         """The day of a request. A stopped day shows nothing: its journal may differ from the one that earlier heads sign, or a file may
         have changed."""
         writer = self.require_writer(request)

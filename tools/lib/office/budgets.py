@@ -43,12 +43,12 @@ class Budgets:
         self.charge_address_or_refuse(self.guesses, request, "too many wrong tokens")
 
     def charge_address_or_refuse(self, buckets, request, words):
-        if not self.behind_proxy and (seconds := buckets.take_unless_in_debt(address_or_network(request.remote))):
+        if not self.behind_proxy and (seconds := buckets.charge_and_return_seconds_to_wait(address_or_network(request.remote))):
             request.protocol.is_deaf = True  # else the rest of many requests at once would be read too
             raise Refused(Fault.TOO_FAST, words, seconds=seconds)
 
 
 def charge_or_refuse(buckets, who, count):
     """Charges a participant's request, or refuses it."""
-    if seconds := buckets.take_unless_in_debt(who, count):
+    if seconds := buckets.charge_and_return_seconds_to_wait(who, count):
         raise Refused(Fault.TOO_FAST, "too many requests", seconds=seconds)

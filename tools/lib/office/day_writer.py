@@ -5,7 +5,7 @@ import contextlib
 import functools
 import time
 
-from ..journal.journal import Close, command_record
+from ..journal.journal import Close, command_record_text
 from . import folder, newest, published, publishing
 from .desk import Desk, Ended
 from .ledger import Contradiction, Ledger
@@ -49,13 +49,7 @@ class DayWriter:
 
     @property
     def state(self):
-        if self.fault:
-            return folder.STOPPED
-        if self.published.has_results:
-            return folder.PUBLISHED if self.published.has_journal else folder.RESULTS_THERE
-        if self.ledger.is_closed:
-            return folder.CLOSED
-        return folder.OPEN if self.is_open() else folder.CLOSING
+        return self.files.read_state(self.fault is not None, self.ledger.is_closed, self.is_open())
 
     @property
     def is_healthy(self):
@@ -71,10 +65,10 @@ class DayWriter:
 
     # --- requests
 
-    def submit(self, who, first, commands, is_authorized=lambda: True):
+    def submit_or_refuse(self, who, first, commands, is_authorized=lambda: True):
         """The future numbers of the entries of commands. It is called once the whole request is here, and its time counts."""
         submission = Submission(who, first, commands, is_authorized)
-        if submission.last <= self.ledger.count(who):
+        if submission.last <= self.ledger.own_count(who):
             answer_entered(self.ledger, submission)
             return submission.done
         if self.fault:
@@ -83,7 +77,7 @@ class DayWriter:
             raise Refused(Fault.CLOSED, CLOSED_WORDS)
         if self.newest.is_failing:  # a start wouldn't miss entries that are acknowledged now
             raise Refused(Fault.UNAVAILABLE, "the office's disk can't be written: send the same command again later", seconds=1)
-        share, count = self.ledger.share(who), self.ledger.count(who)
+        share, count = self.ledger.share(who), self.ledger.own_count(who)
         if submission.last > share:
             raise Refused(Fault.SHARE_USED, f"you may enter {share} commands on this day, and have entered {count}", next=count + 1)
         self.queue.add(submission)
@@ -94,10 +88,10 @@ class DayWriter:
     async def enter_batch(self):
         """Enters the batch of the queue. Its submissions are answered once all of it is on the disk."""
         commands, begin = [command for command, _ in self.queue.batch], self.ledger.size
-        records = list(map(command_record, commands))
+        records = list(map(command_record_text, commands))
         entries = zip(commands, records)
-        async for reply in self.desk.enter(records):
-            self.ledger.enter(*next(entries), reply)
+        async for reply in self.desk.enter_and_return_replies(records):
+            self.ledger.enter_or_raise(*next(entries), reply)
             self.counts.add("entries_total")
         self.counts.add("batches_total")
         self.trouble = None
@@ -107,8 +101,8 @@ class DayWriter:
 
     async def answer_batch(self, begin, end, entered):
         """Answers the submissions of a batch, with the heads of their receipts signed."""
-        await self.ledger.sign_ahead(begin, end)
-        self.newest.note_head(self.ledger.head(end))
+        await self.ledger.sign_and_cache_heads(begin, end)
+        self.newest.note_head(self.ledger.signed_head(end))
         for one in entered:
             if one.who is None:
                 one.done.cancel()
@@ -122,13 +116,14 @@ class DayWriter:
             with contextlib.suppress(OSError):
                 self.files.remove(folder.STOPPED_DAY)
             if self.published.is_whole:
-                self.ledger = await asyncio.to_thread(published.read_into_ledger, self.files, self.make_ledger())
+                self.ledger = await asyncio.to_thread(published.read_published_ledger, self.files, self.make_ledger)
                 self.require_signed_entries()
                 self.is_known.set()
             else:
                 await self.run_desk_until_closed()
                 await self.end_desk()
-                await publishing.write_missing_files(self)
+                async for trouble in publishing.write_missing_and_return_troubles(self):
+                    self.trouble = trouble
             self.is_ready.set()
         except Contradiction as fault:
             self.stop_day(str(fault))
@@ -159,7 +154,7 @@ class DayWriter:
             try:
                 await self.open_desk()
                 while not self.ledger.is_closed:
-                    await self.wait_for_commands()
+                    await self.wait_for_commands_or_raise()
                     self.queue.take_batch(self.ledger)
                     if self.queue.batch:
                         await self.enter_batch()
@@ -179,7 +174,7 @@ class DayWriter:
                 pause = min(2 * pause, LONGEST_PAUSE)
         self.queue.refuse_all(Fault.CLOSED, CLOSED_WORDS)
 
-    async def wait_for_commands(self):
+    async def wait_for_commands_or_raise(self):
         """Waits until a command waits. Ends as the desk does if it ends, also while none waits."""
         while not (self.queue.waiting or self.watching.done()):
             self.queue.wake.clear()
@@ -208,13 +203,13 @@ class DayWriter:
     async def open_desk(self):
         began = time.monotonic()
         path = str(self.files.path_of(folder.DESK))
-        self.desk, records, replies = await Desk.open(self.programs.desk, path, self.terms.periods)
+        self.desk, records, replies = await Desk.start_and_read_records(self.programs.desk, path, self.terms.periods)
         self.watching = asyncio.create_task(self.watch_desk(self.desk))
-        self.ledger.enter_rest_of_journal(records, replies)
+        self.ledger.enter_rest_of_journal_or_raise(records, replies)
         self.require_signed_entries()
         self.is_known.set()
         if self.ledger.size:
-            self.newest.note_head(self.ledger.head())
+            self.newest.note_head(self.ledger.signed_head())
         self.is_ready.set()
         self.log_event("desk opened", entries=self.ledger.size, seconds=round(time.monotonic() - began, 3))
 
@@ -222,7 +217,7 @@ class DayWriter:
         """Ends with a contradiction unless the journal has the entries of the heads that the folder has: one that was cut or replaced while
         no office had it in memory is seen here."""
         for name in (folder.SIGNED, folder.HEAD):
-            if head := newest.read_signed_head(self.files.path_of(name), self.ledger.seal.key):
+            if head := newest.read_signed_head_or_none(self.files.path_of(name), self.ledger.seal.key):
                 self.ledger.require_beginning(head, name)
             elif self.files.has(name):
                 self.log_event("signed head not whole", file=name)
@@ -233,7 +228,7 @@ class DayWriter:
             self.watching.cancel()
         if desk:
             with contextlib.suppress(OSError):
-                await desk.close()
+                await desk.end_or_kill()
 
     # --- the close
 

@@ -51,14 +51,14 @@ def demo_terms(seconds):
     )
 
 
-async def enter_orders(writer):
+async def enter_orders_or_stop(writer):
     """Enters the orders that are there already, as their participants would."""
     await writer.is_ready.wait()
     for who in PARTICIPANTS:
-        commands = [found for found in map(heads.command_of, ORDERS) if found.who == who]
+        commands = [found for found in map(heads.command_of_record_or_none, ORDERS) if found.who == who]
         if commands:
             try:
-                await writer.submit(who, 1, commands)
+                await writer.submit_or_refuse(who, 1, commands)
             except Refused as fault:
                 raise command.Stop(f"the demo's own orders weren't entered ({fault}): give more --seconds", command.COMMAND_LINE) from None
 
@@ -70,11 +70,11 @@ async def serve_demo(args, programs):
         register = tokens.Register(office.path_of(folder.PARTICIPANTS))
         made = {who: register.write_new_token(who) for who in PARTICIPANTS}
         day = demo_terms(args.seconds)
-        setup.make_day(office, day)
+        setup.make_day_or_stop(office, day)
         served = Office(office, programs, observed.Log())
 
         async def started(port):
-            await enter_orders(served.writers[day.day])
+            await enter_orders_or_stop(served.writers[day.day])
             page = f"http://{args.host}:{port}/"
             file_io.print_lines([f"the page: {page}", f"the day {day.day} closes in {args.seconds} s; Ctrl-C ends the demo"])
             if not args.no_browser:

@@ -15,7 +15,7 @@ RULES = "LOWEST_PRICE", "HIGHEST_PRICE", "GREATEST_VOLUME", "LONGEST_NAME", "MOS
 OPENAPI = Path(__file__).with_name("openapi.json")
 
 
-def openapi_text(is_demo):
+def read_openapi_text(is_demo):
     """The requests of an office or of a demo, as OpenAPI. The file has both; it marks those that only a demo answers. It names the limits
     on prices, whose numbers are those of the rules."""
     words = OPENAPI.read_text(encoding="utf-8")
@@ -26,7 +26,7 @@ def openapi_text(is_demo):
     return json.dumps(api, indent=1) + "\n"
 
 
-def page_text(name):
+def read_page_part_text(name):
     """A part of the page, in which the page's rules and the words of the book's reasons stand."""
     reasons = {word: reason.words for word, reason in book.REASONS.items()}
     known = {"reasons": reasons, "rules": {name.lower(): getattr(rules, name) for name in RULES}}

@@ -47,18 +47,18 @@ class Odd(ValueError):
     """A file of the office isn't as the office writes it: the words say where."""
 
 
-require_unrepeated = functools.partial(text.require_unrepeated, lambda name: Odd(f"{text.quoted(name)} comes twice"))
+require_unrepeated_members = functools.partial(text.require_unrepeated_members, lambda name: Odd(f"{text.quoted(name)} comes twice"))
 
 
 def parse_terms(data, day):
     """The terms of the day of a name."""
-    value = json.loads(data, object_pairs_hook=require_unrepeated, parse_int=parse_whole_number)
+    value = json.loads(data, object_pairs_hook=require_unrepeated_members, parse_int=parse_whole_number)
     if not isinstance(value, dict):
         raise Odd("it should be an object")
     for name in [*Terms._fields, *value]:
         if name not in value or name not in Terms._fields:
             raise Odd(f"{text.quoted(name)} is {'missing' if name not in value else 'no member of it'}")
-    closes = parse_close(value["closes"])
+    closes = parse_close_or_none(value["closes"])
     for name, is_right, should in (
         ("day", value["day"] == day, f"the name of its folder, {day}"),
         ("periods", type(value["periods"]) is int and value["periods"] in rules.DAYS, f"one of {', '.join(map(str, sorted(rules.DAYS)))}"),
@@ -77,7 +77,7 @@ def parse_whole_number(digits):
     return int(digits) if len(digits) <= MOST_DIGITS else float(digits)
 
 
-def parse_close(word):
+def parse_close_or_none(word):
     """The time of a close; None for any other value."""
     with contextlib.suppress(ValueError):
         if isinstance(word, str) and (found := datetime.datetime.fromisoformat(word)).utcoffset() == datetime.timedelta(0):
@@ -87,7 +87,7 @@ def parse_close(word):
 
 def refuse_shares(shares):
     for who, share in shares.items():
-        if text.parse_participant(who.encode(errors="replace")) is None:
+        if text.parse_participant_or_none(who.encode(errors="replace")) is None:
             raise Odd(f"shares: {text.quoted(who)} should be {text.A_PARTICIPANT}")
         if type(share) is not int or not 0 <= share <= MOST_COMMANDS:
             raise Odd(f"shares: {who} should have a whole number from 0 to {MOST_COMMANDS:,}, and has {shown_value(share)}")
@@ -106,7 +106,7 @@ def is_word_of_form(form, word):
 
 def is_by_participant(value, is_right):
     """Whether a value that was read has a right value for each participant, by its name."""
-    names = isinstance(value, dict) and all(text.parse_participant(name.encode(errors="replace")) for name in value)
+    names = isinstance(value, dict) and all(text.parse_participant_or_none(name.encode(errors="replace")) for name in value)
     return names and all(map(is_right, value.values()))
 
 
@@ -187,6 +187,17 @@ class DayFolder:
     def remove(self, name):
         self.path_of(name).unlink(missing_ok=True)
 
+    def read_state(self, is_stopped, is_closed, is_open):
+        """The state of the day: by its files, by whether the office has stopped it, whether its journal has the close, and whether a
+        command that arrives now is in time."""
+        if is_stopped:
+            return STOPPED
+        if self.has(RESULTS):
+            return PUBLISHED if self.has(OPEN_JOURNAL) else RESULTS_THERE
+        if is_closed:
+            return CLOSED
+        return OPEN if is_open else CLOSING
+
     def require_room(self):
         """Ends with an OSError unless the disk takes a batch of the desk now."""
         with naming_file(self.path), tempfile.TemporaryFile(dir=self.path) as file:
@@ -200,7 +211,7 @@ class DayFolder:
 
     def read_salts(self):
         with stopping_if_damaged(self.path_of(SALTS), "the salts of a day"):
-            return heads.parse_line(self.read_file(SALTS), heads.parse_salts)[0]
+            return heads.parse_value_and_is_written(self.read_file(SALTS), heads.parse_salts)[0]
 
 
 class Folder:
@@ -234,20 +245,20 @@ class Folder:
         from ..seal import signing
 
         found = self.path_of(PUBLIC).read_bytes()
-        if found.split() != signing.public_text(key).split():
+        if found.split() != signing.public_bytes(key).split():
             raise command.Stop(f"{command.shown(self.path_of(PUBLIC))} isn't the public key of {KEY}: put back the file that was changed")
         return found.decode("ascii")
 
-    def list_days(self):
+    def list_folders_by_day(self):
         """The folder of each day, by its name."""
         with contextlib.suppress(FileNotFoundError):
             names = sorted(entry.name for entry in os.scandir(self.path_of(DAYS)) if heads.DAY.fullmatch(entry.name) and entry.is_dir())
             return {name: DayFolder(self.path_of(DAYS) / name) for name in names if not name.startswith(".")}
         return {}
 
-    def require_day(self, name):
+    def require_day_name_and_folder(self, name):
         """The folder of a day; the only one if none is named."""
-        days = self.list_days()
+        days = self.list_folders_by_day()
         if name is None and len(days) == 1:
             return next(iter(days.items()))
         if name not in days:

@@ -18,7 +18,7 @@ PIECE = 1 << 14  # bytes that are parsed without a look at these limits
 MOST_UNSENT = 1 << 16  # bytes of an answer in pieces that wait to be sent
 MOST_HEAD = 1 << 15  # bytes of a request's head
 HEAD_END = re.compile(rb"\n(?:\n|\r.)", re.DOTALL)  # of its last line, and an empty one; as lax as the parser, to which CR is enough
-MOST_LINE = 1 << 12  # bytes of a line of a head
+MOST_LINE_BYTES = 1 << 12  # bytes of a line of a head
 MOST_BUCKETS = 10_000
 NETWORK = 64  # bits of an IPv6 address that all addresses of one connection to the network have
 WAITS = "100-continue"  # the expectation of a client that waits for an answer before it sends the body
@@ -47,7 +47,7 @@ class Buckets:
         """Takes tokens, also if there aren't as many: the bucket is in debt then."""
         self.held[name] = self.tokens_left(name) - count, self.now()
 
-    def take_unless_in_debt(self, name, count=1):
+    def charge_and_return_seconds_to_wait(self, name, count=1):
         """Takes tokens, if there is one; the bucket may be in debt afterwards. Returns the seconds until it isn't, or 0."""
         if len(self.held) >= MOST_BUCKETS:
             self.held = {other: bucket for other, bucket in self.held.items() if self.tokens_left(other) < self.most}
@@ -85,7 +85,7 @@ class Handler(web_protocol.RequestHandler):
     __slots__ = ("head_bytes", "head_tail", "payload", "length", "is_deaf")
 
     def __init__(self, *words, **how):
-        super().__init__(*words, max_line_size=MOST_LINE, max_field_size=MOST_LINE, **how)
+        super().__init__(*words, max_line_size=MOST_LINE_BYTES, max_field_size=MOST_LINE_BYTES, **how)
         self.head_bytes, self.head_tail = 0, b""  # of the head that is coming: how many have come, and the last ones
         self.payload, self.length = None, 0  # the body of the last request, and how many bytes it has
         self.is_deaf = False  # what comes isn't read any more, and the connection ends after its answer
@@ -105,7 +105,7 @@ class Handler(web_protocol.RequestHandler):
         while at < len(data):
             if self.is_deaf or self.transport is None or self.transport.is_closing():
                 return
-            piece = self.cut_first_piece(data[at : at + PIECE])
+            piece = self.note_tail_and_cut_first_piece(data[at : at + PIECE])
             at += len(piece)
             try:
                 self.parse_piece(piece)
@@ -113,7 +113,7 @@ class Handler(web_protocol.RequestHandler):
                 self._manager.counts.add("connections_malformed_total")
                 self.transport.abort()
 
-    def cut_first_piece(self, data):
+    def note_tail_and_cut_first_piece(self, data):
         """The beginning of some bytes up to the end of a body or a head, so that each piece is of one of them alone."""
         if self.body_left:
             return data[: self.body_left]

@@ -30,7 +30,7 @@ class Ledger:
     def is_closed(self):
         return self.book.closed
 
-    def enter(self, command, record, reply):
+    def enter_or_raise(self, command, record, reply):
         """Adds an entry that is on the disk: the command, its record, and the desk's reply."""
         if reply not in heads.REPLIES:
             raise Contradiction(f"the desk gave entry {self.size + 1} a reply that no book has")
@@ -41,20 +41,20 @@ class Ledger:
         if reply == heads.DONE:
             self.book.carry_out(command)
 
-    def enter_rest_of_journal(self, records, replies):
+    def enter_rest_of_journal_or_raise(self, records, replies):
         """Enters the rest of the journal that a desk shows at its opening: it begins with the entries that are here."""
         held = [(entry.record, entry.reply) for entry in self.seal.entries]
         if list(zip(records, replies, strict=True))[: len(held)] != held:
             raise Contradiction(f"the desk's journal doesn't begin with the {len(held)} entries that it has answered")
-        text = "".join(f"{record}\n" for record in [journal.day_record(self.seal.periods), *records])
+        text = "".join(f"{record}\n" for record in [journal.day_record_text(self.seal.periods), *records])
         try:
             commands = journal.parse_journal(text.encode("ascii")).commands
         except (journal.Fault, UnicodeEncodeError) as fault:
             raise Contradiction(f"the desk shows no journal: {fault}") from None
-        if list(map(journal.command_record, commands)) != records:
+        if list(map(journal.command_record_text, commands)) != records:
             raise Contradiction("the desk shows records that aren't in their written form")
         for entry in list(zip(commands, records, replies))[len(held) :]:
-            self.enter(*entry)
+            self.enter_or_raise(*entry)
 
     def require_beginning(self, head, where):
         """Ends with a contradiction unless the journal begins with the entries of a head that was signed, which a file has."""
@@ -64,53 +64,53 @@ class Ledger:
             begins = f"doesn't begin with the {head.size} entries of the signed head in {where}"
             raise Contradiction(f"OtherEntries: the desk's journal {begins}")
 
-    def count(self, who):
+    def own_count(self, who):
         """How many commands of a participant are entered."""
         return len(self.own[who]) if who in self.own else 0
 
     def share(self, who):
         return self.shares.get(who, 0)
 
-    def entry(self, who, number):
+    def entry_record_and_reply(self, who, number):
         """A participant's command by its own number, from 1: its entry in the journal, its record and the reply."""
         entry = self.own[who][number - 1]
         found = self.seal.entries[entry - 1]
         return entry, found.record, found.reply
 
-    def entries(self, who, since=0):
+    def own_entries(self, who, since=0):
         """All of them, or those after this number, each with its own number first."""
-        return [(number, *self.entry(who, number)) for number in range(since + 1, self.count(who) + 1)]
+        return [(number, *self.entry_record_and_reply(who, number)) for number in range(since + 1, self.own_count(who) + 1)]
 
-    def orders(self, who):
+    def own_orders(self, who):
         """A participant's orders in the book, in its order, each with its name."""
         return [(name, order) for (owner, name), order in self.book.rows.items() if owner == who]
 
-    def sign_heads(self, heads_found):
+    def signed_heads(self, heads_found):
         """Signs heads. It touches nothing else here, and so may run in a thread of its own."""
-        return [signing.sign(self.seal.key, head) for head in heads_found]
+        return [signing.signed_head(self.seal.key, head) for head in heads_found]
 
-    async def sign_ahead(self, begin, end):
+    async def sign_and_cache_heads(self, begin, end):
         """Signs the heads of the entries after `begin` up to `end`, while the next ones are entered."""
         seal = self.seal
         unsigned = [heads.Head(seal.day, seal.periods, size, seal.tree.root(size)) for size in range(begin + 1, end + 1)]
-        signed = await asyncio.get_running_loop().run_in_executor(SIGNING, self.sign_heads, unsigned)
+        signed = await asyncio.get_running_loop().run_in_executor(SIGNING, self.signed_heads, unsigned)
         self.heads.update(zip(range(begin + 1, end + 1), signed))
 
-    def head(self, size=None):
+    def signed_head(self, size=None):
         """The signed head of the first entries, or of all."""
         size = self.size if size is None else size
         if size not in self.heads:
-            self.heads[size] = self.seal.head(size)
+            self.heads[size] = self.seal.signed_head(size)
         return self.heads[size]
 
     def receipt(self, entry):
         """The receipt of an entry: under the head of the entries up to this one, so that it is the same at any time."""
-        return self.seal.receipt(entry, self.head(entry))
+        return self.seal.receipt(entry, self.signed_head(entry))
 
-    def journal_text(self):
-        lines = [journal.day_record(self.seal.periods), *(entry.record for entry in self.seal.entries)]
+    def journal_bytes(self):
+        lines = [journal.day_record_text(self.seal.periods), *(entry.record for entry in self.seal.entries)]
         return "".join(f"{line}\n" for line in lines).encode()
 
-    def replies_text(self):
+    def replies_bytes(self):
         lines = [f"day,{self.seal.periods}", *(f"{number},{entry.reply}" for number, entry in enumerate(self.seal.entries, 1))]
         return "".join(f"{line}\n" for line in lines).encode()

@@ -12,11 +12,11 @@ from .ledger import Contradiction
 PAUSE = 0.2  # seconds
 
 
-def read_signed_head(path, key):
+def read_signed_head_or_none(path, key):
     """The head in a file. None without the file, or if it isn't whole: a crash may leave it so. Ends with a contradiction if it is whole,
     and this key hasn't signed it: the office would sign a day with two keys."""
     try:
-        head, _ = heads.parse_line(path.read_bytes(), heads.parse_head)
+        head, _ = heads.parse_value_and_is_written(path.read_bytes(), heads.parse_head)
     except (FileNotFoundError, heads.BadRecord):
         return None
     if not signing.is_signed(key.public_key(), head):
@@ -58,7 +58,7 @@ class Newest:
                 return
             made = self.path.with_name(f".{self.path.name}")
             try:
-                made.write_bytes(heads.line_of(head))
+                made.write_bytes(heads.line_bytes_of(head))
                 os.replace(made, self.path)
                 self.written, self.is_failing = head, False
             except OSError as fault:

@@ -6,44 +6,46 @@ import datetime
 import time
 
 from ..base import text
+from ..journal import journal
 from ..tool import command
 from . import folder, tokens
-from .desk import Ended, run_for_records
+from .desk import Ended, capture_records
 
 CLOSE_SECONDS, TELL_SECONDS, STEP = 60, 2, 0.05  # to wait for the results of a close, and until it says why it waits
 
 
-def read_day_state(files, desk, is_served=False):
+def capture_day_record_or_stop(files, desk, is_served=False):
     """A day in a record, by its files, and by whether the office is served."""
     terms = files.read_terms()
     has = files.has
-    left = (terms.closes - datetime.datetime.now(datetime.timezone.utc)).total_seconds()
-    try:
-        records = asyncio.run(run_for_records(desk, str(files.path_of(folder.DESK))))[1:] if has(folder.DESK) else []
-    except (Ended, OSError) as fault:
-        raise command.Stop(f"the journal of {terms.day} can't be read: {fault}") from None
-    is_closed = bool(records) and records[-1].startswith("close,")
-    state = folder.OPEN if left > 0 and not has(folder.CLOSE_NOW) else folder.CLOSING
-    state = folder.CLOSED if is_closed else state
-    if has(folder.RESULTS):
-        state = folder.PUBLISHED if has(folder.OPEN_JOURNAL) else folder.RESULTS_THERE
+    commands = capture_commands_or_stop(terms.day, files, desk) if has(folder.DESK) else []
+    is_closed = bool(commands) and isinstance(commands[-1], journal.Close)
+    is_open = not is_closed and not has(folder.CLOSE_NOW) and datetime.datetime.now(datetime.timezone.utc) < terms.closes
     stopped = read_stop_reason(files) if is_served and has(folder.STOPPED_DAY) else None
-    state = folder.STOPPED if stopped else state
     counts = dict.fromkeys(terms.shares, 0)
-    for record in records:
-        who = record.split(",")[1]
-        counts.update({who: counts.get(who, 0) + 1} if who else {})
+    for one in commands:
+        if not isinstance(one, journal.Close):
+            counts[one.who] = counts.get(one.who, 0) + 1
     return {
         "day": terms.day,
-        "state": state,
+        "state": files.read_state(stopped is not None, is_closed, is_open),
         "stopped": stopped,
         "periods": terms.periods,
         "closes": terms.closes.isoformat(),
         "zone": terms.zone,
-        "entries": len(records),
+        "entries": len(commands),
         "commands": {who: {"entered": count, "share": terms.shares.get(who, 0)} for who, count in counts.items()},
         "journal_published": has(folder.RESULTS) and has(folder.OPEN_JOURNAL),
     }
+
+
+def capture_commands_or_stop(day, files, desk):
+    """The commands of a day's journal, as its desk shows them."""
+    try:
+        records = asyncio.run(capture_records(desk, str(files.path_of(folder.DESK))))
+        return journal.parse_journal("".join(f"{record}\n" for record in records).encode()).commands if records else []
+    except (Ended, OSError, journal.Fault) as fault:
+        raise command.Stop(f"the journal of {day} can't be read: {fault}") from None
 
 
 def read_stop_reason(files):
@@ -51,19 +53,19 @@ def read_stop_reason(files):
     return files.read_file(folder.STOPPED_DAY).decode(errors="replace").strip() or "the log says why"
 
 
-def read_day_or_fault(name, files, desk, is_served):
+def capture_day_record_or_fault(name, files, desk, is_served):
     """A day in a record; the fault alone, if its files can't be read."""
     try:
-        return read_day_state(files, desk, is_served)
+        return capture_day_record_or_stop(files, desk, is_served)
     except (OSError, command.Stop) as fault:
         return {"day": name, "fault": command.status_and_message(fault)[1]}
 
 
-def read_status(office, desk):
+def capture_status_record(office, desk):
     """The days of an office, and whether it is served."""
     register = tokens.Register(office.path_of(folder.PARTICIPANTS))
     is_served = office.is_served()
-    days = [read_day_or_fault(name, files, desk, is_served) for name, files in office.list_days().items()]
+    days = [capture_day_record_or_fault(name, files, desk, is_served) for name, files in office.list_folders_by_day().items()]
     return {"served": is_served, "participants": len(register.read_names()), "revoked": register.read_revoked(), "days": days}
 
 
@@ -88,7 +90,7 @@ def write_request(files, name):
         folder.give_to_owner_of(files.path_of(name), files.path)
 
 
-def close_and_wait_for_results(office, day, files):
+def close_and_wait_or_stop(office, day, files):
     """Closes a day now. If the office runs, waits for the results. Returns whether there are results. A stopped day isn't closed: its
     journal may lack entries."""
     is_served = office.is_served()
@@ -122,7 +124,7 @@ def find_why_waiting(day, files):
     return f"{day} has no {missing} yet: the office's log says why"
 
 
-def write_publish_request(day, files):
+def write_publish_request_or_stop(day, files):
     """Leaves the request to publish the results of all orders, the journal and the replies of a day, which should have results."""
     if not files.has(folder.RESULTS):
         raise command.Stop(f"{day} has no results yet, and is published after them")

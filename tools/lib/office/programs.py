@@ -6,9 +6,9 @@ import shutil
 import subprocess
 from typing import NamedTuple
 
+from ..base import async_child
 from ..runs import by_program, errors, which
 from ..tool import command
-from .desk import end_words, exchange_pipes
 
 EMPTY_DAY = b"day,24,,,,,,,\nclose,,,,,,,,\n"
 TRIAL_SECONDS = 600  # that it may take to clear: a clone may compile its program first
@@ -21,7 +21,7 @@ class Programs(NamedTuple):
     desk: str
 
 
-def compile_unproved(crate):
+def compile_unproved_or_none(crate):
     """The program of a crate that is compiled without proofs, which only a clone can do; None elsewhere."""
     tool = which.TOP / "tools" / "unproved"
     if not os.access(tool, os.X_OK):
@@ -46,7 +46,7 @@ def require_dam(named=None, may_compile=False):
     """The program dam: the one that is named, or else the package's, the clone's or the system's; or, if it may be compiled, the clone's
     without proofs."""
     found = which.find_program()
-    path = named or os.environ.get("DAM") or (found.path if found else None) or (compile_unproved("dam_cli") if may_compile else None)
+    path = named or os.environ.get("DAM") or (found.path if found else None) or (compile_unproved_or_none("dam_cli") if may_compile else None)
     return require_runnable(path, "dam", "--dam")
 
 
@@ -54,7 +54,7 @@ def require_desk(named=None, may_compile=False):
     """The program dam-desk, found the same way."""
     here = DESK_BUILT if os.access(DESK_BUILT, os.X_OK) else None
     path = named or os.environ.get("DAM_DESK") or which.find_packaged("bin", "dam-desk") or here or shutil.which("dam-desk")
-    return require_runnable(path or (compile_unproved("dam_desk") if may_compile else None), "dam-desk", "--desk")
+    return require_runnable(path or (compile_unproved_or_none("dam_desk") if may_compile else None), "dam-desk", "--desk")
 
 
 def run_and_require_clearing(path):
@@ -75,7 +75,7 @@ def run_and_require_clearing(path):
     else:
         if not process.returncode and by_program.has_results(out):
             return
-        fault = f"it {end_words(process.returncode)}" if process.returncode else "it printed no results"
+        fault = f"it {async_child.end_words(process.returncode)}" if process.returncode else "it printed no results"
     raise command.Stop(f"the program dam didn't clear an empty day: {command.shown(path)}: {fault}", command.FAILED)
 
 
@@ -90,12 +90,12 @@ class ProgramFailed(Exception):
     """A program failed, or the disk did."""
 
 
-async def run_for_output(*words, data=b"", seconds=MOST_SECONDS):
-    """What a program prints. It has no other part in this process: its fault, or a late end, is `Failed`."""
+async def capture_output_or_raise(*words, data=b"", seconds=MOST_SECONDS):
+    """What a program prints. It has no other part in this process: its fault, or a late end, is `ProgramFailed`."""
     pipes = {name: asyncio.subprocess.PIPE for name in ("stdin", "stdout", "stderr")}
     process = await asyncio.create_subprocess_exec(*words, start_new_session=True, **pipes)
     try:
-        out, err = await asyncio.wait_for(exchange_pipes(process, words[0], data), seconds)
+        out, err = await asyncio.wait_for(async_child.feed_and_capture_output_and_errors(process, words[0], data), seconds)
     except asyncio.TimeoutError:
         raise ProgramFailed(f"{os.path.basename(words[0])} took more than {seconds} s") from None
     finally:
@@ -104,5 +104,5 @@ async def run_for_output(*words, data=b"", seconds=MOST_SECONDS):
             await process.wait()
     if process.returncode:
         said = err.decode(errors="replace").strip()
-        raise ProgramFailed(f"{os.path.basename(words[0])} {end_words(process.returncode)}: {said}")
+        raise ProgramFailed(f"{os.path.basename(words[0])} {async_child.end_words(process.returncode)}: {said}")
     return out

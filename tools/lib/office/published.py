@@ -48,7 +48,7 @@ class Published:
     def has_journal(self):
         return self.has_results and self.files.has(folder.OPEN_JOURNAL)
 
-    def read_prices(self, periods):
+    def read_and_cache_prices_text(self, periods):
         """The first lines of the results without the welfare: the day and the periods. They stay the same, and are read once."""
         if self.text is None:
             with self.files.path_of(folder.RESULTS).open(encoding="ascii") as results:
@@ -56,7 +56,7 @@ class Published:
             self.text = "".join(lines[:1] + lines[2:])
         return self.text
 
-    def read_statement(self, who):
+    def read_and_cache_statement_or_none(self, who):
         """A participant's commands with what became of them; None before they are published. Until the journal is, nothing in it tells of
         the orders of others but the prices and volumes."""
         if self.rows is None and self.is_whole:
@@ -73,12 +73,12 @@ class Published:
             return {"day": day, "rows": [{**row, "why": without_own_participant(row["why"], who)} for row in rows]}
         return {"day": {name: value for name, value in day.items() if name not in SUMS}, "rows": list(map(without_words_of_others, rows))}
 
-    def read_statement_text(self, who):
+    def read_and_cache_text_or_none(self, who):
         """The statement in JSON, which is kept as it is sent; None before there is one."""
         key = who, self.has_journal
         with self.lock:  # it is made in a thread of its own
             if key not in self.texts:
-                found = self.read_statement(who)
+                found = self.read_and_cache_statement_or_none(who)
                 if found is None:
                     return None
                 while len(self.texts) >= MOST_TEXTS:
@@ -102,18 +102,19 @@ def without_words_of_others(row):
     return {**row, "why": why, "code": code if code in TOLD else None}
 
 
-def read_into_ledger(files, ledger):
-    """The ledger, with the journal of a day that is published, which has to be that of its head. The files of it are compared whole."""
+def read_published_ledger(files, make_ledger):
+    """A new ledger with the journal of a day that is published, which has to be that of its head. The files of it are compared whole."""
+    ledger = make_ledger()
     try:
         written, replies = files.read_file(folder.JOURNAL), files.read_file(folder.REPLIES)
         own = [line.partition(",")[2] for line in replies.decode("ascii").splitlines()[1:]]
-        ledger.enter_rest_of_journal(written.decode("ascii").splitlines()[1:], own)
-        if (written, replies) != (ledger.journal_text(), ledger.replies_text()):
+        ledger.enter_rest_of_journal_or_raise(written.decode("ascii").splitlines()[1:], own)
+        if (written, replies) != (ledger.journal_bytes(), ledger.replies_bytes()):
             raise Contradiction("the entries are right, and their files have other bytes")
         head = files.read_file(folder.HEAD)
     except (FileNotFoundError, ValueError, Contradiction):
         raise Contradiction(f"{folder.JOURNAL}, {folder.REPLIES} or {folder.HEAD} is missing or damaged") from None
-    if heads.line_of(ledger.head()) != head:
+    if heads.line_bytes_of(ledger.signed_head()) != head:
         raise Contradiction("the published head isn't of the journal next to it, or isn't of this key")
     require_unchanged(files)
     return ledger

@@ -8,14 +8,15 @@ import time
 from ..base import place, replacing
 from ..seal import heads
 from . import folder
-from .programs import ProgramFailed, run_for_output
+from .programs import ProgramFailed, capture_output_or_raise
 from .published import sha256_hex
 
 FIRST_PAUSE, LONGEST_PAUSE = 1.0, 60.0  # seconds before a step that failed is tried again
 
 
-async def write_missing_files(writer):
-    """Makes the files of a closed day, each once; a step that fails is tried again."""
+async def write_missing_and_return_troubles(writer):
+    """Makes the files of a closed day, each once; a step that fails is tried again. After each try, yields why its file wasn't made, or
+    None if it was."""
     for step, name in ((write_journal_and_head, folder.HEAD), (write_results, folder.RESULTS), (write_statement, folder.STATEMENT)):
         pause = FIRST_PAUSE
         while True:
@@ -24,27 +25,27 @@ async def write_missing_files(writer):
                 await step(writer)
                 break
             except (ProgramFailed, OSError) as fault:
-                writer.trouble = str(fault)
+                yield str(fault)
                 writer.log_event("not made", file=name, fault=str(fault))
                 writer.counts.add("publish_faults_total")
                 await asyncio.sleep(pause)
                 pause = min(2 * pause, LONGEST_PAUSE)
-        writer.trouble = None
+        yield None
         writer.log_event("made", file=name, seconds=round(time.monotonic() - began, 3))
 
 
 async def write_journal_and_head(writer):
     """The head of the whole journal, which no later one follows, with the journal and its replies."""
-    for name, data in ((folder.JOURNAL, writer.ledger.journal_text()), (folder.REPLIES, writer.ledger.replies_text())):
+    for name, data in ((folder.JOURNAL, writer.ledger.journal_bytes()), (folder.REPLIES, writer.ledger.replies_bytes())):
         with folder.naming_file(writer.files.path_of(name)):
             replacing.write_replacing(writer.files.path_of(name), data)
-    folder.write_synced(writer.files.path_of(folder.HEAD), heads.line_of(writer.ledger.head()))
+    folder.write_synced(writer.files.path_of(folder.HEAD), heads.line_bytes_of(writer.ledger.signed_head()))
 
 
 async def write_results(writer):
     """The results, by `dam clear`."""
     if not writer.published.has_results:
-        made = await run_for_output(writer.programs.dam, "clear", data=writer.files.read_file(folder.JOURNAL))
+        made = await capture_output_or_raise(writer.programs.dam, "clear", data=writer.files.read_file(folder.JOURNAL))
         folder.write_synced(writer.files.path_of(folder.RESULTS), made)
 
 
@@ -53,7 +54,7 @@ async def write_statement(writer):
     if not writer.files.has(folder.STATEMENT):
         tool = str(place.FOLDER / "table")
         paths = (str(writer.files.path_of(name)) for name in (folder.JOURNAL, folder.RESULTS))
-        made = await run_for_output(sys.executable, "-I", "-B", tool, "--rows", "statement", "--json", "--quiet", *paths)
+        made = await capture_output_or_raise(sys.executable, "-I", "-B", tool, "--rows", "statement", "--json", "--quiet", *paths)
         sums = {folder.RESULTS: sha256_hex(writer.files.read_file(folder.RESULTS)), folder.STATEMENT: sha256_hex(made)}
         folder.write_synced(writer.files.path_of(folder.SUMS), folder.json_bytes(sums))  # first: a statement that is there has its sum
         folder.write_synced(writer.files.path_of(folder.STATEMENT), made)

@@ -20,7 +20,7 @@ MOST_LINTED, MOST_LINES = 1 << 12, 20  # bytes and lines of a body of which all 
 WITH_DAY = re.compile(rb'[\r\n]*"?day"?,')  # at the beginning of a body
 RECORD = re.compile("record ([0-9]+)")
 CODE = re.compile(rf" \((?:{'|'.join(book.REASONS)})\)$", re.MULTILINE)  # of the book, behind its words in a table's fault
-DAY = f"{journal.day_record(rules.GREATEST_PERIOD)}\n".encode()  # before records; the desk's book knows the day's periods
+DAY = f"{journal.day_record_text(rules.GREATEST_PERIOD)}\n".encode()  # before records; the desk's book knows the day's periods
 
 
 class BadRequest(Exception):
@@ -61,13 +61,13 @@ def fault_words(body, fault):
     return " " + RECORD.sub(lambda found: f"record {int(found[1]) - 1}", str(fault).removeprefix("input: "))
 
 
-require_unrepeated = functools.partial(text.require_unrepeated, lambda _: BadRequest("an object has two members of one name"))
+require_unrepeated_members = functools.partial(text.require_unrepeated_members, lambda _: BadRequest("an object has two members of one name"))
 
 
 def parse_json_records(body, who, first):
     """The records of a command in JSON, or of a list of commands."""
     try:
-        value = json.loads(body, object_pairs_hook=require_unrepeated)
+        value = json.loads(body, object_pairs_hook=require_unrepeated_members)
     except BadRequest:
         raise
     except (ValueError, RecursionError):
@@ -88,8 +88,8 @@ def parse_json_record(value, who, command):
     if not needed <= given <= needed | further:
         raise BadRequest(f"{command}: {kind} has the members {', '.join(['what', *sorted(needed | further)])}")
     words = {name: require_word(value[name], command, name) for name in given - {"price", "volumes"}}
-    price = require_number(value["price"], command, "price") if "price" in given else ""
-    volumes = require_volumes(value["volumes"], command) if "volumes" in given else ""
+    price = require_number_text(value["price"], command, "price") if "price" in given else ""
+    volumes = require_volumes_text(value["volumes"], command) if "volumes" in given else ""
     of = words.get
     return ",".join([kind, who, of("order"), of("kind", ""), of("side", ""), price, volumes, of("parent", ""), of("group", "")])
 
@@ -100,31 +100,31 @@ def require_word(value, command, name):
     return value
 
 
-def require_number(value, command, name):
+def require_number_text(value, command, name):
     if type(value) is not int or abs(value) > rules.HIGHEST_PRICE:
         raise BadRequest(f"{command}: {name} should be an integer, prices in cents per MWh, volumes in tenths of a MW")
     return str(value)
 
 
-def require_volumes(value, command):
+def require_volumes_text(value, command):
     """Pairs of a period and a volume."""
     if not isinstance(value, list) or not 0 < len(value) <= rules.GREATEST_PERIOD:
         raise BadRequest(f"{command}: volumes should be a list of 1 to {rules.GREATEST_PERIOD} pairs [period, volume]")
     if not all(isinstance(pair, list) and len(pair) == 2 for pair in value):
         raise BadRequest(f"{command}: volumes should be a list of pairs [period, volume]")
-    return ";".join(":".join(require_number(part, command, "a volume") for part in pair) for pair in value)
+    return ";".join(":".join(require_number_text(part, command, "a volume") for part in pair) for pair in value)
 
 
 def parse_table_records_and_notes(data, who, periods, orders=()):
     """The records of a table of orders or of commands of this participant, whose orders in the book are pairs of a name and a kind; and
     notes on how it was read. Nothing is entered."""
-    kind = kinds.kind_of(data)
+    kind = kinds.kind_or_none(data)
     if kind in kinds.FILES - {kinds.EXCEL, kinds.LOCKED}:  # a participant may have no tool that converts it
         raise BadRequest(f"this is {kind}: save the table as .xlsx or as CSV")
     try:
         cells = order_table.parse_cells(data)
         if command_table.is_command_table(cells):
-            placed, notes = command_table.parse_commands(cells, periods)
+            placed, notes = command_table.parse_commands_and_notes(cells, periods)
         else:
             orders = order_table.parse_tables([("", cells)], periods, held=(who, orders))
             placed, notes = orders.submits, orders.notes
@@ -134,7 +134,7 @@ def parse_table_records_and_notes(data, who, periods, orders=()):
         raise BadRequest(CODE.sub("", str(fault))) from None
     records, others = [], []
     for _, command in placed:
-        records.append(journal.command_record(command))
+        records.append(journal.command_record_text(command))
         others += [] if command.who == who else [f"{command.name} of {command.who}"]
     if others:
         of_others = f"the table has {text.counted(len(others), 'command')} of other participants than {who}"

@@ -46,12 +46,12 @@ class Office:
         self.writers, self.tasks = {}, []
         self.missed = {}  # by the name of a day, why it isn't served; by None, why the days or the tokens aren't known
 
-    def take_up_days(self):
+    def take_up_days_and_return_missed(self):
         """Takes up the days that aren't yet; those that are open come first. Returns the faults of those that can't be."""
         missed, new = {}, []
         with noting_unreadable(None, missed):
             self.register.read_if_changed()
-        for name, files in self.files.list_days().items():
+        for name, files in self.files.list_folders_by_day().items():
             with noting_unreadable(name, missed):
                 if name not in self.writers:
                     new.append((files.has(folder.STATEMENT), name, files))
@@ -75,7 +75,7 @@ class Office:
     async def take_up_days_forever(self):
         while True:
             try:
-                self.log_missed(self.take_up_days())
+                self.log_missed(self.take_up_days_and_return_missed())
             except OSError as fault:  # such as too many open files: the days that are served go on
                 self.log_missed({None: str(fault)})
             await asyncio.sleep(LOOK_SECONDS)

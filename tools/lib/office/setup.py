@@ -58,7 +58,7 @@ def require_terms(args, shares, now=None):
     if args.periods not in rules.DAYS:
         raise command.Stop(f"--periods should be one of {', '.join(map(str, sorted(rules.DAYS)))}", command.COMMAND_LINE)
     try:
-        shapes.begin_times(date, args.periods, args.zone)
+        shapes.begin_times_or_raise(date, args.periods, args.zone)
     except shapes.BadDate as fault:
         raise command.Stop(f"--periods: {fault}", command.COMMAND_LINE) from None
     closes = require_close(args.close, date, zone)
@@ -72,15 +72,15 @@ def is_closing_late(terms):
     return terms.closes.astimezone(zoneinfo.ZoneInfo(terms.zone)).date() >= require_date(terms.day)
 
 
-def read_participants(path):
+def read_shares_and_print_notes(path):
     """The participants of a table, CSV or Excel, with the column participant; and how many commands each may enter, if a column commands
     says it."""
     data, notes = file_io.read_bytes(path), []
-    kind = kinds.kind_of(data)
+    kind = kinds.kind_or_none(data)
     if kind in kinds.FILES - {kinds.EXCEL}:
         raise command.Stop(f"{command.shown(path)} is {kind}: save the table as .xlsx or as CSV")
     try:
-        found = parse_participants(data, notes)
+        found = parse_shares_and_append_notes(data, notes)
     except (sheets.BadTable, order_table.BadOrders) as fault:
         lines = "\n  ".join([*str(fault).split("\n"), *notes])
         raise command.Stop(f"{command.shown(path)}: {lines}") from None
@@ -91,27 +91,27 @@ def read_participants(path):
     return found
 
 
-def parse_participants(data, notes):
+def parse_shares_and_append_notes(data, notes):
     """The same of a table's bytes. A cell that would be lost is a fault. Notes say how the table was read."""
-    (line, header), *rows = list(sheets.parse_rows(data, [WHO], notes, folder.MOST_COMMANDS)[0]) or [(1, [])]
-    table = order_table.Table("", rows, find_columns(line, header), len(header), False, [], notes)
+    (line, header), *rows = list(sheets.parse_rows_and_add_notes(data, [WHO], notes, folder.MOST_COMMANDS)[0]) or [(1, [])]
+    table = order_table.Table("", rows, require_columns(line, header), len(header), False, [], notes)
     order_table.refuse_unnamed(header, rows)
     found, lines, wrong = {}, {}, order_table.Faults()
     for line, cells in rows:
         row = order_table.Row(cells, table, None)
-        who, share = row.parse_cell_or_note_fault(WHO, cell_values.parse_participant), row.parse_cell_or_note_fault(SHARE, parse_share)
+        who, share = row.parse_cell_or_note_fault(WHO, cell_values.parse_participant), row.parse_cell_or_note_fault(SHARE, parse_share_or_none)
         if who and who in lines:
             row.faults.append(f"column {WHO}: {who} is in line {lines[who]} too")
         found[who] = share
         lines.setdefault(who, line)
         for words in row.faults:
-            wrong.add(order_table.row_fault(line, words))
+            wrong.add(order_table.row_fault_words(line, words))
     if wrong.count:
-        raise wrong.as_one_fault()
+        raise wrong.as_one_error()
     return found
 
 
-def find_columns(line, header):
+def require_columns(line, header):
     """Where the columns of a table of participants stand. It has no others."""
     names, columns = sheets.column_names(header), f"the columns are {WHO}, {SHARE}"
     if WHO not in names:
@@ -124,7 +124,7 @@ def find_columns(line, header):
     return order_table.Places({name: at for at, name in enumerate(names) if name})
 
 
-def parse_share(cell):
+def parse_share_or_none(cell):
     """How many commands a participant may enter; None if its cell is empty."""
     if cell and not (cell.isascii() and cell.isdigit() and len(cell) < 6):
         raise order_table.BadOrders(f"{text.quoted(cell)} should be a whole number of at most 5 digits, such as 500")
@@ -145,22 +145,22 @@ def make_office(office):
     os.makedirs(office.path, mode=0o700, exist_ok=True)
     with folder.holding_folder(office.path):
         if not office.path_of(folder.KEY).exists():
-            make_key(office)
+            make_key_or_stop(office)
         office.require_public_text(office.read_key())
         if not office.path_of(folder.PARTICIPANTS).exists():
             folder.write_synced(office.path_of(folder.PARTICIPANTS), folder.json_bytes({}))
         os.makedirs(office.path_of(folder.DAYS), exist_ok=True)
 
 
-def make_key(office):
+def make_key_or_stop(office):
     if any(os.scandir(office.path)):
         raise command.Stop(f"{command.shown(office.path)} isn't empty, and isn't the folder of an office")
-    key = signing.new_key()
-    folder.write_synced(office.path_of(folder.PUBLIC), signing.public_text(key))
-    folder.write_synced(office.path_of(folder.KEY), signing.private_text(key))
+    key = signing.draw_key()
+    folder.write_synced(office.path_of(folder.PUBLIC), signing.public_bytes(key))
+    folder.write_synced(office.path_of(folder.KEY), signing.private_bytes(key))
 
 
-def make_day(office, terms):
+def make_day_or_stop(office, terms):
     with making_day(office, terms):
         pass
 
@@ -183,7 +183,7 @@ def making_day_folder(office, terms):
     made = tempfile.mkdtemp(prefix=".new-", dir=days)
     try:
         files = folder.DayFolder(made)
-        folder.write_synced(files.path_of(folder.SALTS), heads.line_of(sealing.new_salts(terms.day)))
+        folder.write_synced(files.path_of(folder.SALTS), heads.line_bytes_of(sealing.draw_salts(terms.day)))
         folder.write_synced(files.path_of(folder.TERMS), folder.json_bytes(terms.json_value()))
         for path in (files.path_of(folder.SALTS), files.path_of(folder.TERMS), made):
             folder.give_to_owner_of(path, office.path)
@@ -200,9 +200,9 @@ def make_or_extend_office(office, args):
     is_new = not office.path_of(folder.PARTICIPANTS).exists()
     if args.participants is None and (is_new or not register.read_names()):
         raise command.Stop("a new office needs --participants", command.COMMAND_LINE)
-    given = read_participants(args.participants) if args.participants else dict.fromkeys(register.read_names())
+    given = read_shares_and_print_notes(args.participants) if args.participants else dict.fromkeys(register.read_names())
     terms = require_terms(args, require_shares(given))
     make_office(office)
     with making_day(office, terms):  # a token is made only if it is shown
-        made = register.write_new_participants(given)
+        made = register.write_and_return_new_tokens(given)
     return terms, made

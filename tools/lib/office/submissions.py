@@ -3,7 +3,7 @@
 import asyncio
 import dataclasses
 
-from ..journal.journal import command_record
+from ..journal.journal import command_record_text
 from . import folder
 from .refusals import Fault, Refused, unread_tokens_refusal
 
@@ -50,14 +50,14 @@ class SubmissionQueue:
                 elif not ledger.is_closed:
                     later.append(one)
                 continue
-            last = taken.get(one.who, ledger.count(one.who))
+            last = taken.get(one.who, ledger.own_count(one.who))
             if len(batch) >= MOST_BATCH or one.who in taken and one.first != last + 1:
                 later.append(one)
-            elif one.who not in taken and (fault := conflict_refusal(ledger, one)):
+            elif one.who not in taken and (fault := conflict_refusal_or_none(ledger, one)):
                 fail_future(one.done, fault)
             elif not (new := one.commands[last - one.first + 1 :]):
                 answer_entered(ledger, one)
-            elif fault := token_refusal(one):
+            elif fault := token_refusal_or_none(one):
                 fail_future(one.done, fault)
             else:
                 batch += [(command, one) for command in new]
@@ -93,25 +93,25 @@ def submissions_of(batch):
 
 def answer_entered(ledger, submission):
     """Answers a submission whose commands are all entered."""
-    if fault := conflict_refusal(ledger, submission):
+    if fault := conflict_refusal_or_none(ledger, submission):
         fail_future(submission.done, fault)
     elif not submission.done.done():
         submission.done.set_result(ledger.own[submission.who][submission.first - 1 : submission.last])
 
 
-def conflict_refusal(ledger, submission):
+def conflict_refusal_or_none(ledger, submission):
     """The fault of a submission of which a number is used for another command, or comes too early; None if it has none."""
-    who, first, count = submission.who, submission.first, ledger.count(submission.who)
+    who, first, count = submission.who, submission.first, ledger.own_count(submission.who)
     for number, command in enumerate(submission.commands[: max(0, count - first + 1)], first):
-        entry, record, _ = ledger.entry(who, number)
-        if record != command_record(command):
+        entry, record, _ = ledger.entry_record_and_reply(who, number)
+        if record != command_record_text(command):
             return Refused(Fault.NUMBER_USED, f"your command {number} is entry {entry}, and another command", number=number, next=count + 1)
     if first > count + 1:
         return Refused(Fault.NUMBER_AHEAD, f"your next command has the number {count + 1}", next=count + 1)
     return None
 
 
-def token_refusal(submission):
+def token_refusal_or_none(submission):
     """The fault of a submission whose token isn't its participant's now; None if it is."""
     try:
         return None if submission.is_authorized() else Refused(Fault.TOKEN, "the token isn't of this participant any more")

@@ -19,12 +19,13 @@ MOST_MEMORY = 1 << 29  # bytes of addresses; a workbook of 1 MiB takes a tenth
 NICENESS = 10
 
 
-async def run_for_table_records_and_notes(data, who, periods, orders=()):
+async def capture_table_records_and_notes(data, who, periods, orders=()):
     """The records that a table makes of a participant whose orders in the book are pairs of a name and a kind; and notes on how it was
     read."""
     given = json.dumps(list(orders)).encode() + b"\n" + data
     try:
-        made = await programs.run_for_output(sys.executable, "-I", "-B", __file__, who, str(periods), data=given, seconds=MOST_SECONDS)
+        words = [sys.executable, "-I", "-B", __file__, who, str(periods)]
+        made = await programs.capture_output_or_raise(*words, data=given, seconds=MOST_SECONDS)
     except programs.ProgramFailed:
         raise Refused(Fault.MALFORMED, f"the table can't be read within {MOST_SECONDS} s: it is too large, or the office is busy") from None
     value = json.loads(made)

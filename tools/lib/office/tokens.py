@@ -27,7 +27,7 @@ def digest_of(token):
 
 def parse_digests(data):
     """The digest of each participant's token, or None if it has none."""
-    value = json.loads(data, object_pairs_hook=folder.require_unrepeated)
+    value = json.loads(data, object_pairs_hook=folder.require_unrepeated_members)
     if not folder.is_by_participant(value, lambda digest: digest is None or folder.is_word_of_form(DIGEST, digest)):
         raise ValueError
     return value
@@ -66,7 +66,7 @@ class Register:
             digests[who] = digest_of(token)
         return token
 
-    def write_new_participants(self, names):
+    def write_and_return_new_tokens(self, names):
         """Gives a token to each of these who isn't a participant yet, and returns the tokens."""
         with self.rewriting() as digests:
             tokens = {who: draw_token(who) for who in names if who not in digests}

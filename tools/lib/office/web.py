@@ -55,8 +55,8 @@ class Web:
         self.headers = {**HEADERS, **(SECURE if is_secure else {})}
         self.budgets = budgets.Budgets(behind_proxy)
         self.admission = Admission(office, self.budgets)
-        self.files = {path: (fixed_files.page_text(name), kind) for path, (name, kind) in fixed_files.PARTS.items()}
-        self.files["/openapi.json"] = fixed_files.openapi_text(is_demo=bool(demo)), "application/json"
+        self.files = {path: (fixed_files.read_page_part_text(name), kind) for path, (name, kind) in fixed_files.PARTS.items()}
+        self.files["/openapi.json"] = fixed_files.read_openapi_text(is_demo=bool(demo)), "application/json"
         self.files["/key"] = office.public_key, "application/x-pem-file"
         self.demo = demo
         self.tables = asyncio.Semaphore(TABLES_AT_ONCE)
@@ -130,16 +130,16 @@ class Web:
     # --- commands
 
     async def answer_commands(self, request):
-        writer, who = self.admission.admit_and_charge(request, self.budgets.commands)
+        writer, who = self.admission.require_writer_and_participant(request, self.budgets.commands)
         length = require_length(request)
         self.budgets.commands.charge(who, length // budgets.BYTES_OF_COMMAND)  # before it is read, so that not many are at once
         body = await read_body(request)
-        self.admission.require_authorized(request)  # again: the token may have been revoked
+        self.admission.require_authorized_participant(request)  # again: the token may have been revoked
         began = time.monotonic()
         first = int(request.match_info["number"])
         commands = await self.parse_commands(body, content_type(request), who, first)
         self.budgets.commands.charge(who, max(0, len(commands) - 1 - len(body) // budgets.BYTES_OF_COMMAND))  # of short ones, each counts
-        entries = await self.enter_commands(writer, who, first, commands, request)
+        entries = await self.enter_and_return_numbers_or_refuse(writer, who, first, commands, request)
         answer = await self.answer_receipts(writer, entries)
         self.counts.note_seconds(time.monotonic() - began)
         return answer
@@ -150,9 +150,9 @@ class Web:
             return requests.parse_commands(body, kind, who, first)
         return await asyncio.to_thread(requests.parse_commands, body, kind, who, first)
 
-    async def enter_commands(self, writer, who, first, commands, request):
+    async def enter_and_return_numbers_or_refuse(self, writer, who, first, commands, request):
         """The numbers of the entries of commands, once they are on the disk. A token that was revoked by then enters nothing more."""
-        done = writer.submit(who, first, commands, lambda: self.admission.is_authorized(request))
+        done = writer.submit_or_refuse(who, first, commands, lambda: self.admission.is_authorized(request))
         await asyncio.wait((done,), timeout=ANSWER_SECONDS)
         if not done.done():
             raise Refused(Fault.UNAVAILABLE, "the desk hasn't answered yet: send the same command again", seconds=1)
@@ -161,40 +161,40 @@ class Web:
     async def answer_receipts(self, writer, entries, head=None):
         made = []
         for place, entry in enumerate(entries, 1):
-            made.append(heads.line_of(writer.ledger.seal.receipt(entry, head) if head else writer.ledger.receipt(entry)))
+            made.append(heads.line_bytes_of(writer.ledger.seal.receipt(entry, head) if head else writer.ledger.receipt(entry)))
             if place % RECEIPTS_AT_ONCE == 0:
                 await asyncio.sleep(0)
         return jsonl_response(made)
 
     async def answer_receipt(self, request):
-        writer, who = self.admission.admit_and_charge(request)
-        number, count = int(request.match_info["number"]), writer.ledger.count(who)
+        writer, who = self.admission.require_writer_and_participant(request)
+        number, count = int(request.match_info["number"]), writer.ledger.own_count(who)
         if number > count:
             raise Refused(Fault.NOT_FOUND, "there is no such command", next=count + 1)
-        return await self.answer_receipts(writer, [writer.ledger.entry(who, number)[0]])
+        return await self.answer_receipts(writer, [writer.ledger.entry_record_and_reply(who, number)[0]])
 
     async def answer_own_receipts(self, request):
         """All receipts of a participant, under the newest head."""
-        writer, who = self.admission.admit_and_charge(request)
-        self.budgets.reads.charge(who, writer.ledger.count(who) // budgets.RECEIPTS_OF_READ)
-        answer = await self.answer_receipts(writer, list(writer.ledger.own.get(who, ())), writer.ledger.head())
+        writer, who = self.admission.require_writer_and_participant(request)
+        self.budgets.reads.charge(who, writer.ledger.own_count(who) // budgets.RECEIPTS_OF_READ)
+        answer = await self.answer_receipts(writer, list(writer.ledger.own.get(who, ())), writer.ledger.signed_head())
         self.budgets.charge_bytes(who, len(answer.body))
         return answer
 
     async def answer_own_commands(self, request):
-        writer, who = self.admission.admit_and_charge(request)
+        writer, who = self.admission.require_writer_and_participant(request)
         since = require_query_number(request, "since")
-        self.budgets.reads.charge(who, max(0, writer.ledger.count(who) - since) // budgets.COMMANDS_OF_READ)
+        self.budgets.reads.charge(who, max(0, writer.ledger.own_count(who) - since) // budgets.COMMANDS_OF_READ)
         names = ("number", "entry", "record", "reply")
-        found = [dict(zip(names, one)) for one in writer.ledger.entries(who, since)]
-        made = {"next": writer.ledger.count(who) + 1, "share": writer.ledger.share(who), "commands": found}
+        found = [dict(zip(names, one)) for one in writer.ledger.own_entries(who, since)]
+        made = {"next": writer.ledger.own_count(who) + 1, "share": writer.ledger.share(who), "commands": found}
         return self.charge_and_answer(who, json.dumps(made))
 
     async def answer_own_orders(self, request):
-        writer, who = self.admission.admit_and_charge(request)
-        self.budgets.reads.charge(who, writer.ledger.count(who) // budgets.ORDERS_OF_READ)
+        writer, who = self.admission.require_writer_and_participant(request)
+        self.budgets.reads.charge(who, writer.ledger.own_count(who) // budgets.ORDERS_OF_READ)
         found = []
-        for place, (name, order) in enumerate(writer.ledger.orders(who), 1):
+        for place, (name, order) in enumerate(writer.ledger.own_orders(who), 1):
             found.append(json.dumps({"order": name, **order._asdict()}))
             if place % budgets.ORDERS_OF_READ == 0:
                 await asyncio.sleep(0)
@@ -202,7 +202,7 @@ class Web:
 
     async def answer_table(self, request):
         """The records that a table makes. They aren't entered: the participant sees them first."""
-        writer, who = self.admission.admit_and_charge(request, count=budgets.READS_OF_TABLE)
+        writer, who = self.admission.require_writer_and_participant(request, count=budgets.READS_OF_TABLE)
         require_length(request)
         if who in self.reading:
             raise Refused(Fault.TOO_FAST, "your table before this one is still being read", seconds=TABLE_SECONDS)
@@ -212,15 +212,15 @@ class Web:
             async with self.tables:
                 if request.transport is None:  # the client is gone
                     raise ConnectionResetError
-                orders = [(name, order.kind) for name, order in writer.ledger.orders(who)]
-                records, notes = await tables.run_for_table_records_and_notes(body, who, writer.terms.periods, orders)
+                orders = [(name, order.kind) for name, order in writer.ledger.own_orders(who)]
+                records, notes = await tables.capture_table_records_and_notes(body, who, writer.terms.periods, orders)
         finally:
             self.reading.discard(who)
         return self.charge_and_answer(who, json.dumps({"records": records, "notes": notes}))
 
     async def answer_statement(self, request):
-        writer, who = self.admission.admit_and_charge(request)
-        found = await asyncio.to_thread(writer.published.read_statement_text, who)
+        writer, who = self.admission.require_writer_and_participant(request)
+        found = await asyncio.to_thread(writer.published.read_and_cache_text_or_none, who)
         if found is None:
             raise Refused(Fault.NOT_FOUND, "there is no statement yet")
         return self.charge_and_answer(who, found)
@@ -263,26 +263,26 @@ class Web:
 
     async def answer_head(self, request):
         """The newest head; with `since` the proof that it goes on from the head of this number of entries."""
-        writer = self.admission.require_unstopped(request)
+        writer = self.admission.require_unstopped_writer(request)
         require_known(writer)
         ledger = writer.ledger
         if "since" not in request.query:
-            return jsonl_response([heads.line_of(ledger.head())])
+            return jsonl_response([heads.line_bytes_of(ledger.signed_head())])
         since = require_query_number(request, "since")
         if since > ledger.size:
             raise Refused(Fault.NOT_FOUND, "there is no such head yet")
-        return jsonl_response([heads.line_of(ledger.seal.extension(ledger.head(since), ledger.head()))])
+        return jsonl_response([heads.line_bytes_of(ledger.seal.require_extension(ledger.signed_head(since), ledger.signed_head()))])
 
     async def answer_prices(self, request):
         """The results without the orders and the welfare: the day, and each period's price and volume."""
-        writer = self.admission.require_unstopped(request)
+        writer = self.admission.require_unstopped_writer(request)
         if not writer.published.has_results:
             raise Refused(Fault.NOT_FOUND, "there are no results yet")
-        return web.Response(text=writer.published.read_prices(writer.terms.periods), content_type="text/plain")
+        return web.Response(text=writer.published.read_and_cache_prices_text(writer.terms.periods), content_type="text/plain")
 
     async def answer_published(self, request):
         """The texts that have the orders of all: only if the operator publishes the journal."""
-        writer, name = self.admission.require_unstopped(request), request.path.rpartition("/")[2]
+        writer, name = self.admission.require_unstopped_writer(request), request.path.rpartition("/")[2]
         if not writer.published.has_results:
             raise Refused(Fault.NOT_FOUND, "there are no results yet")
         if not writer.published.has_journal:

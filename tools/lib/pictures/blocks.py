@@ -25,7 +25,7 @@ def draw_blocks(axes, day):
         draw_block(axes, row, block, LOOKS[decision.kind])
         if row:
             axes.axhline(row - 0.5, color=COLOURS["grid"], linewidth=0.6)
-        label_block(axes, row, block, text.amount(day.published.surpluses[row], day.problem.hours))
+        draw_block_label(axes, row, block, text.amount(day.published.surpluses[row], day.problem.hours))
     draw_links(axes, day)
     draw_groups(axes, day)
     words = [decision_line(day, row, decision) for row, decision in enumerate(found)]
@@ -46,7 +46,7 @@ def decision_line(day, row, decision):
     return f"{block.who} {block.name}: {decision.kind}; {decision.why}"
 
 
-def band(axes, row):
+def band_ends(axes, row):
     """Where a block stands in its row, and where its greatest volume ends: under its label if the figure is narrow."""
     return (row + 0.42, row - 0.06) if is_narrow(axes) else (row + 0.36, row - 0.26)
 
@@ -54,8 +54,8 @@ def band(axes, row):
 def draw_block(axes, row, block, look):
     """The volumes of a block: an area for each run of its periods, without lines between them."""
     volumes = dict(block.order.volumes)
-    most, (bottom, greatest) = max(volumes.values()), band(axes, row)
-    for first, last in spans.runs(volumes):
+    most, (bottom, greatest) = max(volumes.values()), band_ends(axes, row)
+    for first, last in spans.runs_of(volumes):
         points = [(first - 0.5, bottom)]
         for number in range(first, last + 1):
             top = bottom - (bottom - greatest) * volumes[number] / most
@@ -64,7 +64,7 @@ def draw_block(axes, row, block, look):
         axes.add_patch(Polygon(points, closed=True, edgecolor=COLOURS["ink"], linewidth=0.7, **look))
 
 
-def extent(block):
+def period_ends(block):
     """From where to where a block's periods go."""
     numbers = [number for number, _ in block.order.volumes]
     return numbers[0] - 0.5, numbers[-1] + 0.5
@@ -75,14 +75,14 @@ def draw_links(axes, day):
     for row, parent in enumerate(day.problem.parents):
         if parent is None:
             continue
-        begin, (left, right) = extent(day.problem.blocks[parent])[0], extent(day.problem.blocks[row])
+        begin, (left, right) = period_ends(day.problem.blocks[parent])[0], period_ends(day.problem.blocks[row])
         from_x = begin + 0.012 * day.problem.periods
-        bottom, top = band(axes, row)
+        bottom, top = band_ends(axes, row)
         middle = (bottom + top) / 2
         corner, tip = [(from_x, middle)], (left if from_x < left else right, middle)
         if left <= from_x <= right:
             corner, tip = [], (from_x, top)
-        xs, ys = zip((from_x, band(axes, parent)[0]), *corner, tip)
+        xs, ys = zip((from_x, band_ends(axes, parent)[0]), *corner, tip)
         look = {"color": COLOURS["soft"], "linewidth": 1.1, "solid_joinstyle": "miter", "zorder": 3}
         axes.plot(xs[:-1], ys[:-1], **look)
         arrow = {"arrowstyle": "-|>", "color": COLOURS["soft"], "linewidth": 1.1, "shrinkA": 0, "shrinkB": 0}
@@ -105,7 +105,7 @@ def draw_groups(axes, day):
         axes.text(x + 0.005, middle, group, rotation=90, ha="left", va="center", fontsize=7, transform=place["transform"])
 
 
-def label_block(axes, row, block, surplus):
+def draw_block_label(axes, row, block, surplus):
     """A block's name left of its row, under it the side, the greatest volume and the limit price, and right of it its surplus. If the
     figure is narrow, all stand over the row."""
     volumes = {volume for _, volume in block.order.volumes}

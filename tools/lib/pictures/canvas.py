@@ -116,12 +116,12 @@ def hover_of(figure):
     return getattr(figure, "hover", {})
 
 
-def digits_up_to(most):
+def digit_count(most):
     """How many digits the numbers of an axis have that goes up to this volume in MW."""
     return 0 if most >= 5 else 1
 
 
-def format_numbers(axis, digits=0):
+def set_number_format(axis, digits=0):
     """Numbers along an axis in the same form as everywhere."""
     axis.set_major_formatter(lambda value, _: text.shown(Fraction(value).limit_denominator(10_000), digits))
 

@@ -5,8 +5,8 @@ from fractions import Fraction
 from ..base import clock, rules, text
 from ..results import selection, trades
 from .drawing import AutoLocator, Rectangle, matplotlib
-from .canvas import BROAD, COLOURS, STYLE, add_hover, digits_up_to, eur, add_heading, is_narrow, add_legend, mw, new_panels
-from .canvas import set_label_places, set_margins, format_numbers
+from .canvas import BROAD, COLOURS, STYLE, add_hover, digit_count, eur, add_heading, is_narrow, add_legend, mw, new_panels
+from .canvas import set_label_places, set_margins, set_number_format
 
 # Of the curves of a period, the steps within this share of the traded volume are shown, and those no further from the price than this, in
 # EUR/MWh; but not a limit that is this many times further from it than the one before.
@@ -33,7 +33,7 @@ class CurveSheet:
             axis.set_major_locator(AutoLocator())
         self.figure.hover = {}
 
-    def draw(self, day, number):
+    def draw_and_return_figure(self, day, number):
         """The figure with a period's curves in place of the last ones."""
         self.clear()
         with matplotlib.rc_context(STYLE):
@@ -41,7 +41,7 @@ class CurveSheet:
         return self.figure
 
 
-def steps(orders, side, begin):
+def curve_points(orders, side, begin):
     """The points of a curve: the orders of a side from the best, from a volume on."""
     own = sorted((limit, volume) for of, limit, volume in orders if of == side)
     if side == "buy":
@@ -54,7 +54,7 @@ def steps(orders, side, begin):
     return xs, ys, at
 
 
-def net_volume(day, number):
+def sold_and_bought_volume(day, number):
     """The sold volume of the accepted blocks in a period, and their bought volume."""
     sold = bought = 0
     for place in day.published.accepted:
@@ -89,7 +89,7 @@ def limits_near(xs, ys, volume):
     return [limit for begin, end, limit in zip(xs[::2], xs[1::2], ys[::2]) if begin <= most and end >= least]
 
 
-def mark_tails(axes, day, number, bottom, top):
+def draw_tail_words(axes, day, number, bottom, top):
     """Says how far the limits go that the price axis doesn't show."""
     limits = [eur(limit) for _, limit, _ in day.problem.orders[number]]
     under = {"facecolor": COLOURS["paper"], "edgecolor": "none", "pad": 1.5}
@@ -102,7 +102,7 @@ def mark_tails(axes, day, number, bottom, top):
         axes.text(0.988, 0.015, words, va="bottom", ha="right", **look)
 
 
-def hover_steps(axes, points, name, words, bottom, top):
+def add_step_hover(axes, points, name, words, bottom, top):
     """Shows the limit and the volumes of each step of a curve that the axis shows."""
     xs, ys, _ = points
     steps_shown = [(begin, end, limit) for begin, end, limit in zip(xs[::2], xs[1::2], ys[::2]) if bottom <= limit <= top]
@@ -120,11 +120,11 @@ def shown_mw(value):
 def draw_curves(axes, day, number):
     """The hourly orders' demand and supply; the curve of the side that the blocks help begins after their net volume."""
     orders = day.problem.orders[number]
-    sold, bought = net_volume(day, number)
+    sold, bought = sold_and_bought_volume(day, number)
     net = sold - bought
     traded = trades.is_traded(day, number)
-    demand = steps(orders, "buy", max(-net, 0))
-    supply = steps(orders, "sell", max(net, 0))
+    demand = curve_points(orders, "buy", max(-net, 0))
+    supply = curve_points(orders, "sell", max(net, 0))
     bottom, top = price_range(day, number, (demand, supply))
     most = mw(max(demand[2], supply[2], 10))
     if net:
@@ -137,13 +137,13 @@ def draw_curves(axes, day, number):
         draw_clearing(axes, day, number, net)
     axes.set_xlim(0, most * 1.03)
     axes.set_ylim(bottom, top)
-    format_numbers(axes.xaxis, digits_up_to(most))
-    format_numbers(axes.yaxis)
+    set_number_format(axes.xaxis, digit_count(most))
+    set_number_format(axes.yaxis)
     if not orders and not traded:
         draw_without_orders(axes)
-    hover_steps(axes, demand, "demand", "demand", bottom, top)
-    hover_steps(axes, supply, "supply", "supply", bottom, top)
-    mark_tails(axes, day, number, bottom, top)
+    add_step_hover(axes, demand, "demand", "demand", bottom, top)
+    add_step_hover(axes, supply, "supply", "supply", bottom, top)
+    draw_tail_words(axes, day, number, bottom, top)
     axes.set_xlabel("volume, MW")
     axes.set_ylabel("limit price, EUR/MWh")
     if axes.get_legend_handles_labels()[0]:

@@ -7,7 +7,7 @@ from .canvas import BROAD, STYLE, new_panels
 from .prices import draw_prices, draw_volumes, set_period_axis
 
 
-def day_picture(day):
+def new_day_figure(day):
     """Prices, volumes and blocks under one another."""
     with matplotlib.rc_context(STYLE):
         figure, axes = new_panels([2.3, 2.5] + ([blocks_height(day)] if day.problem.blocks else []), BROAD)
@@ -20,7 +20,7 @@ def day_picture(day):
         return figure
 
 
-def prices_picture(day, width=BROAD):
+def new_prices_figure(day, width=BROAD):
     with matplotlib.rc_context(STYLE):
         figure, axes = new_panels([2.5, 2.6], width)
         draw_prices(axes[0], day)
@@ -30,7 +30,7 @@ def prices_picture(day, width=BROAD):
         return figure
 
 
-def blocks_picture(day, width=BROAD):
+def new_blocks_figure(day, width=BROAD):
     with matplotlib.rc_context(STYLE):
         figure, axes = new_panels([max(blocks_height(day, width), 1.2)], width)
         draw_blocks(axes[0], day)
@@ -39,5 +39,5 @@ def blocks_picture(day, width=BROAD):
         return figure
 
 
-def period_picture(day, number, width=BROAD):
-    return CurveSheet(width).draw(day, number)
+def new_period_figure(day, number, width=BROAD):
+    return CurveSheet(width).draw_and_return_figure(day, number)

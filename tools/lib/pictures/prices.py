@@ -5,7 +5,7 @@ import math
 from ..base import clock, spans, text
 from ..results import trades
 from .drawing import Patch
-from .canvas import COLOURS, add_hover, digits_up_to, eur, add_heading, is_narrow, add_legend, mw, format_numbers
+from .canvas import COLOURS, add_hover, digit_count, eur, add_heading, is_narrow, add_legend, mw, set_number_format
 
 # Up to this many periods each bar has an outline.
 MOST_OUTLINED = 25
@@ -20,7 +20,7 @@ def set_period_axis(axes, day):
     axes.set_xlabel("period of the day, and when it begins")
 
 
-def edges(values):
+def step_points(values):
     """A level for each period from 1, as the points of a line with a step at each border."""
     xs, ys = [], []
     for number, value in enumerate(values, 1):
@@ -36,20 +36,20 @@ def draw_prices(axes, day):
     cleared = {number: day.outcome.cleared[number] for number in traded}
     ends = {number: (eur(found.low), eur(found.high)) if found else [prices[number]] * 2 for number, found in cleared.items()}
     levels = [prices.get(number, math.nan) for number in day.problem.orders]
-    xs, lows = edges([ends.get(number, [math.nan])[0] for number in day.problem.orders])
-    _, highs = edges([ends.get(number, [math.nan])[-1] for number in day.problem.orders])
+    xs, lows = step_points([ends.get(number, [math.nan])[0] for number in day.problem.orders])
+    _, highs = step_points([ends.get(number, [math.nan])[-1] for number in day.problem.orders])
     axes.fill_between(xs, lows, highs, color=COLOURS["band"], linewidth=0, label="supporting prices")
-    axes.plot(*edges(levels), color=COLOURS["ink"], linewidth=1.8, solid_joinstyle="miter", label="price")
+    axes.plot(*step_points(levels), color=COLOURS["ink"], linewidth=1.8, solid_joinstyle="miter", label="price")
     if traded:
         axes.set_ylim(*price_bounds(list(prices.values()), list(ends.values())))
         add_legend(axes, columns=2)
     else:
         axes.set_yticks([])
-    mark_without_trade(axes, [number for number in day.problem.orders if number not in prices], day.problem.periods)
+    draw_no_trade_marks(axes, [number for number in day.problem.orders if number not in prices], day.problem.periods)
     axes.set_ylabel("price, EUR/MWh")
     axes.grid(axis="x", visible=False)
-    format_numbers(axes.yaxis)
-    hover_periods(axes, day, "prices")
+    set_number_format(axes.yaxis)
+    add_period_hover(axes, day, "prices")
     add_heading(axes, "Prices")
 
 
@@ -62,7 +62,7 @@ def period_words(day, number):
     return f"{words}: {text.shown_price(price)} EUR/MWh, {text.shown_volume(volume)} MW"
 
 
-def hover_periods(axes, day, name):
+def add_period_hover(axes, day, name):
     """Shows the price and the volume of each period over its width."""
     bottom, top = axes.get_ylim()
     numbers = list(day.problem.orders)
@@ -70,9 +70,9 @@ def hover_periods(axes, day, name):
     add_hover(axes, name, areas, [period_words(day, number) for number in numbers])
 
 
-def mark_without_trade(axes, numbers, periods):
+def draw_no_trade_marks(axes, numbers, periods):
     """Marks each run of periods in which nothing is traded."""
-    for first, last in spans.runs(numbers):
+    for first, last in spans.runs_of(numbers):
         upright = (last - first + 1) / periods < 0.07
         place = {"transform": axes.get_xaxis_transform(), "ha": "center", "va": "center"}
         look = {"color": COLOURS["soft"], "fontsize": 7, "rotation": 90 if upright else 0}
@@ -107,7 +107,7 @@ def draw_volumes(axes, day):
         draw_share(axes, [sign * end for end in hourly], [sign * end for end in ends], hatched)
     axes.axhline(0, color=COLOURS["ink"], linewidth=0.9)
     axes.set_ylim(-1.12 * most, 1.12 * most)
-    axes.yaxis.set_major_formatter(lambda value, _: text.shown(abs(value), digits_up_to(most)))
+    axes.yaxis.set_major_formatter(lambda value, _: text.shown(abs(value), digit_count(most)))
     axes.set_ylabel("sold below, bought above, MW" if not is_narrow(axes) else "MW")
     axes.grid(axis="x", visible=False)
     key = [Patch(facecolor=COLOURS[side], edgecolor=COLOURS["ink"], linewidth=0.5) for side in ("buy", "sell")]
@@ -116,7 +116,7 @@ def draw_volumes(axes, day):
     if is_narrow(axes):
         words = ["hourly buys (above)", "hourly sells (below)", "blocks"]
     add_legend(axes, key, words, columns=3)
-    hover_periods(axes, day, "volumes")
+    add_period_hover(axes, day, "volumes")
     add_heading(axes, "Volumes")
 
 
@@ -124,7 +124,7 @@ def draw_share(axes, begins, ends, look):
     """A bar for each period from one level to another; an area without lines in it if there are many periods."""
     outline = {"edgecolor": COLOURS["ink"], "linewidth": 0.5}
     if len(ends) > MOST_OUTLINED:
-        (xs, lows), (_, highs) = edges(begins), edges(ends)
+        (xs, lows), (_, highs) = step_points(begins), step_points(ends)
         drawn = [low != high for low, high in zip(lows, highs)]
         axes.fill_between(xs, lows, highs, where=drawn, **outline, **look)
         return

@@ -49,11 +49,11 @@ class Signed:
         self.by_key.add((head, key))
         first, where = self.of_day.setdefault((head.day, key), (head, place))
         if first.periods != head.periods:
-            self.add_finding(place, f"{periods_differ(head, first)}, in {where}")
+            self.add_finding(place, f"{periods_differ_words(head, first)}, in {where}")
         same, where = self.of_size.setdefault((head.day, key, head.size), (head, place))
         if same.root != head.root:
             self.reported_scopes.add((head.day, key))
-            self.add_finding(place, f"{roots_differ(head)}; the other one is in {where}")
+            self.add_finding(place, f"{roots_differ_words(head)}; the other one is in {where}")
         if head.size:
             self.add_hashes(head.day, {(0, head.size): head.root}, place, key)
 
@@ -69,7 +69,7 @@ class Signed:
     def add_entry(self, receipt, place, key):
         """Adds the entry of a receipt that is right under a head that the operator signed."""
         day, leaf = receipt.head.day, receipt.leaf()
-        self.add_hashes(day, merkle.shown_by_inclusion(leaf, receipt.number - 1, receipt.head.size, receipt.path), place, key)
+        self.add_hashes(day, merkle.hashes_shown_by_inclusion(leaf, receipt.number - 1, receipt.head.size, receipt.path), place, key)
         entry = day, key, receipt.number
         if (entry, leaf) in self.leaves:
             return
@@ -77,12 +77,12 @@ class Signed:
         first, where = self.entries.setdefault(entry, (receipt, place))
         if first is not receipt:
             self.reported_scopes.add((day, key))
-            self.add_finding(place, f"{entries_differ(receipt, first)}, in {where}: {TWICE}")
+            self.add_finding(place, f"{entries_differ_words(receipt, first)}, in {where}: {TWICE}")
 
     def add_extension(self, extension, place, key):
         """Adds the hashes that an extension of two heads of a day shows, both signed with a key."""
         old, new = extension.old, extension.new
-        self.add_hashes(old.day, merkle.shown_by_consistency(old.size, old.root, new.size, new.root, extension.path), place, key)
+        self.add_hashes(old.day, merkle.hashes_shown_by_consistency(old.size, old.root, new.size, new.root, extension.path), place, key)
 
     def add_hashes(self, day, shown, place, key):
         """Adds hashes of entries: of each, the index of the first one and of the one after the last."""
@@ -97,26 +97,27 @@ class Signed:
 
     def contradictions(self):
         """The findings. Of each day and key without two trees or two entries, two hashes of the fewest entries are one too."""
-        hashes = [(*scope, two_hashes(subtrees)) for scope, subtrees in self.subtrees.items() if scope not in self.reported_scopes]
-        told = [Finding(*place, WRONG, words, about=CONTRADICTION) for place, words in (hashes_differ(day, *two) for day, _, two in hashes if two)]
+        hashes = [(*scope, two_hashes_or_none(subtrees)) for scope, subtrees in self.subtrees.items() if scope not in self.reported_scopes]
+        differences = (hashes_differ_place_and_words(day, *two) for day, _, two in hashes if two)
+        told = [Finding(*place, WRONG, words, about=CONTRADICTION) for place, words in differences]
         return [*self.findings, *told]
 
     def heads(self):
         """All heads, by day and size."""
         return sorted(self.places, key=lambda head: (head.day, head.size))
 
-    def later_head(self, head):
+    def later_head_or_none(self, head):
         """The last head of the same day, if it is later; or None."""
         last = max((one for one in self.places if one.day == head.day), key=lambda one: one.size)
         return last if last.size > head.size else None
 
 
-def two_hashes(subtrees):
+def two_hashes_or_none(subtrees):
     """The fewest entries with two hashes, the first of such, and these two; None if there are none. The entries of an incomplete subtree
     also have the hash that their parts make, wherever these are shown."""
     for part in sorted(subtrees, key=lambda part: (part[1] - part[0], part)):
         found = subtrees[part]
-        made = hash_of_parts(subtrees, *part)
+        made = hash_of_parts_or_none(subtrees, *part)
         if made is not None and made.hash != found[0].hash:
             found = [*found, made]
         if len(found) > 1:
@@ -124,7 +125,7 @@ def two_hashes(subtrees):
     return None
 
 
-def hash_of_parts(subtrees, begin, end):
+def hash_of_parts_or_none(subtrees, begin, end):
     """The hash that the parts of an incomplete subtree make; None if one isn't known. What the parts of a complete one make is shown wherever
     its second half is."""
     count = end - begin
@@ -133,29 +134,29 @@ def hash_of_parts(subtrees, begin, end):
     middle = begin + merkle.left_half(count)
     left, *_ = subtrees.get((begin, middle)) or [None]
     right, *_ = subtrees.get((middle, end)) or [None]
-    right = right or hash_of_parts(subtrees, middle, end)
+    right = right or hash_of_parts_or_none(subtrees, middle, end)
     if left is None or right is None:
         return None
     return Hashed(merkle.node_hash(left.hash, right.hash), tuple(dict.fromkeys(left.places + right.places)))
 
 
-def periods_differ(head, other):
+def periods_differ_words(head, other):
     return f"the operator signed {head.day} with {head.periods} periods, and with {other.periods}"
 
 
-def roots_differ(head):
+def roots_differ_words(head):
     count = text.counted(head.size, "entry", "entries")
     return f"the operator signed two trees of {head.day} with {count}: {TWICE}"
 
 
-def entries_differ(receipt, other):
+def entries_differ_words(receipt, other):
     """Words about two receipts with one number."""
     one, two = (f"{each.record}, {each.reply}" for each in (receipt, other))
     differs = "with another salt" if one == two else f"as {two}"
     return f"the operator signed entry {receipt.number} of {receipt.head.day} as {one}; and {differs}"
 
 
-def hashes_differ(day, part, one, other):
+def hashes_differ_place_and_words(day, part, one, other):
     """The place of one of two hashes of the same entries, and words about them."""
     begin, end = part
     entries = f"entry {end}" if end - begin == 1 else f"entries {begin + 1} to {end}"

@@ -8,7 +8,7 @@ from ..base import text
 from ..lint import sent
 from ..seal import heads, merkle, signing
 from ..tool import command, file_io
-from .contradictions import Signed, periods_differ, roots_differ, unsigned
+from .contradictions import Signed, periods_differ_words, roots_differ_words, unsigned
 from .findings import CONTRADICTION, CONTRARY, ENCODING, EXTENSION, HEAD, IMPOSSIBLE, LINE, RECEIPT, RIGHT, STATUSES, UNDECIDED, UNREAD, WRONG
 from .findings import Finding, Place, verdict
 
@@ -49,15 +49,15 @@ def parse_key(path, data, read=signing.parse_public):
         raise command.Stop(f"{command.shown(path)} can't be used: {fault}") from None
 
 
-def read_value(path, read, name, odd):
+def read_value_and_note(path, read, name, odd):
     """The value in a file of one line. If the file isn't in its written form, `odd` gets a finding."""
-    return parse_value(path, file_io.read_bytes(path), read, name, odd)
+    return parse_value_and_note(path, file_io.read_bytes(path), read, name, odd)
 
 
-def parse_value(path, data, read, name, odd):
+def parse_value_and_note(path, data, read, name, odd):
     """The same from the bytes of the file."""
     try:
-        value, is_written = heads.parse_line(data, read)
+        value, is_written = heads.parse_value_and_is_written(data, read)
     except heads.BadRecord as fault:
         raise command.Stop(f"{command.shown(path)} isn't {name}: {fault}") from None
     if not is_written:
@@ -65,14 +65,14 @@ def parse_value(path, data, read, name, odd):
     return value
 
 
-def read_head(path, key, odd, day=None):
+def read_head_and_note(path, key, odd, day=None):
     """The head in a file, which has to be signed by the key, and of a day if one is named."""
-    return parse_head(path, file_io.read_bytes(path), key, odd, day)
+    return parse_head_and_note(path, file_io.read_bytes(path), key, odd, day)
 
 
-def parse_head(path, data, key, odd, day=None):
+def parse_head_and_note(path, data, key, odd, day=None):
     """The same from the bytes of the file."""
-    head = parse_value(path, data, heads.parse_head, "a head", odd)
+    head = parse_value_and_note(path, data, heads.parse_head, "a head", odd)
     if not signing.is_signed(key, head):
         raise command.Stop(f"{command.shown(path)} {NOT_SIGNED}", command.DIFFERS)
     if day not in (None, head.day):
@@ -80,7 +80,7 @@ def parse_head(path, data, key, odd, day=None):
     return head
 
 
-def unread_finding(path, fault):
+def unread_finding_or_raise(path, fault):
     """The finding on a file that can't be read, or isn't of its kind."""
     if isinstance(fault, file_io.OwnOutput):
         raise fault
@@ -95,36 +95,36 @@ class Links:
         self.key, self.signed = key, Signed()
         later = defaultdict(set)  # of each head, those that begin with it
         for path in paths:
-            extension = self.read_value(path, heads.parse_extension, "an extension", findings)
-            if extension is not None and self.add_extension(path, extension, findings):
+            extension = self.read_value_or_none(path, heads.parse_extension, "an extension", findings)
+            if extension is not None and self.add_extension_if_valid(path, extension, findings):
                 later[unsigned(extension.old)].add(unsigned(extension.new))
         self.earlier = longest_beginnings(later)
 
-    def read_value(self, path, read, name, findings):
+    def read_value_or_none(self, path, read, name, findings):
         """The value in a file of one line. If there is none, `findings` gets that, and the other files are judged."""
         try:
-            return read_value(path, read, name, findings)
+            return read_value_and_note(path, read, name, findings)
         except command.Stop as fault:
-            findings.append(unread_finding(path, fault))
+            findings.append(unread_finding_or_raise(path, fault))
             return None
 
-    def add_extension(self, path, extension, findings):
+    def add_extension_if_valid(self, path, extension, findings):
         """Whether an extension connects its heads. If it doesn't, `findings` gets that. Anyone can make another path, so a wrong one is
         nobody's fault."""
-        if not all([self.add_head(path, end, findings, EXTENSION) for end in (extension.old, extension.new)]):
+        if not all([self.add_head_if_signed(path, end, findings, EXTENSION) for end in (extension.old, extension.new)]):
             return False
-        words = self.unlike_heads_words(extension)
+        words = self.unlike_heads_words_or_none(extension)
         if words is None:
-            self.signed.add_extension(extension, Place(path), signing.signer_name(self.key, extension.old))
+            self.signed.add_extension(extension, Place(path), signing.signer_name_or_none(self.key, extension.old))
             words = None if extension.is_valid() else "its path doesn't lead from the earlier one to the later one"
         if words is not None:
             findings.append(Finding(path, None, UNDECIDED, f"it doesn't connect its heads: {words}", about=EXTENSION))
         return words is None
 
-    def unlike_heads_words(self, extension):
+    def unlike_heads_words_or_none(self, extension):
         """Why no extension connects two signed heads; None if one may."""
         old, new = extension.old, extension.new
-        one, other = (signing.signer_name(self.key, end) for end in (old, new))
+        one, other = (signing.signer_name_or_none(self.key, end) for end in (old, new))
         if one != other:
             return f"they are signed with two keys, {command.shown(one)} and {command.shown(other)}"
         if old.day != new.day:
@@ -135,31 +135,31 @@ class Links:
             return f"the first one has {text.counted(old.size, 'entry', 'entries')}, and the second one {new.size}"
         return None
 
-    def add_head(self, path, head, findings, about=HEAD):
+    def add_head_if_signed(self, path, head, findings, about=HEAD):
         """Whether a key signed a head. If none did, `findings` gets that."""
-        key = signing.signer_name(self.key, head)
+        key = signing.signer_name_or_none(self.key, head)
         if key is not None:
             self.signed.add_head(head, Place(path), key)
             return True
         findings.append(Finding(path, None, WRONG, f"{'it' if about == HEAD else head} {NOT_SIGNED}", about=about))
         return False
 
-    def verdict_on_two(self, one, other):
+    def verdict_and_words_on_two(self, one, other):
         """The verdict on two heads of one operator, and the words for it."""
         one, other = sorted(map(unsigned, (one, other)), key=lambda head: head.size)
         if one.day != other.day:
             return UNREAD, f"the heads are of different days, {one.day} and {other.day}"
         if one.periods != other.periods:
-            return WRONG, periods_differ(one, other)
+            return WRONG, periods_differ_words(one, other)
         if one == other:
             return RIGHT, f"the heads are the same: {one}"
         if one.size == other.size:
-            return WRONG, roots_differ(one)
-        if self.leads(one, other):
+            return WRONG, roots_differ_words(one)
+        if self.has_path(one, other):
             return RIGHT, f"{other} begins with {one}"
         return UNDECIDED, f"no extension shows that {other} begins with {one}: the operator has to give one"
 
-    def leads(self, one, other):
+    def has_path(self, one, other):
         """Whether the extensions show that a head's journal begins with an earlier one. Each journal begins with the empty one."""
         one, other = unsigned(one), unsigned(other)
         while other is not None and other.size > one.size:
@@ -170,7 +170,7 @@ class Links:
         """The findings on the heads of a day, each compared with the next one. Contradictions are told elsewhere."""
         signed = self.signed.heads()
         for one, other in zip(signed, signed[1:]):
-            found, words = self.verdict_on_two(one, other)
+            found, words = self.verdict_and_words_on_two(one, other)
             if found in (RIGHT, UNDECIDED):
                 yield Finding(*self.signed.places[other], found, words, about=HEAD)
 
@@ -205,23 +205,23 @@ def size_key(head):
     return head.size, head.root
 
 
-def judge_and_add_receipt(receipt, head, key, links, place=Place("the receipt")):
+def add_receipt_and_return_verdict(receipt, head, key, links, place=Place("the receipt")):
     """The verdict on a receipt, compared with a head that was published if one is given, and the words for it. It adds to the links what
     the operator signed."""
-    entry, signer = f"entry {receipt.number} of {receipt.head}", signing.signer_name(key, receipt.head)
+    entry, signer = f"entry {receipt.number} of {receipt.head}", signing.signer_name_or_none(key, receipt.head)
     if signer is None:
         return WRONG, f"its head {NOT_SIGNED}"
     links.signed.add_head(receipt.head, place, signer)
-    root = merkle.root_of_inclusion(receipt.leaf(), receipt.number - 1, receipt.head.size, receipt.path)
+    root = merkle.root_of_inclusion_or_none(receipt.leaf(), receipt.number - 1, receipt.head.size, receipt.path)
     if root != receipt.head.root:
         return WRONG, f"it isn't {entry}: its record, reply, salt or path was changed, or belongs to another entry"
     links.signed.add_entry(receipt, place, signer)
     shown = f"{entry}: {receipt.record}, {receipt.reply}"
     if head is None:
         return RIGHT, shown
-    if words := impossible_reply_words(receipt):
+    if words := impossible_reply_words_or_none(receipt):
         return IMPOSSIBLE, f"{shown}; {words}"
-    found, words = links.verdict_on_two(receipt.head, head)
+    found, words = links.verdict_and_words_on_two(receipt.head, head)
     if found == WRONG:
         return CONTRARY, f"{shown}; the published head contradicts it: {words}"
     if found in (RIGHT, UNDECIDED) and receipt.number > head.size:
@@ -229,27 +229,27 @@ def judge_and_add_receipt(receipt, head, key, links, place=Place("the receipt"))
     return found, shown if found == RIGHT else f"{shown}; {words}"
 
 
-def impossible_reply_words(receipt):
+def impossible_reply_words_or_none(receipt):
     """Why no book gives this reply; None if one may. Only the periods are looked at: of the rest, the entries before it decide."""
-    found = heads.command_of(receipt.record)
+    found = heads.command_of_record_or_none(receipt.record)
     last = max((period for period, _ in getattr(getattr(found, "order", found), "volumes", ())), default=0)
     if receipt.reply == heads.DONE and last > receipt.head.periods:
         return f"the operator signed the reply {heads.DONE} for period {last} of a day with {receipt.head.periods}, which no book gives"
     return None
 
 
-def read_and_judge_receipts(path, head, key, links, who=None):
+def add_file_and_return_findings(path, head, key, links, who=None):
     """The findings on the receipts of a file, one in each line, which are added to the links. A line that is none is named, and so is a file that can't be read. If a
     participant is named, all are its own."""
     try:
         data = file_io.read_bytes(path)
     except command.Stop as fault:
-        yield unread_finding(path, fault)
+        yield unread_finding_or_raise(path, fault)
         return
-    yield from judge_receipt_lines(path, data, head, key, links, who)
+    yield from add_lines_and_return_findings(path, data, head, key, links, who)
 
 
-def judge_receipt_lines(path, data, head, key, links, who=None):
+def add_lines_and_return_findings(path, data, head, key, links, who=None):
     """The same from the bytes of the file."""
     try:
         lines = heads.require_lines(data)
@@ -260,11 +260,11 @@ def judge_receipt_lines(path, data, head, key, links, who=None):
         yield Finding(path, None, UNREAD, EMPTY)
     for number, data in enumerate(lines, 1):
         try:
-            receipt, is_written = heads.parse_line(data, heads.parse_receipt)
+            receipt, is_written = heads.parse_value_and_is_written(data, heads.parse_receipt)
         except heads.BadRecord as fault:
             yield Finding(path, number, UNREAD, f"it isn't a receipt: {fault}", about=LINE)
             continue
-        found, words = judge_and_add_receipt(receipt, head, key, links, Place(path, number))
+        found, words = add_receipt_and_return_verdict(receipt, head, key, links, Place(path, number))
         if who is not None and receipt.who != who and STATUSES[found] != command.DIFFERS:
             found, words = UNREAD, f"it isn't a receipt of {who}: {words}"
         if found == RIGHT and not is_written:
@@ -287,7 +287,7 @@ def finding_lines(findings):
 def received_commands(findings, who, verdicts):
     """The commands of a participant of which there are receipts with one of some verdicts, in the order of the journal."""
     kept = [finding.receipt for finding in findings if finding.receipt and finding.verdict in verdicts and finding.receipt.who == who]
-    every = {(receipt.number, receipt.record): heads.command_of(receipt.record) for receipt in kept}
+    every = {(receipt.number, receipt.record): heads.command_of_record_or_none(receipt.record) for receipt in kept}
     return [Received(number, found) for (number, _), found in sorted(every.items(), key=lambda one: one[0])]
 
 
@@ -314,7 +314,7 @@ def refusal_lines(findings):
     return [f"entry {number}: {receipt.record}, {receipt.reply}" for number, receipt in sorted(every.items())]
 
 
-def counts_of(findings):
+def counts_and_repeats(findings):
     """How many findings there are of each kind and verdict, and how many receipts are of an entry that another one has too."""
     own = [(finding.verdict, finding.receipt.number, finding.receipt.leaf()) for finding in findings if finding.receipt]
     count = Counter((RECEIPT, kind) for kind, _, _ in set(own))
@@ -327,7 +327,7 @@ def summary_line(findings, unlike, head, as_sent=None):
     none. These commands are as they were sent in the published journal only if the receipts are right. Several receipts of an entry count
     once."""
     found, refused = verdict([*findings, *unlike]), len(refusal_lines(findings))
-    count, more = counts_of(findings)
+    count, more = counts_and_repeats(findings)
     others = [f"{more} more of the same entries"] if more else []
     others += [f"{text.counted(len(unlike), 'difference')} from the commands that were sent"] if unlike else []
     sent_words = "as sent" if found in (RIGHT, ENCODING) else "with a receipt"

@@ -24,9 +24,9 @@ class UnderHead:
         self.findings = [finding for finding in findings if self.is_own(finding)]
         self.foreign = [self.foreign_fault(finding) for finding in findings if not self.is_own(finding)]
         self.odd = [finding for finding in self.findings if finding.verdict == receipts.ENCODING]
-        self.under = self.heads_of(findings)
+        self.under = self.places_by_head(findings)
         self.replies = [sealing.reply_of(reason) for reason in reasons]
-        self.records = [journal.command_record(command) for command in read.commands]
+        self.records = [journal.command_record_text(command) for command in read.commands]
         self.periods = read.periods
         self.tree = merkle.Tree(
             heads.leaf_of(number, record, reply, salts.salt(number, record, reply))
@@ -34,20 +34,20 @@ class UnderHead:
         )
         self.is_of_head = (self.periods, len(self.tree), self.tree.root()) == (head.periods, head.size, head.root)
         self.lacked = {}  # of each record that the journal lacks as it was signed, the first receipt; one that proves a fault is preferred
-        for finding in sorted(self.findings, key=lambda finding: not self.proves(finding.receipt)):
-            if self.lacked_entry_words(finding.receipt):
+        for finding in sorted(self.findings, key=lambda finding: not self.is_entry_signed(finding.receipt)):
+            if self.lacked_entry_words_or_none(finding.receipt):
                 self.lacked.setdefault(finding.receipt.record, finding.receipt)
 
-    def proves(self, receipt):
+    def is_entry_signed(self, receipt):
         """Whether the journal has the number of a receipt's entry by the operator's own signature. If it has another entry there, the
         operator signed two."""
         return self.is_of_head and receipt.number <= self.head.size
 
     def proved_words(self, receipt):
         """The end of a line about a receipt whose entry the journal lacks."""
-        return PROVED if self.proves(receipt) else ""
+        return PROVED if self.is_entry_signed(receipt) else ""
 
-    def other_beginning_words(self, head):
+    def other_beginning_words_or_none(self, head):
         """Why the journal doesn't begin with a head's entries; None if it does."""
         if head.periods != self.periods:
             return f"the journal's day has {self.periods} periods, and the head's {head.periods}{PROVED if self.is_of_head else ''}"
@@ -79,7 +79,7 @@ class UnderHead:
 
     def head_faults(self):
         """The differences of the journal from its head."""
-        words = self.other_beginning_words(self.head)
+        words = self.other_beginning_words_or_none(self.head)
         if words is None and self.head.size < len(self.tree):
             more = text.counted(len(self.tree) - self.head.size, "entry", "entries")
             words = f"the journal has {more} after the {self.head.size} that the operator signed"
@@ -89,7 +89,7 @@ class UnderHead:
         """Whether the operator signed a receipt, for this day."""
         return finding.verdict != receipts.WRONG and finding.receipt.head.day == self.head.day
 
-    def heads_of(self, findings):
+    def places_by_head(self, findings):
         """The heads that the operator signed for this day, each with the first receipt that is under it. That one may be changed itself."""
         found = {}
         for finding in findings:
@@ -109,7 +109,7 @@ class UnderHead:
     def add_earlier_head(self, path, data):
         """Adds an earlier head, by the bytes of its file. One that isn't the operator's, or is of another day, isn't compared."""
         odd = []
-        head = receipts.parse_value(path, data, heads.parse_head, "a head", odd)
+        head = receipts.parse_value_and_note(path, data, heads.parse_head, "a head", odd)
         is_own, name = signing.is_signed(self.key, head), command.shown(path)
         if not is_own or head.day != self.head.day:
             words = self.another_day_words(head) if is_own else f"{NOT_OWN}: it {receipts.NOT_SIGNED}"
@@ -122,7 +122,7 @@ class UnderHead:
         """The differences of the journal's beginning from the earlier heads."""
         return self.beginning_faults(self.earlier)
 
-    def lacked_entry_words(self, receipt):
+    def lacked_entry_words_or_none(self, receipt):
         """How the journal differs from a receipt that the operator signed; None if it has the entry."""
         at, signed = receipt.number - 1, (receipt.record, receipt.reply)
         words = f"the operator signed entry {receipt.number} as {', '.join(signed)}"
@@ -135,7 +135,7 @@ class UnderHead:
     def proof_words(self, command):
         """Whether a receipt proves that the operator had a command that the journal lacks, in words. The fault is the operator's only if
         it signed this very journal too: anyone can leave an entry out of a copy, and a later head may have more."""
-        receipt = self.lacked.get(journal.command_record(command))
+        receipt = self.lacked.get(journal.command_record_text(command))
         if receipt is None:
             return "; no receipt proves that the operator had it"
         words = f"; the operator signed it as entry {receipt.number} of {receipt.head}"
@@ -145,18 +145,18 @@ class UnderHead:
         """The faults of receipts, and of the heads that they are under."""
         for finding in self.findings:
             receipt, name = finding.receipt, receipts.Place(finding.file, finding.line)
-            if words := self.lacked_entry_words(receipt):
+            if words := self.lacked_entry_words_or_none(receipt):
                 yield Fault(f"{name}: {words}{self.proved_words(receipt)}", "receipt", receipt.number + 1)
         yield from self.beginning_faults((name, head) for head, name in self.under.items() if head != receipts.unsigned(self.head))
 
     def beginning_faults(self, named_heads):
         """A fault for each of some heads, as pairs of a name and a head, with whose entries the journal doesn't begin."""
         for name, head in named_heads:
-            if words := self.other_beginning_words(head):
+            if words := self.other_beginning_words_or_none(head):
                 yield Fault(f"{name}: {head}: {words}", "head")
 
 
-def list_receipt_files(folder):
+def require_receipt_files(folder):
     """The files of receipts of a folder, or the one that is given. A folder has no others."""
     if not os.path.isdir(folder):
         return [folder]
@@ -175,8 +175,8 @@ def read_findings_of_folder(folder, key, read=file_io.read_bytes):
     """The findings on the receipts of a folder, or of one file, whose bytes `read` gives: whether the operator signed each. All have to be
     receipts."""
     links, findings = receipts.Links([], key, []), []
-    for path in list_receipt_files(folder):
-        for finding in receipts.judge_receipt_lines(str(path), read(path), None, key, links):
+    for path in require_receipt_files(folder):
+        for finding in receipts.add_lines_and_return_findings(str(path), read(path), None, key, links):
             if finding.verdict == receipts.UNREAD:
                 raise command.Stop(str(finding))
             findings.append(finding)

@@ -10,8 +10,8 @@ from ..pictures import pictures
 from ..results import decisions, published, trades
 from ..whatif import limits
 from . import style
-from .page_pictures import block_words, draw_picture, drawing_curves, prices_words
-from .page_tables import MARKS, block_table, energy, euros, own_period_table, participant_tables, period_table
+from .page_pictures import block_words, render_picture, rendering_curves, prices_words
+from .page_tables import MARKS, block_table, energy_text, amount_text, own_period_table, participant_tables, period_table
 from .page_tables import refusal_tables, statement_table
 
 
@@ -24,8 +24,8 @@ class Section(NamedTuple):
 def figures(day, block_decisions):
     """The figures of a day, in a few numbers: their names, values and units."""
     kinds = [decision.kind for decision in block_decisions]
-    yield "welfare", euros(day, day.published.welfare), "EUR"
-    yield "energy traded", energy(day, sum(day.published.volumes)), "MWh"
+    yield "welfare", amount_text(day, day.published.welfare), "EUR"
+    yield "energy traded", energy_text(day, sum(day.published.volumes)), "MWh"
     every = len(trades.traded_periods(day)) == day.problem.periods
     names = {
         "base": "mean price of the periods" if every else "mean price of the traded periods",
@@ -42,12 +42,12 @@ def figures(day, block_decisions):
         yield f"blocks {kind}", kinds.count(kind), f"of {len(kinds)}"
 
 
-def sections(day, block_decisions, needed, curves):
+def make_sections(day, block_decisions, needed, curves):
     """The sections of a day's page: prices, blocks, periods, curves, participants and refused commands."""
-    parts = [draw_picture(lambda width: pictures.prices_picture(day, width), "prices", prices_words(day))]
+    parts = [render_picture(lambda width: pictures.new_prices_figure(day, width), "prices", prices_words(day))]
     yield Section("prices", "Prices and volumes", parts)
     if block_decisions:
-        picture = draw_picture(lambda width: pictures.blocks_picture(day, width), "blocks", block_words(block_decisions))
+        picture = render_picture(lambda width: pictures.new_blocks_figure(day, width), "blocks", block_words(block_decisions))
         yield Section("blocks", "Blocks", [picture, block_table(day, block_decisions, needed)])
     yield Section("periods", "Periods", [period_table(day)])
     if made := list(curves):
@@ -58,11 +58,11 @@ def sections(day, block_decisions, needed, curves):
         yield Section("refused", "Refused commands", refused)
 
 
-def own_sections(day, who, needed, curves):
+def make_own_sections(day, who, needed, curves):
     """The sections of a participant's page: its statement, its periods, and the parts that everybody may see."""
     yield Section("statement", f"Orders of {who}", [statement_table(day, who, needed)])
     yield Section("periods", "Periods", [own_period_table(day, who)])
-    prices = draw_picture(lambda width: pictures.prices_picture(day, width), "prices", prices_words(day))
+    prices = render_picture(lambda width: pictures.new_prices_figure(day, width), "prices", prices_words(day))
     yield Section("prices", "Prices and volumes", [prices])
     if made := list(curves):
         yield Section("curves", "Supply and demand", made)
@@ -75,12 +75,12 @@ def own_figures(day, who):
     yield "orders in the book", sum(row.who == who for row in day.problem.rows), ""
     yield "commands refused", refused, ""
     for words, value, unit in (
-        ("bought", energy(day, total.bought), "MWh"),
-        ("sold", energy(day, total.sold), "MWh"),
-        ("pays", euros(day, total.paid), "EUR"),
-        ("is paid", euros(day, total.received), "EUR"),
-        ("net", euros(day, total.received - total.paid), "EUR"),
-        ("gain", euros(day, total.gained), "EUR"),
+        ("bought", energy_text(day, total.bought), "MWh"),
+        ("sold", energy_text(day, total.sold), "MWh"),
+        ("pays", amount_text(day, total.paid), "EUR"),
+        ("is paid", amount_text(day, total.received), "EUR"),
+        ("net", amount_text(day, total.received - total.paid), "EUR"),
+        ("gain", amount_text(day, total.gained), "EUR"),
     ):
         yield words, value, unit
 
@@ -89,9 +89,9 @@ def make_day_page(day, title, curves, date=None, who=None, with_limits=True):
     """The page of a day, or of a participant's part of it, with the curves of some periods, and the date of delivery if it is known; with
     the limits that rejected blocks needed, or without them."""
     found = decisions.decisions(day.problem, day.published.accepted, day.outcome)
-    needed = limits.run_for_rejected(day, who, with_limits)  # before the curves, whose processes are copies of this one
-    with drawing_curves(day, curves) as drawn_curves:
-        parts = list(own_sections(day, who, needed, drawn_curves) if who else sections(day, found, needed, drawn_curves))
+    needed = limits.capture_rejected_sentences(day, who, with_limits)  # before the curves, whose processes are copies of this one
+    with rendering_curves(day, curves) as drawn_curves:
+        parts = list(make_own_sections(day, who, needed, drawn_curves) if who else make_sections(day, found, needed, drawn_curves))
     return style.TEMPLATES.get_template("page.html").render(
         title=title,
         style=style.read_style(),

@@ -9,7 +9,7 @@ from typing import NamedTuple
 
 from markupsafe import Markup, escape
 
-from ..base import aside, clock, text
+from ..base import child_call, clock, text
 from ..pictures import canvas, curves
 from ..results import trades
 from .page_tables import MARKS
@@ -38,7 +38,7 @@ def with_hover(drawn, hover):
     return drawn
 
 
-def render_inlined(figure, name, kind, words):
+def render_inline_and_close(figure, name, kind, words):
     """A picture within the page: its colours are the page's, and its identifiers its own."""
     hover = canvas.hover_of(figure)
     drawn = with_hover(canvas.render_and_close(figure, "svg", words_as_text=True).decode(), hover)
@@ -54,9 +54,9 @@ def render_inlined(figure, name, kind, words):
     return Markup(drawn)
 
 
-def draw_picture(draw, name, words):
+def render_picture(draw, name, words):
     """A picture, for broad screens and for narrow ones."""
-    broad, narrow = (render_inlined(draw(width), name, kind, words) for kind, width in canvas.WIDTHS.items())
+    broad, narrow = (render_inline_and_close(draw(width), name, kind, words) for kind, width in canvas.WIDTHS.items())
     return Picture(words, broad, narrow)
 
 
@@ -99,9 +99,10 @@ def curve_sheet(width):
     return curves.CurveSheet(width)
 
 
-def draw_curves(day, number, folded):
+def render_curves(day, number, folded):
     """The curves of a period, under a line that opens them if there are many: then one at a time is open."""
-    picture = draw_picture(lambda width: curve_sheet(width).draw(day, number), f"period{number}", curve_words(day, number))
+    draw = lambda width: curve_sheet(width).draw_and_return_figure(day, number)
+    picture = render_picture(draw, f"period{number}", curve_words(day, number))
     if not folded:
         return picture
     words = "no trade"
@@ -111,31 +112,31 @@ def draw_curves(day, number, folded):
     return picture._replace(summary=summary.format(number, clock.time_span(day.problem.periods, number), words))
 
 
-def draw_folded_curves(number):
+def render_folded_curves(number):
     """The same in a process of its own, which has the day from the one that started it."""
-    return draw_curves(drawing_curves.day, number, True)
+    return render_curves(rendering_curves.day, number, True)
 
 
 @contextlib.contextmanager
-def drawing_curves(day, numbers):
+def rendering_curves(day, numbers):
     """A source of the curves of some periods, in their order. Many are drawn by several processes, which begin at once, so that the rest of
     the page can be made in the meantime; a line says how far they are."""
     jobs = min(len(os.sched_getaffinity(0)), len(numbers))
     if len(numbers) <= FEW_CURVES or jobs == 1:
-        yield (draw_curves(day, number, len(numbers) > MOST_SHOWN) for number in numbers)
+        yield (render_curves(day, number, len(numbers) > MOST_SHOWN) for number in numbers)
         return
-    drawing_curves.day, bar = day, StepBar("report", len(numbers), "curves")
-    with aside.blocking_interrupts():
+    rendering_curves.day, bar = day, StepBar("report", len(numbers), "curves")
+    with child_call.blocking_interrupts():
         made = multiprocessing.get_context("fork").Pool(jobs)
     with made as pool:
         try:
-            yield stepping(pool.imap(draw_folded_curves, numbers), bar)
+            yield iterate_with_steps(pool.imap(render_folded_curves, numbers), bar)
         finally:
-            bar.end()
+            bar.erase()
 
 
-def stepping(pictures_of_curves, bar):
+def iterate_with_steps(pictures_of_curves, bar):
     """Yields each that is made, and takes a step of the bar after it."""
     for one in pictures_of_curves:
         yield one
-        bar.step()
+        bar.count_and_show()

@@ -9,7 +9,7 @@ from ..base import clock, spans, text
 from ..journal import book
 from ..results import decisions, published, trades
 from ..sheets import tables
-from ..journal.journal import command_record
+from ..journal.journal import command_record_text
 
 MARKS = {decisions.ACCEPTED: "accepted", decisions.REJECTED: "rejected", decisions.PARADOX: "paradox"}
 NUMBER = "n"  # the class of cells that stand to the right
@@ -39,11 +39,11 @@ def name_cell(*words):
     return Markup(" ").join(Markup('<span class="name">{}</span>').format(word) for word in words)
 
 
-def energy(day, tenths):
+def energy_text(day, tenths):
     return text.shown(Fraction(tenths) * day.problem.hours / 10, 1 if day.problem.hours == 1 else 2)
 
 
-def euros(day, amount):
+def amount_text(day, amount):
     return text.amount(amount, day.problem.hours)
 
 
@@ -67,7 +67,7 @@ def period_table(day):
     return Table("The price of each period, the prices that support it, and the bought and sold volumes", columns, rows)
 
 
-def periods_of(order):
+def periods_words(order):
     return spans.spans_words(number for number, _ in order.volumes)
 
 
@@ -77,10 +77,10 @@ def block_table(day, block_decisions, needed):
         order = block.order
         why = f"{decision.why}. {needed[place]}" if place in needed else decision.why
         mark = Markup('<span class="mark {}"></span>{}').format(MARKS[decision.kind], decision.kind)
-        total = energy(day, sum(tenths for _, tenths in order.volumes))
+        total = energy_text(day, sum(tenths for _, tenths in order.volumes))
         links = [f"{word} {name}" for word, name in (("parent", order.parent), ("group", order.group)) if name]
-        row = [order.side, text.shown_price(order.price), periods_of(order), total, ", ".join(links)]
-        rows.append([name_cell(block.who, block.name), mark, why, euros(day, surplus), *row])
+        row = [order.side, text.shown_price(order.price), periods_words(order), total, ", ".join(links)]
+        rows.append([name_cell(block.who, block.name), mark, why, amount_text(day, surplus), *row])
     columns = heads("surplus, EUR", "side", "limit, EUR/MWh", "periods", "offered, MWh", "linked by")
     caption = "Each block, the reason, and its surplus at the prices; for a rejected block, with the best family that it belongs to"
     return Table(caption, [Heading("block"), Heading("decision", "decision"), Heading("reason", "why"), *columns], rows)
@@ -92,21 +92,21 @@ def order_row(day, row, own_trades, decisions_by_name):
     done = sum(trade.volume for trade in own_trades)
     offered = sum(tenths for _, tenths in order.volumes)
     outcome = trades.execution_words(order, done) if order.kind == "hour" else decisions_by_name[row.who, row.name].kind
-    amount = euros(day, sum(trade.amount() for trade in own_trades))
-    energies = energy(day, offered), energy(day, done)
-    return [name_cell(row.name), order.kind, order.side, text.shown_price(order.price), periods_of(order), *energies, outcome, amount]
+    amount = amount_text(day, sum(trade.amount() for trade in own_trades))
+    energies = energy_text(day, offered), energy_text(day, done)
+    return [name_cell(row.name), order.kind, order.side, text.shown_price(order.price), periods_words(order), *energies, outcome, amount]
 
 
 def total_row(day, who, count, total):
-    amounts = [euros(day, amount) for amount in (total.paid, total.received, total.received - total.paid)]
-    return [who, count, energy(day, total.bought), energy(day, total.sold), *amounts]
+    amounts = [amount_text(day, amount) for amount in (total.paid, total.received, total.received - total.paid)]
+    return [who, count, energy_text(day, total.bought), energy_text(day, total.sold), *amounts]
 
 
 def participant_tables(day, block_decisions):
     """A table of the participants with their sum, and under it the orders of each."""
     by_name = {(block.who, block.name): decision for block, decision in zip(day.problem.blocks, block_decisions)}
     rows = {}
-    for row, made in trades.row_trades(day):
+    for row, made in trades.rows_and_trades(day):
         rows.setdefault(row.who, []).append(order_row(day, row, made, by_name))
     totals = trades.totals(day)
     summed = trades.Total(*map(sum, zip(*totals.values()))) if totals else trades.Total()
@@ -123,7 +123,7 @@ def participant_tables(day, block_decisions):
 
 def refusal_tables(day):
     rows = [
-        [number, reason, book.REASONS[reason].words, command_record(command)]
+        [number, reason, book.REASONS[reason].words, command_record_text(command)]
         for number, (command, reason) in enumerate(zip(day.journal.commands, day.reasons), 1)
         if reason
     ]
@@ -133,7 +133,7 @@ def refusal_tables(day):
 
 def own_commands(day, who):
     """The commands of a participant as in its statement, each by the names of its columns: those of blocks first."""
-    heads_of, *commands = tables.statement(day)
+    heads_of, *commands = tables.statement_rows(day)
     own = [cells for cells in (dict(zip(heads_of, row)) for row in commands) if cells["participant"] == who]
     blocks = {cells["order"] for cells in own if cells["kind"] == "block"}
     return sorted(own, key=lambda cells: cells["order"] not in blocks)
@@ -159,7 +159,7 @@ def statement_table(day, who, needed):
 def own_period_table(day, who):
     """The trades of a participant in each period."""
     rows = []
-    for owner, number, *sums in list(published.long_participants(day))[1:]:
+    for owner, number, *sums in list(published.long_participant_rows(day))[1:]:
         if owner == who:
             price, begins = text.shown_price(day.published.prices[number - 1]), clock.begin_time(day.problem.periods, number)
             rows.append([number, begins, price, *(text.shown(Fraction(value), digits) for value, digits in zip(sums, (1, 1, 2, 2)))])

@@ -20,7 +20,7 @@ def results_and_faults(problem, data):
     """The results of a text (None if it has none), and a fault for each difference from the results of their own selection of blocks:
     first the faults of the selection itself, then the numbers in the order of their lines, and last the sums that don't add up. One
     wrong block changes the prices of many periods, so its own fault is said before these."""
-    published, wrong = results.parse_results(problem, data)
+    published, wrong = results.parse_results_and_faults(problem, data)
     if published is None:
         return None, wrong
     follows = selection.outcome(problem, published.accepted)
@@ -57,7 +57,7 @@ def selection_faults(problem, published, follows):
 
 def welfare_faults(problem, published, follows):
     if follows.welfare is not None and published.welfare != follows.welfare:
-        shown, right = (f"{welfare} ({problem.euros(welfare)} EUR)" for welfare in (published.welfare, follows.welfare))
+        shown, right = (f"{welfare} ({problem.euros_text(welfare)} EUR)" for welfare in (published.welfare, follows.welfare))
         words = f"the welfare is {shown}, and of these executions it is {right}"
         yield subject_fault(published, "welfare", "the welfare", words)
 

@@ -48,55 +48,34 @@ class Judge:
         self.surpluses = outcome.surpluses
         self.write = euros
 
-    def eur(self, amount):
+    def eur_words(self, amount):
         return f"{self.write(amount, self.problem.hours)} EUR"
 
     def name(self, place):
         return self.problem.blocks[place].name
 
-    def names(self, places):
-        return listed([self.name(place) for place in sorted(places)])
+    def names_words(self, places):
+        return listed_words([self.name(place) for place in sorted(places)])
 
     def decision(self, place):
         if place in self.accepted:
-            return Decision(ACCEPTED, self.accepted_why(place), self.accepted_code(place))
-        conflict = families.never_together(self.problem, place)
+            code, why = self.accepted_code_and_words(place)
+            return Decision(ACCEPTED, why, code)
+        conflict = families.never_together_or_none(self.problem, place)
         if conflict:
             return Decision(REJECTED, self.never_why(place, conflict), NEVER)
-        family = families.best_family(self.problem, self.accepted, self.surpluses, place)
+        family = families.best_family_or_none(self.problem, self.accepted, self.surpluses, place)
         if family is None:
             return Decision(REJECTED, self.unknown_why(place), NO_PRICE)
         other = self.selection_with(family)
         paradox = not family.rivals and not family.losers() and family.gains[place] > 0 and family.gain() > 0
-        kind, twin = PARADOX if paradox else REJECTED, self.twin(place, family)
+        kind, twin = PARADOX if paradox else REJECTED, self.twin_place_or_none(place, family)
         if twin is not None:
             return Decision(kind, self.twin_why(place, family, twin), TIE, family, other)
-        return Decision(kind, self.rejected_why(place, family, other), self.rejected_code(place, family, other), family, other)
+        code, why = self.rejected_code_and_words(place, family, other)
+        return Decision(kind, why, code, family, other)
 
-    def accepted_code(self, place):
-        surplus = self.surpluses[place]
-        if surplus is None:
-            return NO_PRICE
-        if surplus >= 0:
-            return GAINS
-        return COVERED if selection.gain_with_rescuers(self.problem, self.accepted, place, self.surpluses) >= 0 else LOSES
-
-    def rejected_code(self, place, family, other):
-        if family.rivals:
-            return GROUP
-        if family.gains[place] < 0:
-            return LOSES
-        if family.losers():
-            return PARENT
-        if other.unbalanced is not None:
-            return UNBALANCED
-        if other.losers:
-            return WOULD_LOSE
-        if self.outcome.welfare is None or other.welfare > self.outcome.welfare:
-            return BETTER
-        return TIE if other.welfare == self.outcome.welfare else LESS
-
-    def twin(self, place, family):
+    def twin_place_or_none(self, place, family):
         """An accepted block that offers the same as a rejected one and stands earlier, in whose place that would be worth as much; None if
         there is none."""
         if family.rivals or family.members != {place} or family.gains[place] < 0 or self.outcome.welfare is None:
@@ -105,7 +84,7 @@ class Judge:
         for other in sorted(self.accepted):
             same = self.problem.blocks[other].order[:4] == order[:4]
             swapped = self.accepted - {other} | {place}
-            if other < place and same and selection.eligible_welfare(self.problem, swapped) == self.outcome.welfare:
+            if other < place and same and selection.eligible_welfare_or_none(self.problem, swapped) == self.outcome.welfare:
                 return other
         return None
 
@@ -114,22 +93,24 @@ class Judge:
         name = other.name if other.who == own.who else str(other)
         return f"{self.at_the_prices_words(place, family)}, but {name} offers the same and stands earlier in the book"
 
-    def accepted_why(self, place):
+    def accepted_code_and_words(self, place):
+        """The code and the words for the reason that decided an accepted block."""
         surplus, parent = self.surpluses[place], self.problem.parents[place]
         if surplus is None:
-            return "is accepted, and has a period that doesn't balance, and so has no price"
-        why = "gains nothing" if not surplus else f"{'gains' if surplus > 0 else 'loses'} at the prices"
-        rescuers = selection.accepted_rescuers(self.problem, self.accepted, place)
-        if surplus < 0 and rescuers:
-            together = selection.gain_with_rescuers(self.problem, self.accepted, place, self.surpluses)
-            does = "loses" if together < 0 else "gains"
-            why += f" by itself, and with {self.names(rescuers)} it {does} {self.eur(abs(together))}"
-        return why + (f", and its parent {self.name(parent)} is accepted" if parent is not None else "")
+            return NO_PRICE, "is accepted, and has a period that doesn't balance, and so has no price"
+        code, why = GAINS, "gains at the prices" if surplus > 0 else "gains nothing"
+        if surplus < 0:
+            together = selection.gain_with_rescuers_or_none(self.problem, self.accepted, place, self.surpluses)
+            code, why = LOSES if together < 0 else COVERED, "loses at the prices"
+            if rescuers := selection.accepted_rescuers(self.problem, self.accepted, place):
+                does = "loses" if code == LOSES else "gains"
+                why += f" by itself, and with {self.names_words(rescuers)} it {does} {self.eur_words(abs(together))}"
+        return code, why + (f", and its parent {self.name(parent)} is accepted" if parent is not None else "")
 
     def never_why(self, place, of_group):
         group = self.problem.blocks[of_group[0]].order.group
         above = [self.name(other) for other in of_group if other != place]
-        words = f"{listed(above)}, from which it descends," + (" and it" if place in of_group else "")
+        words = f"{listed_words(above)}, from which it descends," + (" and it" if place in of_group else "")
         return f"can never be accepted, because {words} are {'both' if len(of_group) == 2 else 'all'} of the group {group}"
 
     def unknown_why(self, place):
@@ -148,33 +129,35 @@ class Judge:
         losers = selection.losses_of(self.problem, accepted, then.surpluses) if unbalanced is None else {}
         return Other(accepted, unbalanced, then.welfare, losers)
 
-    def rejected_why(self, place, family, other):
+    def rejected_code_and_words(self, place, family, other):
+        """The code and the words for the reason that decided a rejected block. The words add the consequences of its acceptance."""
         why = self.at_the_prices_words(place, family)
+        code, then = self.consequence_code_and_words(place, other)
         if family.rivals:
-            return f"{why}; {self.instead_words(place, family)} {self.consequence_words(place, other)}"
+            return GROUP, f"{why}; {self.instead_words(place, family)} {then}"
         if family.gains[place] < 0:
             parent = self.problem.parents[place]
-            return why + (f"; its parent {self.name(parent)} is rejected" if parent in family.needed else "")
+            return LOSES, why + (f"; its parent {self.name(parent)} is rejected" if parent in family.needed else "")
         count = len(family.members)
         word = {1: "it", 2: "both"}.get(count, f"all {count}")
-        join = "; " if family.losers() else ", but " if family.gain() else ", and "
-        return f"{why}{join}if {word} were added and the other blocks stayed as they are, {self.consequence_words(place, other)}"
+        code, join = (PARENT, "; ") if family.losers() else (code, ", but " if family.gain() else ", and ")
+        return code, f"{why}{join}if {word} were added and the other blocks stayed as they are, {then}"
 
     def at_the_prices_words(self, place, family):
         """The gain or loss of a block at the prices, with its family."""
         own, rescuers = family.gains[place], family.members.intersection(self.problem.rescuers[place])
         if own < 0:
-            return f"would lose {self.eur(-own)} at the prices" + (f", even with {self.names(rescuers)}" if rescuers else "")
+            return f"would lose {self.eur_words(-own)} at the prices" + (f", even with {self.names_words(rescuers)}" if rescuers else "")
         losers = family.losers()
         others = rescuers if losers else family.members - {place}
         gain = own if losers else family.gain()
-        start = f"with {self.names(others)} it " if others else ""
-        why = start + (f"would gain {self.eur(gain)} at the prices" if gain else "would gain nothing at the prices")
+        start = f"with {self.names_words(others)} it " if others else ""
+        why = start + (f"would gain {self.eur_words(gain)} at the prices" if gain else "would gain nothing at the prices")
         if losers:
             word = "its parent " if losers[0] == self.problem.parents[place] else ""
             below = family.members.intersection(self.problem.rescuers[losers[0]])
             why += f", but {word}{self.name(losers[0])}, without which it can't be accepted, would lose"
-            why += f" {self.eur(-family.gains[losers[0]])} even with {'it' if below == {place} else self.names(below)}"
+            why += f" {self.eur_words(-family.gains[losers[0]])} even with {'it' if below == {place} else self.names_words(below)}"
         return why
 
     def instead_words(self, place, family):
@@ -189,22 +172,23 @@ class Judge:
         are = "is" if len(groups) == 1 else "are"
         their, them = ("its", "it") if len(groups) == 1 else ("their", "them")
         orphans = family.removed - set(family.rivals)
-        besides = f" and that of {self.names(orphans)}, which can't be accepted without {them}," if orphans else ""
-        return f"{listed(groups)} {are} accepted, and with {self.names(family.members)} in {their} place{besides}"
+        besides = f" and that of {self.names_words(orphans)}, which can't be accepted without {them}," if orphans else ""
+        return f"{listed_words(groups)} {are} accepted, and with {self.names_words(family.members)} in {their} place{besides}"
 
-    def consequence_words(self, place, other):
-        """The welfare of another selection, and who would lose in it."""
+    def consequence_code_and_words(self, place, other):
+        """The code and the words for the reason against another selection: an unbalanced period, who would lose, or the welfare."""
         if other.unbalanced is not None:
-            return f"period {other.unbalanced} wouldn't balance: {self.unmatched_words(other)}"
-        worth = self.worth_words(other)
+            return UNBALANCED, f"period {other.unbalanced} wouldn't balance: {self.unmatched_words(other)}"
+        worth, own = self.worth_words(other), self.outcome.welfare
         if other.losers:
-            more = self.outcome.welfare is not None and other.welfare > self.outcome.welfare
-            return f"{self.loss_words(place, other)}, {'though' if more else 'and'} {worth}"
-        if other.welfare == self.outcome.welfare:
-            flags = len(self.problem.blocks), other.welfare, other.accepted, other.welfare, self.accepted
-            above = selection.ranks_above(*flags)
-            return worth + (", and it ranks above" if above else ", and of equal selections the one with the earlier block is taken")
-        return worth
+            more = own is not None and other.welfare > own
+            return WOULD_LOSE, f"{self.loss_words(place, other)}, {'though' if more else 'and'} {worth}"
+        if own is None or other.welfare > own:
+            return BETTER, worth
+        if other.welfare < own:
+            return LESS, worth
+        above = selection.ranks_above(len(self.problem.blocks), other.welfare, other.accepted, own, self.accepted)
+        return TIE, worth + (", and it ranks above" if above else ", and of equal selections the one with the earlier block is taken")
 
     def unmatched_words(self, other):
         """The volume of the accepted blocks that the period's hourly orders of the other side can't match."""
@@ -217,11 +201,11 @@ class Judge:
 
     def worth_words(self, other):
         if self.outcome.welfare is None:
-            return f"the welfare would be {self.eur(other.welfare)}"
+            return f"the welfare would be {self.eur_words(other.welfare)}"
         more = other.welfare - self.outcome.welfare
         if not more:
             return "the welfare would be the same"
-        return f"the welfare would be {self.eur(abs(more))} {'greater' if more > 0 else 'less'}"
+        return f"the welfare would be {self.eur_words(abs(more))} {'greater' if more > 0 else 'less'}"
 
     def loss_words(self, place, other):
         """Who would lose in another selection, the block itself first."""
@@ -230,14 +214,14 @@ class Judge:
         for loser in first:
             family = " together with its accepted descendants" if selection.accepted_rescuers(self.problem, other.accepted, loser) else ""
             who = "the block itself" if loser == place else str(self.problem.blocks[loser])
-            words.append(f"{who} would lose {self.eur(other.losers[loser])}{family}")
+            words.append(f"{who} would lose {self.eur_words(other.losers[loser])}{family}")
         more = len(other.losers) - MOST_LOSERS
         if more > 0:
             words.append(f"{more} more block{'s' * (more > 1)} would lose")
-        return listed(words)
+        return listed_words(words)
 
 
-def listed(words):
+def listed_words(words):
     """Words in a row, such as `A`, `A and B` or `A, B and C`."""
     words = list(words)
     return " and ".join([", ".join(words[:-1]), words[-1]] if len(words) > 1 else words)

@@ -31,12 +31,12 @@ def plain_text_and_faults(data):
         data = data.rstrip(b"\n") + b"\n"
         odd.append("empty lines follow the last line")
     if QUOTED.search(data):
-        data = b"".join(QUOTED.sub(rb"\1", part) for part in split_fields(data))
+        data = b"".join(QUOTED.sub(rb"\1", part) for part in parts_of_whole_fields(data))
         odd.append("fields stand in quotes")
     return data, [Fault(words, "encoding") for words in odd]
 
 
-def split_fields(data):
+def parts_of_whole_fields(data):
     """The parts of a text, each of whole fields: to change all fields at once takes far more memory."""
     begin = 0
     while begin < len(data):

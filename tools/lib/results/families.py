@@ -32,18 +32,18 @@ def ancestors(problem, place):
         yield place
 
 
-def group_of(problem, place):
+def group_or_none(problem, place):
     """The exclusive group of a block as `Problem.groups` has it; None for a block without one."""
     block = problem.blocks[place]
     return (block.who, block.order.group) if block.order.group else None
 
 
-def never_together(problem, place):
+def never_together_or_none(problem, place):
     """Blocks of one group, too many to be accepted together, from which a block descends or of which it is one, the topmost first. So it
     can never be accepted. None if there are none."""
     seen = {}
     for member in [place, *ancestors(problem, place)]:
-        group = group_of(problem, member)
+        group = group_or_none(problem, member)
         of_group = [member, *seen.get(group, [])]
         if group is not None and len(of_group) > rules.MOST_OF_GROUP:
             return of_group
@@ -51,11 +51,11 @@ def never_together(problem, place):
     return None
 
 
-def needed(problem, accepted, place):
+def needed_blocks(problem, accepted, place):
     return tuple(reversed([place, *(above for above in ancestors(problem, place) if above not in accepted)]))
 
 
-def below(problem, accepted, root):
+def rejected_below(problem, accepted, root):
     """A rejected block and the rejected ones that descend from it by rejected ones, each after its parent."""
     found = {root}
     for place in problem.rescuers[root]:
@@ -64,36 +64,36 @@ def below(problem, accepted, root):
     return sorted(found)
 
 
-def room(problem, places):
+def room_of_groups(problem, places):
     """How many more blocks each group of these blocks admits next to them."""
-    counts = Counter(group_of(problem, place) for place in places)
+    counts = Counter(group_or_none(problem, place) for place in places)
     return {group: rules.MOST_OF_GROUP - count for group, count in counts.items() if group is not None}
 
 
 def rivals(problem, accepted, places, surpluses):
     """The accepted blocks that have to go, so that the groups have room for these places: of each group those of least surplus."""
     found = []
-    for group, left in room(problem, places).items():
-        members = [place for place in sorted(accepted) if group_of(problem, place) == group]
+    for group, left in room_of_groups(problem, places).items():
+        members = [place for place in sorted(accepted) if group_or_none(problem, place) == group]
         by_surplus = sorted(members, key=lambda place: (surpluses[place] is not None, surpluses[place] or 0, -place))
         found += by_surplus[: max(0, len(members) - left)]
     return tuple(sorted(found))
 
 
-def admitted(problem, tree, path, staying):
+def admitted_sets(problem, tree, path, staying):
     """The sets of blocks of a tree that groups admit in addition to the needed ones: in turn each of the choices of as many blocks of
     each group of the tree as it has room for."""
-    left, groups = room(problem, [*path, *staying]), {}
+    left, groups = room_of_groups(problem, [*path, *staying]), {}
     for place in tree:
         if place not in path:
-            groups.setdefault(group_of(problem, place), []).append(place)
+            groups.setdefault(group_or_none(problem, place), []).append(place)
     alone = groups.pop(None, [])
     most = {group: min(left.get(group, rules.MOST_OF_GROUP), len(members)) for group, members in groups.items()}
     for choices in itertools.product(*(itertools.combinations(members, most[group]) for group, members in groups.items())):
         yield {*path, *alone, *itertools.chain(*choices)}
 
 
-def grown_family(problem, surpluses, tree, path, allowed):
+def grown_members_and_gains(problem, surpluses, tree, path, allowed):
     """The members and gains of the family that has the needed blocks, and of the allowed ones each that adds to the gain."""
     gains = {place: surpluses[place] for place in tree if place in allowed}
     for place in reversed(tree):
@@ -107,16 +107,17 @@ def grown_family(problem, surpluses, tree, path, allowed):
     return frozenset(members), {place: gains[place] for place in path}
 
 
-def best_family(problem, accepted, surpluses, place):
+def best_family_or_none(problem, accepted, surpluses, place):
     """The best family that a rejected block belongs to: one in which nobody loses at the prices before any other, then the one
     that gains most, then the smallest. None if a needed block has no surplus, since a period of it has no price."""
-    path = needed(problem, accepted, place)
+    path = needed_blocks(problem, accepted, place)
     if any(surpluses[member] is None for member in path):
         return None
     out = rivals(problem, accepted, path, surpluses)
     removed = {other for rival in out for other in [rival, *problem.rescuers[rival]] if other in accepted}
-    tree = [member for member in below(problem, accepted, path[0]) if surpluses[member] is not None]
-    found = (grown_family(problem, surpluses, tree, path, allowed) for allowed in admitted(problem, tree, path, accepted - removed))
+    tree = [member for member in rejected_below(problem, accepted, path[0]) if surpluses[member] is not None]
+    sets = admitted_sets(problem, tree, path, accepted - removed)
+    found = (grown_members_and_gains(problem, surpluses, tree, path, allowed) for allowed in sets)
 
     def rank(family):
         members, gains = family

@@ -54,8 +54,8 @@ def subject_fault(published, kind, about, words):
     return line_fault(kind, published.lines[about], about, words)
 
 
-def moved_pairs(expected_lines, text_lines, pairs):
-    """The lines of `matched_places` that stand in the place of none and are missing in another: from the place in the text to the
+def moved_places(expected_lines, text_lines, pairs):
+    """The lines of `matched_pairs` that stand in the place of none and are missing in another: from the place in the text to the
     expected one."""
     apart = [(at, place) for at, place in pairs if at is None or place is None or expected_lines[at] != text_lines[place]]
     missing = {expected_lines[at]: at for at, _ in apart if at is not None}
@@ -63,7 +63,7 @@ def moved_pairs(expected_lines, text_lines, pairs):
     return {place: missing[line] for line, place in strays.items() if line in missing}
 
 
-def matched_places(expected_lines, text_lines):
+def matched_pairs(expected_lines, text_lines):
     """The places of the expected lines and of those of a text, in their order, as pairs; None stands for the other place of a line that
     is missing, or that isn't expected. Lines are given by their subjects, so that a stray line is one pair."""
     if expected_lines == text_lines:  # the usual case, and far quicker to see

@@ -46,7 +46,7 @@ def first_where(least, greatest, holds):
     return least
 
 
-def supporting(orders, net):
+def supporting_ends_or_none(orders, net):
     """The least and the greatest supporting price; None if no execution balances.
 
     A price supports a balanced execution exactly if it sells neither too little nor too much, for each volume between
@@ -63,7 +63,7 @@ def is_better(order, price):
     return limit > price if side == "buy" else limit < price
 
 
-def fill_by_price(orders, side, price, total):
+def volumes_at_price(orders, side, price, total):
     """Gives a total volume to the orders of a side at the price, in book order: pairs of a place and a volume."""
     for place, (of, limit, quantity) in enumerate(orders):
         if of == side and limit == price:
@@ -71,7 +71,7 @@ def fill_by_price(orders, side, price, total):
             total -= min(quantity, total)
 
 
-def execution(orders, net, price):
+def executed_volumes(orders, net, price):
     """The executed volume of each order, at a supporting price.
 
     Each execution that the price supports has the greatest welfare. Of these the one that buys most lets the orders at the
@@ -84,7 +84,7 @@ def execution(orders, net, price):
     buying = min(buying, sold + selling + net - bought)
     selling = bought + buying - net - sold
     for side, total in (("buy", buying), ("sell", selling)):
-        for place, quantity in fill_by_price(orders, side, price, total):
+        for place, quantity in volumes_at_price(orders, side, price, total):
             executed[place] = quantity
     return tuple(executed)
 
@@ -97,11 +97,11 @@ def welfare(orders, executed):
 
 
 @functools.lru_cache(maxsize=1_000)
-def clear(orders, net):
+def clearing_or_none(orders, net):
     """The clearing of a period; None if no execution balances."""
-    ends = supporting(orders, net)
+    ends = supporting_ends_or_none(orders, net)
     if ends is None:
         return None
-    price, case = rules.price_between(*ends)
-    executed = execution(orders, net, price)
+    price, case = rules.price_and_case(*ends)
+    executed = executed_volumes(orders, net, price)
     return Cleared(*ends, price, case, executed, welfare(orders, executed))

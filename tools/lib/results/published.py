@@ -10,7 +10,7 @@ from . import sums, trades
 PEAK = 8 * 60, 20 * 60
 
 
-def steps(day, number, side):
+def curve_steps(day, number, side):
     """The curve of a side in a period: the volume of its accepted blocks, which has no price of its own and so stands at the limit of
     the range, and then its hourly orders by price, the best first. Each as a part, a price and a volume."""
     blocks = sum(volume for at, volume in accepted_volumes(day, side) if at == number)
@@ -31,13 +31,13 @@ def accepted_volumes(day, side):
             yield from order.volumes
 
 
-def curves(day):
+def curve_rows(day):
     """A row for each step of the demand and the supply of each period, and one for the point at which it is cleared."""
     yield ["period", "curve", "part", "price_eur_mwh", "from_mw", "to_mw"]
     for number in day.problem.orders:
         for curve, side in (("demand", "buy"), ("supply", "sell")):
             end = 0
-            for part, limit, volume in steps(day, number, side):
+            for part, limit, volume in curve_steps(day, number, side):
                 yield [number, curve, part, text.eur_per_mwh(limit), text.mw(end), text.mw(end + volume)]
                 end += volume
         if trades.is_traded(day, number):
@@ -49,7 +49,7 @@ def is_peak(periods, number):
     return PEAK[0] <= clock.begin_minutes(periods, number) < PEAK[1]
 
 
-def mean(prices):
+def mean_or_none(prices):
     """The mean of prices in cents, rounded to a cent; None if there are none."""
     prices = list(prices)
     return round_half_up(Fraction(sum(prices), len(prices))) if prices else None
@@ -66,16 +66,16 @@ def mean_prices(day):
     periods = day.problem.periods
     weighted = sum(price * volumes[number] for number, price in prices.items())
     return {
-        "base": mean(prices.values()),
-        "peak": mean(price for number, price in prices.items() if is_peak(periods, number)),
-        "off_peak": mean(price for number, price in prices.items() if not is_peak(periods, number)),
+        "base": mean_or_none(prices.values()),
+        "peak": mean_or_none(price for number, price in prices.items() if is_peak(periods, number)),
+        "off_peak": mean_or_none(price for number, price in prices.items() if not is_peak(periods, number)),
         "by_volume": round_half_up(Fraction(weighted, sum(volumes.values()))) if prices else None,
         "least": min(prices.values(), default=None),
         "greatest": max(prices.values(), default=None),
     }
 
 
-def figures(day):
+def figure_rows(day):
     """The figures of a day, in a few numbers."""
     yield ["figure", "unit", "value"]
     yield ["welfare", "EUR", text.eur(day.published.welfare, day.problem.hours, "")]
@@ -87,7 +87,7 @@ def figures(day):
         yield [name, "EUR", text.eur(amount, day.problem.hours, "")]
 
 
-def long_periods(rows):
+def long_period_rows(rows):
     """The periods' table with a row for each of its numbers."""
     heads = next(rows)
     kept = [at for at, head in enumerate(heads) if head.endswith(("_eur_mwh", "_mw"))]
@@ -98,11 +98,11 @@ def long_periods(rows):
                 yield [row[0], row[heads.index("traded")], heads[at], row[at]]
 
 
-def long_orders(day, kind=None):
+def long_order_rows(day, kind=None):
     """A row for each period of each order, or of each block."""
     heads = ["participant", "order", "kind", "side", "limit_eur_mwh", "period", "offered_mw", "executed_mw", "price_eur_mwh"]
     yield [*heads, "amount_eur"]
-    for row, made in trades.row_trades(day):
+    for row, made in trades.rows_and_trades(day):
         executed = {trade.period: trade for trade in made}
         for number, offered in row.order.volumes:
             if kind in (None, row.order.kind):
@@ -114,11 +114,11 @@ def long_orders(day, kind=None):
                 yield [*order, *volumes, price, text.eur(amount, day.problem.hours, "")]
 
 
-def long_participants(day):
+def long_participant_rows(day):
     """A row for each period in which a participant trades."""
     yield ["participant", "period", "bought_mw", "sold_mw", "paid_eur", "received_eur"]
     found = {}
-    for _, made in trades.row_trades(day):
+    for _, made in trades.rows_and_trades(day):
         for trade in made:
             sums = found.setdefault((trade.who, trade.period), [0, 0, 0, 0])
             sums[trade.side == "sell"] += trade.volume

@@ -4,7 +4,7 @@ import re
 from typing import NamedTuple
 
 from ..base import text
-from .faults import Fault, matched_places, moved_pairs, line_fault
+from .faults import Fault, matched_pairs, moved_places, line_fault
 
 ANOTHER = "these seem to be the results of another journal"
 
@@ -22,7 +22,7 @@ class Results(NamedTuple):
     lines: dict  # from the subject of a line, such as "period 3" or "block WHO,NAME", to its number
 
 
-def split_day(data):
+def journal_and_results_or_none(data):
     """The journal and the results of the text of a day, which the line `results` separates; None if there is no such line."""
     line = re.search(rb"^results\r?\n", data, re.MULTILINE)
     return line and (data[: line.start()], data[line.end() :])
@@ -31,8 +31,8 @@ def split_day(data):
 OTHER_NUMBER = re.compile(rb"[+-]?[0-9]{1,16}")
 
 
-def parse_number(field):
-    return text.parse_number(field, -LARGE, LARGE)
+def parse_number_or_none(field):
+    return text.parse_number_or_none(field, -LARGE, LARGE)
 
 
 def expected_lines(problem):
@@ -47,7 +47,7 @@ def expected_lines(problem):
         yield f"{kind} {row}", [kind, row.who, row.name], "n" if kind == "hour" else "an"
 
 
-def line_values(line, known, behind):
+def line_values_or_none(line, known, behind):
     """The values after the known fields of a line that begins with these: numbers, and for an `a` whether the word is `accepted`. None if
     their form is wrong."""
     fields = line.split(b",")
@@ -58,7 +58,7 @@ def line_values(line, known, behind):
         if kind == "a":
             value = {b"accepted": True, b"rejected": False}.get(field)
         else:
-            value = parse_number(field)
+            value = parse_number_or_none(field)
         if value is None:
             return None
         values.append(value)
@@ -89,7 +89,7 @@ def foreign_results_fault(line, wanted):
     return Fault(f"none of the lines of the results belongs to this journal: the first is {text.quoted(line)}", "journal", 1)
 
 
-def parse_results(problem, data):
+def parse_results_and_faults(problem, data):
     """The results that a text is for this problem, and the faults of its form; results are None if something is."""
     wrong, lines, values = [], {}, []
     if not data.endswith(b"\n"):
@@ -102,8 +102,8 @@ def parse_results(problem, data):
     beginnings = [known_beginning(line) for line in found]
     if set(wanted).isdisjoint(beginnings):
         return None, [foreign_results_fault(found[0], wanted) if data else Fault("the results are empty", "form")]
-    pairs = matched_places(wanted, beginnings)
-    away = moved_pairs(wanted, beginnings, pairs)
+    pairs = matched_pairs(wanted, beginnings)
+    away = moved_places(wanted, beginnings, pairs)
     elsewhere = set(away.values())
     for at, place in pairs:
         last = last if place is None else place + 1
@@ -117,7 +117,7 @@ def parse_results(problem, data):
         if place is None or place in away:
             wrong.append(missing_line_fault(last + (place is None), len(found), about))
             continue
-        read = line_values(found[place], known, behind) if beginnings[place] == wanted[at] else None
+        read = line_values_or_none(found[place], known, behind) if beginnings[place] == wanted[at] else None
         lines[about] = last
         if read is None:
             wrong.append(line_fault("form", last, about, form_words(about, found[place], known, behind)))
@@ -148,7 +148,7 @@ def form_words(about, line, known, behind):
     fields = line.split(b",")
     if len(fields) == len(known) + len(behind):
         for field, kind in zip(fields[len(known) :], behind):
-            if kind == "n" and parse_number(field) is None and OTHER_NUMBER.fullmatch(field):
+            if kind == "n" and parse_number_or_none(field) is None and OTHER_NUMBER.fullmatch(field):
                 return f"{about}: {text.quoted(field)} isn't a number as dam writes it: no +, no leading zeros, no -0"
     form = ",".join(known + [{"n": "<number>", "a": "accepted|rejected"}[kind] for kind in behind])
     return f"{about} should be '{form}' and is {text.quoted(line)}"

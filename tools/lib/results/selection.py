@@ -40,7 +40,7 @@ class Problem:
         named = [at for at, block in enumerate(self.blocks) if (block.who, block.name) == (who, name)]
         return named[0] if named else None
 
-    def euros(self, amount):
+    def euros_text(self, amount):
         """An amount in cents per MWh times tenths of a MW, over periods of this day, in EUR."""
         return text.exact_eur(amount, self.hours)
 
@@ -80,7 +80,7 @@ def link_breaches(problem, accepted):
             yield chosen[rules.MOST_OF_GROUP], "group", f"group {group} of {who} has {len(chosen)} accepted blocks: {names}"
 
 
-def surplus(order, prices):
+def surplus_or_none(order, prices):
     """The gain of a block at the prices; None if it has a volume in a period without a price."""
     total = 0
     for number, net in net_volumes(order):
@@ -101,7 +101,7 @@ def outcome(problem, accepted):
             net[number] += volume
             bought[number] += max(-volume, 0)
             value -= order.price * volume
-    cleared = {number: period.clear(orders, net[number]) for number, orders in problem.orders.items()}
+    cleared = {number: period.clearing_or_none(orders, net[number]) for number, orders in problem.orders.items()}
     for number, found in cleared.items():
         if found is not None:
             sides = zip(problem.orders[number], found.executed)
@@ -111,7 +111,7 @@ def outcome(problem, accepted):
     return Outcome(
         cleared,
         bought,
-        [surplus(block.order, prices) for block in problem.blocks],
+        [surplus_or_none(block.order, prices) for block in problem.blocks],
         value + sum(found.welfare for found in cleared.values()) if balanced else None,
     )
 
@@ -134,7 +134,7 @@ def accepted_rescuers(problem, accepted, place):
     return [other for other in problem.rescuers[place] if other in accepted]
 
 
-def gain_with_rescuers(problem, accepted, place, surpluses):
+def gain_with_rescuers_or_none(problem, accepted, place, surpluses):
     """The gain of an accepted block, with the accepted blocks that make up for its loss; None if a surplus isn't known."""
     gains = [surpluses[other] for other in [place, *accepted_rescuers(problem, accepted, place)]]
     return None if None in gains else sum(gains)
@@ -142,11 +142,11 @@ def gain_with_rescuers(problem, accepted, place, surpluses):
 
 def losses_of(problem, accepted, surpluses):
     """The accepted places that lose, each with its loss, as far as that is known."""
-    gains = {place: gain_with_rescuers(problem, accepted, place, surpluses) for place in sorted(accepted)}
+    gains = {place: gain_with_rescuers_or_none(problem, accepted, place, surpluses) for place in sorted(accepted)}
     return {place: -gain for place, gain in gains.items() if gain is not None and gain < 0}
 
 
-def eligible_welfare(problem, accepted):
+def eligible_welfare_or_none(problem, accepted):
     """The welfare of an eligible selection; None for any other."""
     if any(link_breaches(problem, accepted)):
         return None

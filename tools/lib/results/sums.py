@@ -19,7 +19,7 @@ class PublishedDay(NamedTuple):
 def sum_faults(problem, published):
     """A fault for each sum that isn't as the laws say."""
     day = PublishedDay(problem, published)
-    gains = list(trades.surpluses_of_rows(day))
+    gains = list(trades.rows_and_surpluses(day))
     yield from volume_faults(day)
     yield from hourly_loss_faults(day, gains)
     yield from participant_loss_faults(day, gains)
@@ -76,12 +76,12 @@ def sums(problem, published):
     day = PublishedDay(problem, published)
     totals = trades.totals(day).values()
     surpluses = {"hour": 0, "block": 0}
-    for row, gain in trades.surpluses_of_rows(day):
+    for row, gain in trades.rows_and_surpluses(day):
         surpluses[row.order.kind] += gain
     return Sums(sum(total.paid for total in totals), sum(total.received for total in totals), surpluses["hour"], surpluses["block"])
 
 
 def payments_line(problem, totals):
     """The payments of buyers and to sellers, in words, of right results."""
-    paid, received = problem.euros(totals.paid), problem.euros(totals.received)
+    paid, received = problem.euros_text(totals.paid), problem.euros_text(totals.received)
     return f"by adding: buyers pay {paid} EUR, sellers receive {received} EUR; the surpluses add up to the welfare, and nobody loses"

@@ -45,7 +45,7 @@ def traded_periods(day):
     return [number for number in range(1, day.problem.periods + 1) if is_traded(day, number)]
 
 
-def row_trades(day):
+def rows_and_trades(day):
     """Each row of the book with its trades."""
     executed, place = iter(day.published.executed), 0
     for row in day.problem.rows:
@@ -62,11 +62,11 @@ def row_trades(day):
         ]
 
 
-def surpluses_of_rows(day):
+def rows_and_surpluses(day):
     """Each row of the book with its surplus as far as it is executed: an hourly order's by its executed volume, and the published one of an
     accepted block; the surplus of a rejected block is 0."""
     blocks = iter(enumerate(day.published.surpluses))
-    for row, made in row_trades(day):
+    for row, made in rows_and_trades(day):
         if row.order.kind == "hour":
             yield row, sum(trade.gain(row.order.price) for trade in made)
         else:
@@ -82,7 +82,7 @@ def execution_words(order, executed):
 def volume_shares(day):
     """The bought and sold volumes in each period, by hourly orders and by blocks: tenths of a MW by `SHARES`."""
     found = {number: dict.fromkeys(SHARES, 0) for number in day.problem.orders}
-    for row, made in row_trades(day):
+    for row, made in rows_and_trades(day):
         for trade in made:
             found[trade.period][row.order.kind, trade.side] += trade.volume
     return found
@@ -91,7 +91,7 @@ def volume_shares(day):
 def totals(day):
     """The total of each participant of the book, by name."""
     found = {}
-    for (row, made), (_, gain) in zip(row_trades(day), surpluses_of_rows(day)):
+    for (row, made), (_, gain) in zip(rows_and_trades(day), rows_and_surpluses(day)):
         sums = found.setdefault(row.who, [0, 0, 0, 0, 0])
         for trade in made:
             buys = trade.side == "buy"

@@ -47,7 +47,7 @@ def call_library(path, text, nodes=MOST_NODES):
     return answer.status, ctypes.string_at(buffer, min(answer.length, MOST_ANSWER))
 
 
-def run_library(path, text):
+def call_and_return_output(path, text):
     """The output of `dam clear` for a text, by the library for C."""
     status, shown = call_library(path, text)
     if status:

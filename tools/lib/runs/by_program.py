@@ -1,6 +1,7 @@
 """Runs of the program."""
 
 import contextlib
+import math
 import os
 import re
 import select
@@ -18,12 +19,14 @@ ONE_WORKER = ("clear", "--workers=1", "--cut=0")  # as the library searches: man
 RESULTS = re.compile(rb"day,[0-9]+\nwelfare,-?[0-9]+\n")  # the beginning of the results of a day
 RELAYED = set()  # lines of runs that were passed on
 MOST_RELAYED = 200  # of them, after which no other is
-MOST_PRINTED = 1 << 20  # bytes of a run's output: no results and no replies have as many
+MOST_PRINTED_BYTES = 1 << 20  # bytes of a run's output: no results and no replies have as many
 MOST_SAID = 1 << 16  # bytes that are kept of a run's standard error, the last ones
 PART = 1 << 16  # bytes that are read at once
 PIPES = {name: subprocess.PIPE for name in ("stdin", "stdout", "stderr")}  # of a run
 RUN_SECONDS = 3_600  # that a run may take if no timeout is named: of one that hangs, the others would wait for ever
 MOST_SECONDS = 1_000_000  # of a timeout
+HELD_SECONDS = 10  # that a run's output may stay open after its end, because a process that it started holds it
+LOOK_SECONDS = 1  # from one look whether a run that prints nothing has ended to the next
 START_SECONDS = 10  # that programs may take to start, if they are no longer wanted
 
 
@@ -43,7 +46,7 @@ def refuse_wrong_timeout(seconds):
         raise ValueError(f"timeout should be a number of seconds, at most {MOST_SECONDS:,}")
 
 
-def run_program(words, text, timeout=None, running=None):
+def run_program_and_relay_lines(words, text, timeout=None, running=None):
     """The status of a run of a program, its output, and its lines on standard error. While it runs, it is among `running`."""
     if not children.are_children_heeded():
         raise Unstarted(f"{words[0]} can't be run: this process ignores SIGCHLD, so it wouldn't see with which status a run ends")
@@ -68,8 +71,10 @@ def run_program(words, text, timeout=None, running=None):
 
 def exchange_pipes(process, text, timeout, name):
     """Gives a process its input, and returns its output and the last part of its standard error, if that is a pipe, once it has ended. A
-    process that prints without an end takes little memory: its output is a fault, with its name."""
-    until = None if timeout is None else time.monotonic() + timeout
+    process that prints without an end takes little memory: its output is a fault, with its name. So it is if another process holds the
+    output for long after the end."""
+    until = math.inf if timeout is None else time.monotonic() + timeout
+    held_until = math.inf
     streams = {process.stdout: BoundedOutput(name), process.stderr: LastOutput()}
     left = memoryview(text)
     with selectors.DefaultSelector() as waiting:
@@ -77,12 +82,16 @@ def exchange_pipes(process, text, timeout, name):
         for stream in filter(None, streams):
             waiting.register(stream, selectors.EVENT_READ)
         while waiting.get_map():
-            ready = waiting.select(None if until is None else max(until - time.monotonic(), 0))
-            if until is not None and time.monotonic() > until:
+            ready = waiting.select(max(min(until, held_until, time.monotonic() + LOOK_SECONDS) - time.monotonic(), 0))
+            if time.monotonic() > until:
                 raise subprocess.TimeoutExpired(process.args, timeout)
+            if process.poll() is not None and held_until == math.inf:
+                held_until = time.monotonic() + HELD_SECONDS
+            if not ready and time.monotonic() > held_until:
+                raise TimedOut(f"{name} has ended, but another process has held its output for more than {HELD_SECONDS} seconds")
             for stream in (key.fileobj for key, _ in ready):
                 if stream is process.stdin:
-                    left = left[write_some(stream, left[: select.PIPE_BUF]) :]
+                    left = left[write_some_and_count(stream, left[: select.PIPE_BUF]) :]
                     is_over = not left
                 else:
                     data = os.read(stream.fileno(), PART)
@@ -91,11 +100,11 @@ def exchange_pipes(process, text, timeout, name):
                 if is_over:
                     waiting.unregister(stream)
                     stream.close()
-    process.wait(None if until is None else max(until - time.monotonic(), 0))
+    process.wait(None if until == math.inf else max(until - time.monotonic(), 0))
     return tuple(kept.kept_bytes() for kept in streams.values())
 
 
-def write_some(stream, data):
+def write_some_and_count(stream, data):
     """How many bytes a process has taken; all of them if it doesn't read any more."""
     try:
         return os.write(stream.fileno(), data)
@@ -111,8 +120,8 @@ class BoundedOutput:
 
     def append(self, data):
         self.kept += data
-        if len(self.kept) > MOST_PRINTED:
-            raise Fault(f"{self.name} printed more than {MOST_PRINTED:,} bytes")
+        if len(self.kept) > MOST_PRINTED_BYTES:
+            raise Fault(f"{self.name} printed more than {MOST_PRINTED_BYTES:,} bytes")
 
     def kept_bytes(self):
         return bytes(self.kept)
@@ -146,9 +155,9 @@ def relay_lines_once(error_output):
                 print(shown, file=sys.stderr, flush=True)
 
 
-def run_for_output(words, text, timeout=None):
+def capture_output(words, text, timeout=None):
     """The output of a run of a program."""
-    status, out, error_output = run_program(words, text, timeout)
+    status, out, error_output = run_program_and_relay_lines(words, text, timeout)
     if status:
         raise Fault(fault_words(status, error_output), status)
     return out

@@ -113,7 +113,7 @@ def refuse_wrong_results(held, orders, printed, name):
     """A fault if results break the rules. They may be right, and another selection of blocks better: this isn't looked at."""
     problem = selection.Problem(held)
     accepted = {place for place, block in enumerate(problem.blocks) if orders[block.who, block.name]}
-    if printed == results_of_selection(problem, accepted):  # the usual case, and far quicker to see
+    if printed == results_of_selection_or_none(problem, accepted):  # the usual case, and far quicker to see
         return
     published, wrong = check.results_and_faults(problem, printed)
     if published is None:
@@ -121,7 +121,7 @@ def refuse_wrong_results(held, orders, printed, name):
     raise Wrong(f"the program's results of {name} break the rules ({wrong[0]})")
 
 
-def results_of_selection(problem, accepted):
+def results_of_selection_or_none(problem, accepted):
     """The results of the selection that accepts these places; None if it isn't eligible."""
     outcome = selection.outcome(problem, accepted)
     if any(selection.link_breaches(problem, accepted)) or outcome.welfare is None:
@@ -129,7 +129,7 @@ def results_of_selection(problem, accepted):
     return None if selection.losses_of(problem, accepted, outcome.surpluses) else results.results_text(problem, accepted, outcome).encode()
 
 
-def book_text(rows, periods):
+def journal_bytes(rows, periods):
     """The text of a journal that submits the orders of a book in book order, and closes it: its book is the same."""
     submits = [journal.Submit(who, name, order) for (who, name), order in rows.items()]
     return journal.journal_text(journal.Journal(periods, [*submits, journal.Close()])).encode()

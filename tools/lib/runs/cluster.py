@@ -11,7 +11,6 @@ import time
 import warnings
 
 from ..base import surroundings, text
-from ..tool import modules
 from .errors import Fault, Lost
 
 SECONDS = 10  # that a cluster may take to answer, or be without workers
@@ -47,7 +46,7 @@ def import_dask():
     return distributed
 
 
-def load_tls_settings(address):
+def read_and_set_tls_settings(address):
     """Takes the settings of TLS, which are no code, if the address needs them."""
     if address.startswith("tls:"):
         import dask.config
@@ -61,13 +60,13 @@ class Cluster:
 
     def __init__(self, address):
         self.name, self.reports = f"the cluster {text.safe(address)}", {}
-        self.client = self.connect(address)
+        self.client = self.connect_or_raise(address)
         self.restart_watch()
-        while not self.count_workers_or_raise():
+        while not self.count_and_note_workers_or_raise():
             time.sleep(PAUSE)
         self.executor = self.client.get_executor()
 
-    def connect(self, address):
+    def connect_or_raise(self, address):
         """The client of the scheduler. What dask reports of lost connections isn't shown."""
         found = ADDRESS.fullmatch(address)
         if not found:
@@ -77,7 +76,7 @@ class Cluster:
         warnings.simplefilter("ignore")
         began = time.monotonic()
         try:
-            load_tls_settings(address)
+            read_and_set_tls_settings(address)
             socket.create_connection((found["host"].strip("[]"), int(found["port"])), SECONDS).close()
             return distributed.Client(address, timeout=SECONDS, set_as_default=False)
         except Exception as fault:
@@ -90,7 +89,7 @@ class Cluster:
         """From now on each worker has to report in time, and there has to be one."""
         self.heard, self.had = {}, time.monotonic()
 
-    def count_workers_or_raise(self):
+    def count_and_note_workers_or_raise(self):
         """How many workers the cluster has. A fault if it doesn't answer or has none, or if one of them hasn't reported for long: its
         scenarios would never come."""
         try:
@@ -103,7 +102,7 @@ class Cluster:
         self.reports, self.had = reports, now if reports else self.had
         if now - self.had >= SECONDS:
             raise Lost(f"{self.name} has no workers")
-        if said := hanging_words(self.heard, now, self.name):
+        if said := hanging_words_or_none(self.heard, now, self.name):
             raise Lost(said)
         return len(reports)
 
@@ -117,7 +116,7 @@ class Cluster:
             raise self.lost_error() from None
 
 
-def hanging_words(heard, now, name):
+def hanging_words_or_none(heard, now, name):
     """The words on a cluster's workers that haven't reported for long, by when each was heard last: if one was heard lately, on the others.
     Nothing if it isn't clear yet."""
     silent = [address for address, last in heard.items() if now - last >= SECONDS]
@@ -144,7 +143,7 @@ class Awaited:
             except concurrent.futures.TimeoutError:
                 if self.future.done():
                     return self.future.result()
-                self.cluster.count_workers_or_raise()
+                self.cluster.count_and_note_workers_or_raise()
 
     def cancel(self):
         """Nothing: the cluster drops the jobs of a client that leaves it."""
@@ -153,7 +152,6 @@ class Awaited:
 @contextlib.contextmanager
 def connecting(address):
     """The executor of a cluster. After a failure it isn't waited for, so the process should end at once."""
-    modules.exec_or_require_modules("distributed")
     cluster = Cluster(address)
     yield cluster
     with contextlib.suppress(Exception):

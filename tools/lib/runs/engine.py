@@ -96,7 +96,8 @@ def run_clear(text, program=None, running=None, nodes=MOST_NODES, timeout=None):
             error_output = out
         else:
             words = [by_program.require_program(program), *by_program.ONE_WORKER, f"--nodes={nodes}"]
-            status, out, error_output = by_program.run_program(words, text, by_program.RUN_SECONDS if timeout is None else timeout, running)
+            seconds = by_program.RUN_SECONDS if timeout is None else timeout
+            status, out, error_output = by_program.run_program_and_relay_lines(words, text, seconds, running)
             if not status and not by_program.has_results(out):
                 return 0, f"{words[0]} printed no results of this journal"
     except TimedOut as fault:
@@ -128,23 +129,23 @@ def run_clears(texts, jobs=None, executor=None, program=None, call=run_clear):
     if jobs is not None and jobs < 1:
         raise ValueError("jobs should be 1 or more")
     if executor is not None:
-        yield from submit_in_order(texts, lambda text: executor.submit(call, text, program), jobs or MOST_AHEAD)
+        yield from submit_and_yield_results(texts, lambda text: executor.submit(call, text, program), jobs or MOST_AHEAD)
         return
     jobs = jobs or count_processors()
     with running_team(jobs) as (team, running):
-        yield from submit_in_order(texts, lambda text: team.submit(call, text, program, running), AHEAD * jobs)
+        yield from submit_and_yield_results(texts, lambda text: team.submit(call, text, program, running), AHEAD * jobs)
 
 
-def submit_in_order(texts, submit, most):
+def submit_and_yield_results(texts, submit, most):
     """The results of the jobs submitted for the texts, in order. At most `most` of them wait."""
     waiting = collections.deque()
     try:
         for text in texts:
             waiting.append(text if isinstance(text, Fault) else submit_or_raise(submit, text))
             if len(waiting) >= most:
-                yield wait_for_result(waiting.popleft())
+                yield wait_for_result_or_fault(waiting.popleft())
         while waiting:
-            yield wait_for_result(waiting.popleft())
+            yield wait_for_result_or_fault(waiting.popleft())
     finally:
         for future in waiting:
             if not isinstance(future, Fault):
@@ -158,7 +159,7 @@ def submit_or_raise(submit, text):
         raise Fault(f"the executor takes no more journals: {fault}") from None
 
 
-def wait_for_result(future):
+def wait_for_result_or_fault(future):
     """The result of a future; a fault if its executor has lost it."""
     if isinstance(future, Fault):
         return future
@@ -170,7 +171,7 @@ def wait_for_result(future):
         return Fault(f"the executor failed: {type(fault).__name__}: {fault}")
 
 
-def stepping_bar(results, whole=None, unit="day", quiet=False):
+def iterate_with_bar(results, whole=None, unit="day", quiet=False):
     """The same results, with a bar at a terminal that says how far they are, if tqdm is installed."""
     if quiet or not sys.stderr.isatty():
         return results

@@ -63,7 +63,7 @@ def where():
     ):
         if path:
             return Where("library", of, os.fspath(path))
-    if not os.access(BUILT, os.X_OK) and is_installed(LIBRARY.name):
+    if not os.access(BUILT, os.X_OK) and can_load(LIBRARY.name):
         return Where("library", "system", LIBRARY.name)
     return find_program()
 
@@ -84,7 +84,7 @@ def find_library():
 
 
 @functools.cache
-def is_installed(name):
+def can_load(name):
     """Whether the system finds a library of this name, and it is this one."""
     try:
         return hasattr(ctypes.CDLL(name), "dam_clear_seeded")

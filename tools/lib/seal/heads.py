@@ -42,11 +42,11 @@ class Head(NamedTuple):
     root: bytes
     signature: bytes = b""
 
-    def signed_text(self):
+    def signed_bytes(self):
         """The bytes that the signature is of."""
         return "".join(f"{part}\n" for part in (HEAD, self.day, self.periods, self.size, base64_of(self.root))).encode()
 
-    def value(self):
+    def json_value(self):
         return {
             "format": HEAD,
             "day": self.day,
@@ -71,12 +71,12 @@ class Receipt(NamedTuple):
     @property
     def who(self):
         """The participant whose entry it is; None for a close, which has none."""
-        return getattr(command_of(self.record), "who", None)
+        return getattr(command_of_record_or_none(self.record), "who", None)
 
     def leaf(self):
         return leaf_of(self.number, self.record, self.reply, self.salt)
 
-    def value(self):
+    def json_value(self):
         return {
             "format": RECEIPT,
             "number": self.number,
@@ -84,7 +84,7 @@ class Receipt(NamedTuple):
             "reply": self.reply,
             "salt": base64_of(self.salt),
             "path": [base64_of(hashed) for hashed in self.path],
-            "head": self.head.value(),
+            "head": self.head.json_value(),
         }
 
 
@@ -93,8 +93,8 @@ class Extension(NamedTuple):
     new: Head
     path: tuple
 
-    def value(self):
-        return {"format": EXTENSION, "from": self.old.value(), "to": self.new.value(), "path": [base64_of(hashed) for hashed in self.path]}
+    def json_value(self):
+        return {"format": EXTENSION, "from": self.old.json_value(), "to": self.new.json_value(), "path": [base64_of(hashed) for hashed in self.path]}
 
     def is_valid(self):
         """Whether the proof shows that the new head's tree begins with the old head's, of the same day."""
@@ -110,37 +110,37 @@ class Salts(NamedTuple):
 
     def salt(self, number, record, reply):
         """The salt of an entry. Another entry in its place has another salt."""
-        return hmac.digest(self.secret, entry_text(number, record, reply), "sha256")
+        return hmac.digest(self.secret, entry_bytes(number, record, reply), "sha256")
 
-    def value(self):
+    def json_value(self):
         return {"format": SALTS, "day": self.day, "secret": base64_of(self.secret)}
 
 
-def entry_text(number, record, reply):
+def entry_bytes(number, record, reply):
     return f"{number}\n{record}\n{reply}\n".encode()
 
 
 def leaf_of(number, record, reply, salt):
     """The hash of an entry's leaf."""
-    return merkle.leaf_hash(salt + entry_text(number, record, reply))
+    return merkle.leaf_hash(salt + entry_bytes(number, record, reply))
 
 
 def base64_of(data):
     return base64.b64encode(data).decode()
 
 
-def line_of(value):
+def line_bytes_of(value):
     """The written form of a head, a receipt, an extension or salts."""
-    return json.dumps(value.value(), separators=(",", ":")).encode() + b"\n"
+    return json.dumps(value.json_value(), separators=(",", ":")).encode() + b"\n"
 
 
-def command_of(record):
+def command_of_record_or_none(record):
     """The command of a record in its written form; None for any other text."""
     try:
-        read = journal.parse_journal(f"{journal.day_record(rules.GREATEST_PERIOD)}\n{record}".encode("ascii"))
+        read = journal.parse_journal(f"{journal.day_record_text(rules.GREATEST_PERIOD)}\n{record}".encode("ascii"))
     except (journal.Fault, UnicodeEncodeError):
         return None
-    if len(read.commands) != 1 or journal.command_record(read.commands[0]) != record:
+    if len(read.commands) != 1 or journal.command_record_text(read.commands[0]) != record:
         return None
     return read.commands[0]
 
@@ -198,7 +198,7 @@ def parse_path(value, most):
 def parse_receipt(value):
     number, record, reply, salt, path, head = require_members(value, RECEIPT, ("number", "record", "reply", "salt", "path", "head"))
     number = parse_number(number, 1, MOST_ENTRIES, "the number")
-    if not isinstance(record, str) or command_of(record) is None:
+    if not isinstance(record, str) or command_of_record_or_none(record) is None:
         raise BadRecord(f"the record {shown_value(record)} isn't a record of a written journal")
     if not isinstance(reply, str) or reply not in REPLIES:
         raise BadRecord(f"the reply {shown_value(reply)} isn't one of the book's")
@@ -217,18 +217,18 @@ def parse_salts(value):
     return Salts(day, parse_base64(secret, HASH_BYTES))
 
 
-require_unrepeated = functools.partial(text.require_unrepeated, lambda _: BadRecord("a member of an object comes twice"))
+require_unrepeated_members = functools.partial(text.require_unrepeated_members, lambda _: BadRecord("a member of an object comes twice"))
 
 
-def parse_line(data, read):
+def parse_value_and_is_written(data, read):
     """The value that the text of a head, a receipt, an extension or salts has, and whether the text is its written form."""
     if len(data) > LONGEST_LINE:
         raise BadRecord(f"it has {len(data):,} bytes, and none has more than {LONGEST_LINE:,}")
     try:
-        value = read(json.loads(data.decode("ascii"), object_pairs_hook=require_unrepeated))
+        value = read(json.loads(data.decode("ascii"), object_pairs_hook=require_unrepeated_members))
     except (ValueError, RecursionError):
         raise BadRecord("it isn't JSON in ASCII") from None
-    return value, line_of(value) == data
+    return value, line_bytes_of(value) == data
 
 
 def require_lines(data):

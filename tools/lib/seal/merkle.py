@@ -50,21 +50,21 @@ class Tree:
     def root(self, size=None):
         """The root of the first `size` leaves, or of all."""
         size = len(self) if size is None else size
-        return self.hashed(0, size) if size else EMPTY
+        return self.cached_hash(0, size) if size else EMPTY
 
-    def hashed(self, begin, end):
+    def cached_hash(self, begin, end):
         """The hash of the leaves from `begin` to `end`, which are a subtree of this tree or of an earlier one."""
         count = end - begin
         if count & (count - 1) == 0:
             return self.levels[count.bit_length() - 1][begin // count]
         if (begin, end) not in self.incomplete:
             middle = begin + left_half(count)
-            self.incomplete[begin, end] = node_hash(self.hashed(begin, middle), self.hashed(middle, end))
+            self.incomplete[begin, end] = node_hash(self.cached_hash(begin, middle), self.cached_hash(middle, end))
         return self.incomplete[begin, end]
 
     def inclusion_proof(self, place, size=None):
         """The inclusion proof of the leaf at a place, from 0, in the tree of the first `size` leaves."""
-        return [self.hashed(*part) for part in inclusion_parts(place, len(self) if size is None else size)]
+        return [self.cached_hash(*part) for part in inclusion_parts(place, len(self) if size is None else size)]
 
     def consistency_proof(self, old, size=None):
         """The proof that the tree of the first `size` leaves begins with the tree of the first `old` ones."""
@@ -72,7 +72,7 @@ class Tree:
         if not 0 < old < size:
             return []
         whole, *others = consistency_parts(old, size)
-        return [self.hashed(*part) for part in ([] if whole == (0, old) else [whole]) + others]  # the reader has the old root
+        return [self.cached_hash(*part) for part in ([] if whole == (0, old) else [whole]) + others]  # the reader has the old root
 
 
 def inclusion_parts(place, size):
@@ -103,7 +103,7 @@ def consistency_parts(old, size):
     return [(begin, end), *parts[::-1]]
 
 
-def root_of_inclusion(leaf, place, size, path):
+def root_of_inclusion_or_none(leaf, place, size, path):
     """The root that an inclusion proof leads to (RFC 9162, 2.1.3.2); None if it doesn't fit a tree of this size."""
     if not 0 <= place < size:
         return None
@@ -148,7 +148,7 @@ def is_consistent(old, old_root, size, root, path):
     return last == 0 and before == old_root and after == root
 
 
-def joined_hashes(first, hashed, parts):
+def hashes_by_part(first, hashed, parts):
     """The hashes of subtrees, each with its first leaf and the one after its last: of one, of its neighbours from below, and of all that
     they make. The last one is of the whole tree."""
     (begin, end), shown = first, {first: hashed}
@@ -160,12 +160,12 @@ def joined_hashes(first, hashed, parts):
     return shown
 
 
-def shown_by_inclusion(leaf, place, size, path):
+def hashes_shown_by_inclusion(leaf, place, size, path):
     """The hashes of subtrees that a right inclusion proof shows, from the leaf to the root."""
-    return joined_hashes((place, place + 1), leaf, zip(inclusion_parts(place, size), path))
+    return hashes_by_part((place, place + 1), leaf, zip(inclusion_parts(place, size), path))
 
 
-def shown_by_consistency(old, old_root, size, root, path):
+def hashes_shown_by_consistency(old, old_root, size, root, path):
     """The hashes of subtrees that a consistency proof shows of a tree with a root, or of an older one. Its path may lead to one of the two
     roots alone: then it shows that tree's subtrees, among them the beginning with the older one's size."""
     if not 0 < old < size:
@@ -175,8 +175,8 @@ def shown_by_consistency(old, old_root, size, root, path):
     if len(path) != 1 + len(others):
         return {}
     parts = list(zip(others, path[1:]))
-    before = joined_hashes(first, path[0], [(part, hashed) for part, hashed in parts if part[0] < first[0]])
-    after = joined_hashes(first, path[0], parts)
+    before = hashes_by_part(first, path[0], [(part, hashed) for part, hashed in parts if part[0] < first[0]])
+    after = hashes_by_part(first, path[0], parts)
     if after[0, size] == root:
         return {**before, **after}
     return before if before[0, old] == old_root else {}

@@ -37,17 +37,17 @@ class Seal:
     def salt(self, number):
         return self.entry_salts[number - 1]
 
-    def head(self, size=None):
+    def signed_head(self, size=None):
         """A head of the first `size` entries, or of all."""
         size = len(self.entries) if size is None else size
-        return signing.sign(self.key, Head(self.day, self.periods, size, self.tree.root(size)))
+        return signing.signed_head(self.key, Head(self.day, self.periods, size, self.tree.root(size)))
 
     def receipt(self, number, head):
         entry = self.entries[number - 1]
         path = tuple(self.tree.inclusion_proof(number - 1, head.size))
         return Receipt(number, entry.record, entry.reply, self.salt(number), path, head)
 
-    def extension(self, old, head):
+    def require_extension(self, old, head):
         """The proof that a head's journal begins with an earlier head's. Ends with `Differs` if it doesn't."""
         if (old.day, old.periods) != (self.day, self.periods):
             raise Differs(f"the earlier head is of {old.day} with {old.periods} periods, and this journal of {self.day} with {self.periods}")
@@ -58,7 +58,7 @@ class Seal:
         return Extension(old, head, tuple(self.tree.consistency_proof(old.size, head.size)))
 
 
-def new_salts(day):
+def draw_salts(day):
     return Salts(day, secrets.token_bytes(heads.HASH_BYTES))
 
 
@@ -71,5 +71,5 @@ def seal_of(read, reasons, day, salts, key):
     """A journal with its replies under a seal. Each reply is given by the book's reason for a refusal or None."""
     seal = Seal(day, read.periods, salts, key)
     for command, reason in zip(read.commands, reasons):
-        seal.append(Entry(journal.command_record(command), reply_of(reason), getattr(command, "who", None)))
+        seal.append(Entry(journal.command_record_text(command), reply_of(reason), getattr(command, "who", None)))
     return seal

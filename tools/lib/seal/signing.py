@@ -26,28 +26,28 @@ class Keys:
     def __init__(self, keys):
         self.keys = keys  # by name
 
-    def signer(self, head):
+    def signer_or_none(self, head):
         """The name of the key that signed a head; None if none did."""
         return next((name for name, key in self.keys.items() if is_signed(key, head)), None)
 
 
-def signer_name(key, head):
+def signer_name_or_none(key, head):
     """The name of the key, or of one of the keys, that signed a head; None if none did. A key by itself has an empty name."""
     if isinstance(key, Keys):
-        return key.signer(head)
+        return key.signer_or_none(head)
     return "" if is_signed(key, head) else None
 
 
-def new_key():
+def draw_key():
     """A new private key."""
     return Ed25519PrivateKey.generate()
 
 
-def private_text(key):
+def private_bytes(key):
     return key.private_bytes(serialization.Encoding.PEM, serialization.PrivateFormat.PKCS8, serialization.NoEncryption())
 
 
-def public_text(key):
+def public_bytes(key):
     """The public half of a private key."""
     return key.public_key().public_bytes(serialization.Encoding.PEM, serialization.PublicFormat.SubjectPublicKeyInfo)
 
@@ -74,15 +74,15 @@ def parse_key(data, load, kind, name):
     return key
 
 
-def sign(key, head):
+def signed_head(key, head):
     """The head with its signature."""
-    return head._replace(signature=key.sign(head.signed_text()))
+    return head._replace(signature=key.sign(head.signed_bytes()))
 
 
 def is_signed(public_key, head):
     """Whether the head's signature is by the private half of the key. OpenSSL's check is the one without the cofactor."""
     try:
-        public_key.verify(head.signature, head.signed_text())
+        public_key.verify(head.signature, head.signed_bytes())
     except InvalidSignature:
         return False
     return True

@@ -13,6 +13,9 @@ MOST_LISTS = 2**8  # the same of cells with volumes, whose values take more
 TIMES = re.compile(r"([0-9]{1,2}:[0-9]{2})-([0-9]{1,2}:[0-9]{2})")
 TIME = re.compile(r"([0-9]{1,2}):([0-5][0-9])")
 DATE = re.compile(r"[0-9]{4}-[0-9]{2}-[0-9]{2}")
+OTHER_SPACE = re.compile(r"[^\S ]")  # white space that Excel may show as nothing, or as a space of another width
+THOUSANDS = re.compile("[ \u00a0\u202f]+")  # spaces that may separate thousands
+SEVERAL = re.compile("[-0-9.,:]+(?: +[-0-9.,:]+)+")  # values with only spaces between them
 
 # By whether a comma may be the decimal point.
 DECIMAL = {comma: re.compile(rf"(-?)([0-9]{{1,9}})(?:[{points}]([0-9]+))?") for comma, points in ((False, "."), (True, ".,"))}
@@ -33,7 +36,7 @@ def refuse_unlike(cell, is_name, unit=None):
     """Refuses a cell of a workbook that isn't what Excel shows: a formula without its value, another number or text, a number with another
     unit than its column has, or in a column of names also a date."""
     if isinstance(cell, (Uncomputed, Percentage, Changed, Styled)) or is_name and isinstance(cell, Unlike):
-        raise BadOrders(cell.fault())
+        raise BadOrders(cell.fault_words())
     if isinstance(cell, (Price, Power)) and cell.unit != unit:
         column = f"the column is in {unit}" if unit else "the column has no unit"
         words = f"{text.quoted(cell)} is a number whose format says {cell.shown_unit}, but {column}"
@@ -71,10 +74,24 @@ def example_words(cell, decimal_comma):
 
 
 def split_parts(cell):
-    return [part for part in re.split(r"[;\s]+", cell) if part]
+    return [part for each in cell.split(";") if (part := each.strip(" "))]
 
 
-def refuse_empty(cell):
+def refuse_other_spaces(cell):
+    """Refuses a list with white space that isn't a space: Excel may show the values around a tab as one."""
+    if found := OTHER_SPACE.search(cell):
+        words = f"{text.quoted(cell)} has the white space U+{ord(found[0]):04X}"
+        raise BadOrders(f"{words}: write a space instead, or a semicolon between values")
+
+
+def refuse_joined_values(cell):
+    """Refuses a list with only spaces between two values: they may be one, or a semicolon may be lost."""
+    for part in split_parts(cell):
+        if SEVERAL.fullmatch(part):
+            raise BadOrders(f"{text.quoted(part)} has a space between values: write a semicolon there")
+
+
+def refuse_empty_part(cell):
     """Refuses a list with an empty part: what should stand there may be lost, as by a formula that joins cells."""
     found = cell.split(";")
     for number, part in enumerate(found if len(found) > 1 else [], 1):
@@ -85,14 +102,16 @@ def refuse_empty(cell):
 def parse_periods(cell, periods):
     """Periods and runs of periods of the day by increasing number, such as `8`, `8-20` or `1;3;5-7`, or clock times, such as
     `07:00-08:00`. A dash may be of any kind, with spaces around it."""
-    refuse_empty(cell)
+    refuse_empty_part(cell)
+    refuse_other_spaces(cell)
     cell = spans.dashed(cell)
+    refuse_joined_values(cell)
     if not split_parts(cell):
         raise BadOrders("it should name a period, such as 8, or several, such as 8-20 or 1;3;5-7, or times, such as 07:00-20:00")
     if ":" in cell:
-        numbers = parse_times(cell, periods)
+        numbers = parse_clock_times(cell, periods)
     else:
-        numbers = parse_numbers(cell, periods)
+        numbers = parse_period_numbers(cell, periods)
     if any(one >= other for one, other in zip(numbers, numbers[1:])):
         raise BadOrders(f"the periods {text.quoted(cell)} should increase")
     if numbers[-1] > periods:
@@ -107,14 +126,14 @@ def parse_kept_periods(cell, periods):
     return tuple(parse_periods(cell, periods))
 
 
-def refuse_many(parts, cell):
+def refuse_many_parts(parts, cell):
     """Refuses a cell with more parts than a day has periods, before each is read."""
     if len(parts) > rules.GREATEST_PERIOD:
         raise BadOrders(f"{text.quoted(cell)} has {len(parts):,} parts: a day has at most {rules.GREATEST_PERIOD} periods")
 
 
-def parse_numbers(cell, periods):
-    refuse_many(split_parts(cell), cell)
+def parse_period_numbers(cell, periods):
+    refuse_many_parts(split_parts(cell), cell)
     try:
         return spans.parse_periods(cell, rules.GREATEST_PERIOD, periods=periods)
     except ValueError as fault:
@@ -122,23 +141,23 @@ def parse_numbers(cell, periods):
         raise BadOrders(f"{text.quoted(cell)} should be {fault}{hint}") from None
 
 
-def an_hour_from(cell):
+def example_hour_words(cell):
     """The clock times of an hour: the one that begins at a cell, if it is a time."""
     found = TIME.fullmatch(cell)
     hour, minute = (int(found[1]), found[2]) if found and int(found[1]) < 24 else (7, "00")
     return f"{hour:02}:{minute}-{hour + 1:02}:{minute}"
 
 
-def parse_times(cell, periods):
+def parse_clock_times(cell, periods):
     """The periods between clock times."""
     numbers, spans_of_time = [], split_parts(cell)
-    refuse_many(spans_of_time, cell)
+    refuse_many_parts(spans_of_time, cell)
     for part in spans_of_time:
         found = TIMES.fullmatch(part)
         if not found:
-            raise BadOrders(f"{text.quoted(part)} should be two clock times, such as {an_hour_from(part)}")
+            raise BadOrders(f"{text.quoted(part)} should be two clock times, such as {example_hour_words(part)}")
         try:
-            numbers += clock.parse_clock_span(periods, *(time.zfill(5) for time in found.groups()))
+            numbers += clock.parse_periods_between_times(periods, *(time.zfill(5) for time in found.groups()))
         except ValueError as fault:
             raise BadOrders(f"{text.quoted(part)}: {fault}") from None
     return numbers
@@ -147,7 +166,7 @@ def parse_times(cell, periods):
 def refuse_thousands(cell):
     """Refuses a list with a part that may be one number, with spaces as separators of thousands, or several numbers."""
     for part in cell.split(";"):
-        numbers = part.split()
+        numbers = THOUSANDS.split(part.strip())
         found = GROUPED.fullmatch(" ".join(numbers)) if len(numbers) > 1 else None
         if found and found[2] == " ":
             either = f"write {''.join(numbers)} or {';'.join(numbers)}"
@@ -157,8 +176,10 @@ def refuse_thousands(cell):
 @functools.lru_cache(MOST_LISTS)
 def parse_volumes(cell, numbers, decimal_comma):
     """One volume for all periods, or one for each, separated by `;`."""
-    refuse_empty(cell)
+    refuse_empty_part(cell)
     refuse_thousands(cell)
+    refuse_other_spaces(cell)
+    refuse_joined_values(cell)
     found = split_parts(cell)
     values = [parse_scaled(part, 10, 1, rules.GREATEST_VOLUME, "MW", decimal_comma) for part in found[: rules.GREATEST_PERIOD]]
     if len(found) == 1:
@@ -182,7 +203,7 @@ def field_parser(name):
 
     @functools.lru_cache(MOST_KEPT)
     def parse(cell):
-        found, wrong = fields.parse_field(name, cell)
+        found, wrong = fields.value_and_advice(name, cell)
         if wrong:
             raise BadOrders(f"{text.quoted(cell)} {wrong.removeprefix('it ')}")
         return found

@@ -66,7 +66,7 @@ def parse_command_or_note_faults(row, what):
     if what == "cancel":
         return journal.Cancel(*row.parse_names_or_note_faults())
     if what == "amend":
-        return journal.Amend(*row.parse_names_or_note_faults(), *row.parse_price_and_volumes_or_note_faults())
+        return journal.Amend(*row.parse_names_or_note_faults(), *row.parse_values_or_note_faults())
     if what in ("", "submit"):
         return row.parse_submit_or_note_faults()
     row.faults.append(f"column {WHAT}: {text.quoted(what)} should be submit, amend or cancel")
@@ -87,7 +87,7 @@ class Commands:
                 yield line, command
 
 
-def parse_commands(table_cells, periods):
+def parse_commands_and_notes(table_cells, periods):
     """The commands of a table by its cells, each with its line; and notes on the table. Their faults, a line each, are
     `order_table.BadOrders`."""
     wrong = order_table.Faults()
@@ -96,11 +96,11 @@ def parse_commands(table_cells, periods):
     except order_table.BadOrders as fault:
         for line in str(fault).split("\n"):
             wrong.add(line)
-        raise wrong.as_one_fault() from None
+        raise wrong.as_one_error() from None
     for line, cells in columns.table.rows:
         _, faults = columns.parse_row_and_faults(cells, periods)
         for words in faults:
-            wrong.add(order_table.row_fault(line, words))
+            wrong.add(order_table.row_fault_words(line, words))
     if wrong.count:
-        raise wrong.as_one_fault()
+        raise wrong.as_one_error()
     return Commands(columns, periods), columns.table.notes

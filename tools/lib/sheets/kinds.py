@@ -52,7 +52,7 @@ def kind_of_archive(data):
     return EXCEL if any(name.startswith("xl/") for name in names) else ZIP
 
 
-def kind_of(data):
+def kind_or_none(data):
     """The kind of text that these bytes look like by their first lines; None for any other."""
     for signature, kind in SIGNATURES.items():
         if data.startswith(signature):

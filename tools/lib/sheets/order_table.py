@@ -19,7 +19,7 @@ NAMES = ["participant", "order", *OPTIONAL]  # the columns of names of orders
 NEEDED = [name for name in ORDER if name not in OPTIONAL]
 # The column of a table of commands that says the command of a row, which a table of orders can't say.
 WHAT = "what"
-COMMANDS_ALONE = ("amend", "cancel", "close")
+COMMANDS_ALONE, OF_ORDERS = ("amend", "cancel", "close"), ("", "submit", "order")
 MOST_ERRORS = 20
 MOST_ROWS = rules.MOST_RECORDS - 1  # after the first one: as many as a journal has commands
 OF_LINKS = {"group": "group", "parent": "parent", "link": "parent"}  # words in headings of the columns that a table may leave out
@@ -49,7 +49,7 @@ class Places(dict):
         return sheets.unescaped(self.given_cell(cells, name).strip())
 
 
-def find_columns(line, header, needed, further):
+def places_and_unused_or_refuse(line, header, needed, further):
     """Where each column stands, and the headings of those that aren't used, by their columns; if not, all that is wrong with the columns,
     a line each. Those that are needed have to be there; the further ones are used, and read by others."""
     names = sheets.column_names(header)
@@ -59,13 +59,13 @@ def find_columns(line, header, needed, further):
         if name in places or name in further and names.index(name) < at - 1:
             wrong.append(f"line {line}, column {at}: the column {text.quoted(name)} appears twice")
         elif isinstance(cell, (Struck, Styled, Uncomputed)):
-            wrong.append(f"line {line}, column {at}: {cell.fault()}")
+            wrong.append(f"line {line}, column {at}: {cell.fault_words()}")
         elif name in ORDER + RESULT:
             places[name] = at - 1
         elif name in further or WHAT in further and name in REPLY:
             continue
-        elif alike := columns_meant(name, missing, needed):
-            wrong.append(f"line {line}, column {at}: {text.quoted(cell)} is not a column: write {with_unit(alike[0])}")
+        elif alike := meant_columns(name, missing, needed):
+            wrong.append(f"line {line}, column {at}: {text.quoted(cell)} is not a column: write {column_and_unit_words(alike[0])}")
         elif name and name not in further:
             unused[at] = cell
     lacking = [name for name in missing if name in needed]
@@ -76,9 +76,9 @@ def find_columns(line, header, needed, further):
     return places, unused
 
 
-def with_unit(name):
+def column_and_unit_words(name):
     """The name of a column with the unit of its numbers, which a heading that isn't one may have in another."""
-    unit = shapes.unit_of(name)
+    unit = shapes.unit_or_none(name)
     return f"{name}, in {unit}" if unit else name
 
 
@@ -86,7 +86,7 @@ def unused_notes(unused):
     return [f"the column {text.quoted(cell)} isn't used" for cell in unused.values()]
 
 
-def columns_meant(name, missing, needed):
+def meant_columns(name, missing, needed):
     """The missing columns that a name probably stands for: those that are needed, and of which it is the first word, or one like it, or one
     of which it has a word: without a column of links, orders would lose them."""
     begun = [one for one in missing if one in needed and one.startswith(f"{name}_")]
@@ -113,7 +113,7 @@ class Row:
         if self.raises and name in NAMES and cell.isascii() and cell != cell.upper() == self.probable_name(name):
             self.raised[cell] = cell = cell.upper()
         try:
-            cell_values.refuse_unlike(self.table.places.given_cell(self.cells, name), name in NAMES, shapes.unit_of(name))
+            cell_values.refuse_unlike(self.table.places.given_cell(self.cells, name), name in NAMES, shapes.unit_or_none(name))
             return parser(cell)
         except BadOrders as fault:
             self.faults.append(f"column {name}: {fault}")
@@ -125,26 +125,26 @@ class Row:
             return None
         return self.parse_cell_or_note_fault(name, lambda cell: cell and cell_values.parse_name(cell))
 
-    def periods_of_volumes(self, cell):
+    def assumed_periods(self, cell):
         """As many periods as there are volumes, if the periods can't be read."""
         return range(1, 1 + max(len(cell_values.split_parts(cell)), 1))
 
     def probable_name(self, name):
         """A name, or the one that was probably meant if it breaks its rule, so that other lines that name it aren't wrong too."""
-        return fields.parse_field(name, self.cell_text(name))[0]
+        return fields.value_and_advice(name, self.cell_text(name))[0]
 
     def parse_names_or_note_faults(self):
         """The participant, and the name of the order."""
         who = self.parse_cell_or_note_fault("participant", cell_values.parse_participant)
         return who, self.parse_cell_or_note_fault("order", cell_values.parse_name)
 
-    def parse_price_and_volumes_or_note_faults(self, kind=None):
+    def parse_values_or_note_faults(self, kind=None):
         """The limit, and the volumes of the periods; of an hourly order there is one period."""
         price = self.parse_cell_or_note_fault("price_eur_mwh", lambda cell: cell_values.parse_price(cell, self.decimal_comma))
         numbers = self.parse_cell_or_note_fault("periods", lambda cell: cell_values.parse_kept_periods(cell, self.periods))
         if kind == "hour" and numbers and len(numbers) != 1:
             self.faults.append(f"column periods: an hourly order has one period, not {len(numbers)}")
-        of_volumes = lambda cell: cell_values.parse_volumes(cell, numbers or self.periods_of_volumes(cell), self.decimal_comma)
+        of_volumes = lambda cell: cell_values.parse_volumes(cell, numbers or self.assumed_periods(cell), self.decimal_comma)
         return price, self.parse_cell_or_note_fault("volume_mw", of_volumes)
 
     def parse_submit_or_note_faults(self):
@@ -152,7 +152,7 @@ class Row:
         who, name = self.parse_names_or_note_faults()
         kind = self.parse_cell_or_note_fault("kind", cell_values.word_parser(*KINDS))
         side = self.parse_cell_or_note_fault("side", cell_values.word_parser(*SIDES))
-        price, volumes = self.parse_price_and_volumes_or_note_faults(kind)
+        price, volumes = self.parse_values_or_note_faults(kind)
         parent, group = (self.parse_link_or_note_fault(name, kind) for name in OPTIONAL)
         return journal.Submit(who, name, journal.Order(kind, side, price, volumes, parent, group))
 
@@ -174,14 +174,14 @@ class Entered:
         if who and name and (who, name) in self.lines:
             row.faults.append(f"column order: {who} has an order {name} in {self.lines[who, name][0]} (NameTaken)")
         if who and parent:
-            if fault := self.parent_fault(who, parent):
+            if fault := self.parent_fault_words_or_none(who, parent):
                 row.faults.append(f"column parent: {fault}")
-        reason = None if row.faults else self.held.apply(command)
+        reason = None if row.faults else self.held.apply_or_return_refusal(command)
         if reason in FULL:
             row.faults.append(f"{FULL[reason]} ({reason})")
         self.lines.setdefault((who, name), (line, command.order.kind))
 
-    def parent_fault(self, who, parent):
+    def parent_fault_words_or_none(self, who, parent):
         """Why an order can't have this parent; None if it can."""
         line, kind = self.lines.get((who, parent), (None, None))
         where, held = f"of {line}", self.held.rows.get((who, parent))
@@ -247,13 +247,13 @@ class Cells(NamedTuple):
 
 def parse_cells(data, most=MOST_ROWS, is_long=False):
     """The cells of a table of `most` rows after its first one. Those of a text that may be long aren't kept."""
-    kind, read = kinds.kind_of(data), []
+    kind, read = kinds.kind_or_none(data), []
     if kind in (kinds.JOURNAL, kinds.DAY):
         raise BadOrders("this seems to be a journal already")
     if kind in kinds.FILES - {kinds.EXCEL}:
         raise BadOrders(f"this is {kind}: {kinds.ADVICE[kind]}")
     try:
-        rows, decimal_comma = sheets.parse_rows(data, NEEDED, read, most, is_long)
+        rows, decimal_comma = sheets.parse_rows_and_add_notes(data, NEEDED, read, most, is_long)
         count = count_rows_or_refuse(rows, most)
     except sheets.BadTable as fault:
         raise BadOrders(str(fault)) from None
@@ -278,7 +278,7 @@ def require_order_table(name, table_cells, needed=NEEDED, further=()):
     if WHAT not in further:
         refuse_commands(header, table_cells.rows_below())
     try:
-        places, unused = find_columns(line, header, needed, further)
+        places, unused = places_and_unused_or_refuse(line, header, needed, further)
         refuse_lost_order(line, unused, table_cells.rows_below())
         refuse_lost_command(line, unused if WHAT in further else {})
         refuse_unnamed(header, table_cells.rows_below())
@@ -297,7 +297,7 @@ def refuse_lost_order(line, unused, rows):
     words = [at for at, cell in unused.items() if cell.strip().lower() in KINDS + SIDES]
     numbers = [at for at, cell in unused.items() if DIGITS.fullmatch(cell)]
     if words and len(numbers) > 1 or (words or numbers) and next(iter(rows), None) is None:
-        raise lost_row_fault(line, min(words + numbers), unused, "an", "order")
+        raise lost_row_error(line, min(words + numbers), unused, "an", "order")
 
 
 def refuse_lost_command(line, unused):
@@ -305,16 +305,16 @@ def refuse_lost_command(line, unused):
     for at, cell in unused.items():
         words = cell.strip().lower()
         names = [unused.get(at + 1, ""), unused.get(at + 2, "")]
-        if COMMAND_AT_END.match(words) or COMMAND_AT_END.search(words) and all(map(is_name, names)):
-            raise lost_row_fault(line, at, unused, "a", "command")
+        if COMMAND_AT_END.match(words) or COMMAND_AT_END.search(words) and all(map(may_be_name, names)):
+            raise lost_row_error(line, at, unused, "a", "command")
 
 
-def is_name(cell):
+def may_be_name(cell):
     """Whether a cell may be the name of an order or a participant."""
-    return fields.parse_field("order", cell.strip().upper())[1] is None
+    return fields.value_and_advice("order", cell.strip().upper())[1] is None
 
 
-def lost_row_fault(line, at, unused, article, thing):
+def lost_row_error(line, at, unused, article, thing):
     words = f"is no heading, but may be of {article} {thing}: write each {thing} on a line of its own, and headings in words"
     return BadOrders(f"line {line}, column {at}: {text.quoted(unused[at])} {words}")
 
@@ -331,17 +331,20 @@ def refuse_unnamed(header, rows):
 
 
 def refuse_commands(header, rows):
-    """Refuses a table of commands with one that no order of a table can be."""
+    """Refuses a table of commands with one that no order of a table can be, or with a word that may be meant for one."""
     names = sheets.column_names(header)
     at = names.index(WHAT) if WHAT in names else None
     for line, cells in rows if at is not None else []:
-        word = cells[at].strip().lower() if at < len(cells) else ""
+        word = cells[at].strip().lower() if at < len(cells) and cells != header else ""
         if word in COMMANDS_ALONE:
             words = "this is a table of commands; a table of orders has no amend, cancel or close"
             raise BadOrders(f"line {line}, column {WHAT}: {text.quoted(word)}: {words}")
+        if word not in OF_ORDERS:
+            words = "should be submit, order or empty: remove the row, or give the column another name"
+            raise BadOrders(f"line {line}, column {WHAT}: {text.quoted(word)} {words}")
 
 
-def row_fault(line, words):
+def row_fault_words(line, words):
     """The fault of a row, or of one of its columns."""
     return f"line {line}{',' if words.startswith('column ') else ':'} {words}"
 
@@ -357,7 +360,7 @@ class Faults:
         if self.count <= MOST_ERRORS:
             self.first.append(words)
 
-    def as_one_fault(self, notes=()):
+    def as_one_error(self, notes=()):
         """All of them as one, with notes."""
         more = self.count - len(self.first)
         return BadOrders("\n".join([*self.first, *([f"and {more} more"] if more else []), *notes]), more)
@@ -401,11 +404,11 @@ def parse_tables(sources, periods, who=None, raises=False, held=None):
                 submits += [] if row.faults else [(number, command)]
                 raised.update(row.raised)
             for words in row.faults:
-                wrong.add(table.named_words(row_fault(line, words)))
+                wrong.add(table.named_words(row_fault_words(line, words)))
         notes += [table.named_words(capitals_note(raised))] if raised else []
     if wrong.count:
         read = [table.named_words(note) for table in tables for note in table.read]
-        raise wrong.as_one_fault(read)
+        raise wrong.as_one_error(read)
     return Orders(submits, notes, others)
 
 
@@ -421,6 +424,6 @@ def journal_of(orders, periods, closing):
     return journal.Journal(periods, [submit for _, submit in orders.submits] + [journal.Close()] * closing)
 
 
-def parse_orders(data, periods, closing):
+def parse_journal_of_orders(data, periods, closing):
     """The journal of one table of orders."""
     return journal_of(parse_tables([("", data)], periods), periods, closing)

@@ -38,7 +38,7 @@ def as_date(date):
         raise BadDate(f"{text.safe(repr(date))}: it should be a datetime.date, or a text such as 2026-11-25") from None
 
 
-def begin_times(date, periods, zone=ZONE):
+def begin_times_or_raise(date, periods, zone=ZONE):
     """When each period of a delivery day begins, and when the last one ends, in a time zone, such as Central European Time."""
     zone, utc = zoneinfo.ZoneInfo(zone), datetime.timezone.utc
     try:
@@ -57,9 +57,9 @@ def begin_times(date, periods, zone=ZONE):
     return [(first + number * length).astimezone(zone) for number in range(periods + 1)]
 
 
-def with_times(rows, date, periods):
+def rows_with_times(rows, date, periods):
     """A table with a column of when each period begins, if it has one of periods."""
-    times = begin_times(date, periods)
+    times = begin_times_or_raise(date, periods)
     rows = iter(rows)
     heads = next(rows)
     at = heads.index("period") + 1 if "period" in heads else None
@@ -86,16 +86,16 @@ def rows_of_participant(rows, who):
     yield from (row for row in rows if row[at] == who)
 
 
-def day_of_periods(periods, date=None):
+def day_record(periods, date=None):
     """A day without its results, as JSON."""
     return {"date": date.isoformat() if date else None, "periods": periods, "hours_per_period": float(rules.DAYS[periods])}
 
 
-def unit_of(column):
+def unit_or_none(column):
     return next((unit for end, unit in UNITS.items() if column.endswith(end)), None)
 
 
-def column_type(name, heads):
+def column_description(name, heads):
     """The type of a column."""
     if LISTS <= set(heads) and name in LISTS:
         kind = "array"
@@ -104,8 +104,8 @@ def column_type(name, heads):
     elif name == "traded":
         kind = "boolean"
     else:
-        kind = "number" if unit_of(name) or name in NUMBERS else "string"
-    return {"name": name, "type": kind, "unit": unit_of(name)}
+        kind = "number" if unit_or_none(name) or name in NUMBERS else "string"
+    return {"name": name, "type": kind, "unit": unit_or_none(name)}
 
 
 def typed_value(kind, name, cell, row):
@@ -129,7 +129,7 @@ def records(rows, flat=False):
     """The rows of a table as dictionaries with numbers, lists and None instead of texts. If they are to be flat, lists stay texts."""
     rows = iter(rows)
     heads = next(rows)
-    kinds = [column_type(name, heads)["type"] for name in heads]
+    kinds = [column_description(name, heads)["type"] for name in heads]
     if flat:
         kinds = ["string" if kind == "array" else kind for kind in kinds]
     for row in rows:
@@ -137,10 +137,10 @@ def records(rows, flat=False):
         yield {name: typed_value(kind, name, cell, named) for kind, (name, cell) in zip(kinds, named.items())}
 
 
-def as_json(name, rows, day):
+def json_text(name, rows, day):
     """The text of a table as JSON; `day` says of which day it is."""
     rows = list(rows)
-    columns = [column_type(head, rows[0]) for head in rows[0]]
+    columns = [column_description(head, rows[0]) for head in rows[0]]
     lines = [json.dumps(record, ensure_ascii=False) for record in records(rows)]
     parts = [f'"{key}": {json.dumps(value)}' for key, value in (("table", name), ("day", day), ("columns", columns))]
     return "{" + ",\n ".join(parts) + ',\n "rows": [\n  ' + ",\n  ".join(lines) + "\n ]}\n"

@@ -1,6 +1,7 @@
 """Tables as files: text with separators, and Excel workbooks. Here they are rows of cells; others interpret them."""
 
 import codecs
+import contextlib
 import csv
 import functools
 import io
@@ -8,7 +9,7 @@ import itertools
 import os
 import re
 
-from ..base import text
+from ..base import ending, text
 from ..workbooks import limits, reading
 from ..workbooks.cells import escaped, trimmed
 from . import shapes
@@ -41,7 +42,7 @@ def is_workbook(data):
     return data.startswith(XLSX)
 
 
-def parse_rows(data, needed=(), notes=None, most=None, is_long=False):
+def parse_rows_and_add_notes(data, needed=(), notes=None, most=None, is_long=False):
     """The rows of a table, each with the number of its first line; and whether a comma may be the decimal point. A text is separated by
     commas, semicolons or tabs, whichever its header has most of. Of a workbook it is the sheet `orders`, or else the first that has the
     needed columns. It isn't read further if it has more than `most` rows after its first one. Notes say which sheet was read, and that a
@@ -51,37 +52,39 @@ def parse_rows(data, needed=(), notes=None, most=None, is_long=False):
         found = Text(data, notes, most, MANY if is_long or most is None else 1)
         return found if is_long else list(found), found.has_decimal_comma
     try:
-        rows, note = reading.parse_rows(data, PREFERRED, needed, most)
+        rows, note = reading.parse_rows_and_note(data, PREFERRED, needed, most)
     except limits.BadWorkbook as fault:
         raise BadTable(str(fault)) from None
     notes += [note] if note else []
     return rows, True
 
 
-def require_encoding_and_note(data, notes):
+def require_encoding_and_add_note(data, notes):
     """The encoding of a table: UTF-8, UTF-16 with its mark, or else Windows-1252, whose letters no order has, with a note that says so."""
     if data.startswith((codecs.BOM_UTF16_LE, codecs.BOM_UTF16_BE)):
         refuse_broken_utf_16(data)
         return "utf-16"
-    place = first_other(data, "utf-8-sig")
+    place = first_wrong_place_or_none(data, "utf-8-sig")
     if place is None:
         return "utf-8-sig"
     line = data.count(b"\n", 0, place) + 1
     notes.append(f"line {line}: the table isn't in UTF-8, and was read as Windows-1252")
-    if first_other(data, "cp1252") is not None:
+    if first_wrong_place_or_none(data, "cp1252") is not None:
         raise BadTable(f"line {line}: the table is neither in UTF-8 nor in Windows-1252: save it as CSV in UTF-8")
     return "cp1252"
 
 
 def refuse_broken_utf_16(data):
-    """Refuses a text in UTF-16 that lacks a byte: the characters after it, also line ends, would be others."""
-    place = first_other(data, "utf-16")
+    """Refuses a text in UTF-16 that lacks a byte: the characters after it, also line ends, would be others. One that lacks both bytes of a
+    character is a text without that character, as it may be in any encoding: only its cells can be wrong, such as those of two lines that
+    a lost line end has joined. At the end of the text, a lost line end changes nothing."""
+    place = first_wrong_place_or_none(data, "utf-16")
     if place is not None:
         line = data[:place].decode("utf-16", "ignore").count("\n") + 1
         raise BadTable(f"line {line}: the table isn't in UTF-16, as its first bytes say: save it as CSV in UTF-8")
 
 
-def first_other(data, encoding):
+def first_wrong_place_or_none(data, encoding):
     """The place of the first byte that isn't of an encoding, if there is one. The text isn't kept."""
     decoder = codecs.getincrementaldecoder(encoding)()
     for start in range(0, len(data), PART):
@@ -142,7 +145,7 @@ class Count:
             if len(cell) > limits.LONGEST_CELL:
                 raise BadTable(f"line {line}, column {column}: it has more than {limits.LONGEST_CELL:,} characters")
         self.cells += len(cells)
-        self.size += len(whole) if whole.isascii() else sum(map(limits.size_of, cells))
+        self.size += len(whole) if whole.isascii() else sum(map(limits.memory_size, cells))
         for count, most, things in (
             (self.cells, self.most_cells, "cells"),
             (self.size, self.most_text, "bytes of text"),
@@ -158,7 +161,7 @@ class Text:
     def __init__(self, data, notes, most, times):
         """`times`: how many times the cells and the text of a workbook it may have."""
         self.data, self.most, self.times = data, most, times
-        self.encoding = require_encoding_and_note(data, notes)
+        self.encoding = require_encoding_and_add_note(data, notes)
         self.delimiter = max(",;\t", key=self.first_line().count)
         self.has_decimal_comma = self.delimiter != ","
         self.is_counted = False  # once it was read to its end, it keeps to the limits
@@ -193,7 +196,7 @@ class Text:
         self.is_counted = True
 
 
-def text_rows(data, notes):
+def parse_text_rows_and_add_note(data, notes):
     """The rows of a text that aren't empty, which aren't kept. A note says that it isn't in UTF-8."""
     return Text(data, notes, None, MANY)
 
@@ -203,7 +206,7 @@ def table_text(rows, decimal_comma=False):
     cells are separated by semicolons."""
     rows = iter(rows)
     heads = next(rows)
-    kinds = [shapes.column_type(name, heads)["type"] for name in heads]
+    kinds = [shapes.column_description(name, heads)["type"] for name in heads]
     out = io.StringIO()
     writer = csv.writer(out, lineterminator="\n", delimiter=";" if decimal_comma else ",")
     writer.writerow(heads)
@@ -218,7 +221,7 @@ def cell_text(kind, value, decimal_comma):
     return str(value).replace(".", ",") if decimal_comma and kind in ("number", "array") else value
 
 
-def fits(words):
+def fits_cell(words):
     """Whether words, as they are written in a text or a workbook, aren't longer than a cell may be."""
     return max(len(cell_text("string", words, False)), len(escaped(words))) <= limits.LONGEST_CELL
 
@@ -233,10 +236,21 @@ def import_openpyxl():
     os.environ["OPENPYXL_LXML"] = "False"
     import openpyxl
 
+    if remove_temporary_sheets not in ending.last_duties:
+        ending.last_duties.append(remove_temporary_sheets)
     return openpyxl
 
 
-def workbook_bytes(tables):
+def remove_temporary_sheets(*_):
+    """Removes the files that openpyxl began: it does so only if Python itself ends, which a tool that fails doesn't wait for."""
+    from openpyxl.worksheet import _writer
+
+    for path in _writer.ALL_TEMP_FILES:
+        with contextlib.suppress(OSError):
+            os.unlink(path)
+
+
+def workbook_bytes_or_refuse(tables):
     """The bytes of a workbook with a sheet for each table, by name: numbers are numbers, and words are never formulas."""
     for name, rows in tables.items():
         if len(rows) > limits.LAST_ROW:
@@ -250,7 +264,7 @@ def workbook_bytes(tables):
     for name, rows in tables.items():
         sheet = book.create_sheet(name)
         heads, *rows = rows
-        kinds = [shapes.column_type(head, heads)["type"] for head in heads]
+        kinds = [shapes.column_description(head, heads)["type"] for head in heads]
         for at, values in enumerate([heads, *rows], 1):
             for place, (head, kind, value) in enumerate(zip(heads, kinds, values), 1):
                 fill_cell(sheet.cell(at, place), "string" if at == 1 else cell_kind(head, kind, value), value)

@@ -18,15 +18,15 @@ REPLY = ["command", "reply", "reason", "code", "why"]
 MOST_NAMED = 5  # participants whose commands were refused
 
 
-def euros(day, amount):
+def amount_text(day, amount):
     return text.eur(amount, day.problem.hours, thousands="")
 
 
-def energy(day, tenths):
+def energy_text(day, tenths):
     return text.energy(tenths, day.problem.hours, thousands="")
 
 
-def periods(day):
+def period_rows(day):
     heads = ["period", "hours", "price_eur_mwh", "volume_mw", "traded", "low_eur_mwh", "high_eur_mwh"]
     yield heads + [f"{'hourly' if kind == 'hour' else kind}_{side}s_mw" for kind, side in trades.SHARES]
     for number, parts in trades.volume_shares(day).items():
@@ -55,7 +55,7 @@ def outcomes(day):
             yield trades.execution_words(row.order, next(executed)), ""
         else:
             decision, surplus = next(found)
-            yield decision.kind, euros(day, surplus)
+            yield decision.kind, amount_text(day, surplus)
 
 
 def amount_of(row_trades):
@@ -63,15 +63,15 @@ def amount_of(row_trades):
     return sum(trade.amount() if trade.side == "sell" else -trade.amount() for trade in row_trades)
 
 
-def orders(day):
+def order_rows(day):
     yield ORDER + RESULT
-    for (row, row_trades), outcome in zip(trades.row_trades(day), outcomes(day)):
-        offered = energy(day, sum(tenths for _, tenths in row.order.volumes))
-        executed = energy(day, sum(trade.volume for trade in row_trades))
-        yield [*order_cells(row), offered, executed, *outcome, euros(day, amount_of(row_trades))]
+    for (row, row_trades), outcome in zip(trades.rows_and_trades(day), outcomes(day)):
+        offered = energy_text(day, sum(tenths for _, tenths in row.order.volumes))
+        executed = energy_text(day, sum(trade.volume for trade in row_trades))
+        yield [*order_cells(row), offered, executed, *outcome, amount_text(day, amount_of(row_trades))]
 
 
-def blocks(day):
+def block_rows(day):
     """A row for each block: its order, its outcome and why, and, if it is rejected, the worth of its best family."""
     family_heads = ["family", "family_gain_eur", "family_welfare_eur"]
     yield [*ORDER, "offered_mwh", "executed_mwh", "outcome", "surplus_eur", *family_heads, "why", "code"]
@@ -83,18 +83,18 @@ def blocks(day):
         if decision.family:
             names = " ".join(day.problem.blocks[place].name for place in sorted(decision.family.members))
             welfare = decision.other.welfare
-            family = [names, euros(day, decision.family.gain()), "" if welfare is None else euros(day, welfare)]
-        energies = [energy(day, tenths) for tenths in (offered, executed)]
-        yield [*order_cells(block), *energies, decision.kind, euros(day, surplus), *family, decision.why, decision.code]
+            family = [names, amount_text(day, decision.family.gain()), "" if welfare is None else amount_text(day, welfare)]
+        energies = [energy_text(day, tenths) for tenths in (offered, executed)]
+        yield [*order_cells(block), *energies, decision.kind, amount_text(day, surplus), *family, decision.why, decision.code]
 
 
-def participants(day):
+def participant_rows(day):
     yield ["participant", "orders", "bought_mwh", "sold_mwh", "paid_eur", "received_eur", "net_eur", "gain_eur"]
     for who, total in trades.totals(day).items():
         count = sum(row.who == who for row in day.problem.rows)
-        energies = [energy(day, total.bought), energy(day, total.sold)]
+        energies = [energy_text(day, total.bought), energy_text(day, total.sold)]
         amounts = total.paid, total.received, total.received - total.paid, total.gained
-        yield [who, count, *energies, *(euros(day, amount) for amount in amounts)]
+        yield [who, count, *energies, *(amount_text(day, amount) for amount in amounts)]
 
 
 def command_cells(command):
@@ -110,7 +110,7 @@ def command_cells(command):
     return ["close", *[""] * 9]
 
 
-def commands(read, reasons):
+def command_rows(read, reasons):
     """Each command of a journal with the book's reply."""
     yield ["command", "what", *ORDER, "reply", "reason"]
     for number, (command, reason) in enumerate(zip(read.commands, reasons), 1):
@@ -129,23 +129,23 @@ class Result(NamedTuple):
 
 
 def results_by_row(day):
-    """The outcome of each order of the book, by participant and name. `write` writes the amounts of the reasons."""
+    """The outcome of each order of the book, by participant and name."""
     found = iter(zip(decisions.decisions(day.problem, day.published.accepted, day.outcome), day.published.surpluses))
     executed = iter(day.published.executed)
     rows = {}
-    for row, row_trades in trades.row_trades(day):
-        sums = energy(day, sum(trade.volume for trade in row_trades)), euros(day, amount_of(row_trades))
+    for row, row_trades in trades.rows_and_trades(day):
+        sums = energy_text(day, sum(trade.volume for trade in row_trades)), amount_text(day, amount_of(row_trades))
         if row.order.kind == "hour":
             done = next(executed)
             outcome, why = trades.execution_words(row.order, done), decisions.hourly_code_and_words(day, row, done)
             rows[row.who, row.name] = Result(outcome, "", *sums, *why)
         else:
             decision, surplus = next(found)
-            rows[row.who, row.name] = Result(decision.kind, euros(day, surplus), *sums, decision.code, decision.why)
+            rows[row.who, row.name] = Result(decision.kind, amount_text(day, surplus), *sums, decision.code, decision.why)
     return rows
 
 
-def last_commands(day):
+def last_and_replaced_commands(day):
     """The number of the command after which each order of the book wasn't changed any more, by participant and name; and of the
     commands whose order was changed later, the number of the next one that did."""
     last, replaced = {}, {}
@@ -158,11 +158,10 @@ def last_commands(day):
     return last, replaced
 
 
-def statement(day):
-    """Each command with the book's reply, and with the outcome of its order if no later command changed it. `write` writes the amounts of
-    the reasons."""
+def statement_rows(day):
+    """Each command with the book's reply, and with the outcome of its order if no later command changed it."""
     yield ["command", "what", *ORDER, "reply", "reason", "outcome", "executed_mwh", "surplus_eur", "amount_eur", "code", "why"]
-    became, (last, replaced) = results_by_row(day), last_commands(day)
+    became, (last, replaced) = results_by_row(day), last_and_replaced_commands(day)
     for number, (command, reason) in enumerate(zip(day.journal.commands, day.reasons), 1):
         key = getattr(command, "who", None), getattr(command, "name", None)
         cells = [number, *command_cells(command), "refused" if reason else "done", reason or ""]
@@ -180,7 +179,7 @@ def words_of_last_change(day, number):
     return f"command {number} {does} it"
 
 
-def refused_words(read, reasons):
+def refused_words_or_none(read, reasons):
     """How many commands of a journal were refused, and whose, in words; None if none was."""
     refusals = [command for command, reason in zip(read.commands, reasons) if reason]
     if not refusals:
@@ -192,7 +191,7 @@ def refused_words(read, reasons):
 
 def figure_values(day):
     """The figures of a day as numbers by name, with their unit in it."""
-    _, *rows = published.figures(day)
+    _, *rows = published.figure_rows(day)
     ends = {"": "", "EUR": "_eur", "MWh": "_mwh", "EUR/MWh": "_eur_mwh"}
     return {
         name + ends[unit]: None if value == "" else value if isinstance(value, int) else float(value) for name, unit, value in rows
@@ -200,19 +199,19 @@ def figure_values(day):
 
 
 TABLES = {
-    "periods": periods,
-    "orders": orders,
-    "participants": participants,
-    "blocks": blocks,
-    "curves": published.curves,
-    "commands": lambda day: commands(day.journal, day.reasons),
-    "statement": statement,
-    "figures": published.figures,
+    "periods": period_rows,
+    "orders": order_rows,
+    "participants": participant_rows,
+    "blocks": block_rows,
+    "curves": published.curve_rows,
+    "commands": lambda day: command_rows(day.journal, day.reasons),
+    "statement": statement_rows,
+    "figures": published.figure_rows,
 }
 # The same in a long form: a row for each period of each thing, or for each number of a period.
 LONG = {
-    "periods": lambda day: published.long_periods(periods(day)),
-    "orders": published.long_orders,
-    "participants": published.long_participants,
-    "blocks": lambda day: published.long_orders(day, "block"),
+    "periods": lambda day: published.long_period_rows(period_rows(day)),
+    "orders": published.long_order_rows,
+    "participants": published.long_participant_rows,
+    "blocks": lambda day: published.long_order_rows(day, "block"),
 }

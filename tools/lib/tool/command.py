@@ -24,12 +24,12 @@ class Stop(Exception):
 def run_and_exit(name, main):
     """Runs a tool's `main`, and ends with its status. A fault, Ctrl-C or another signal is one line on standard error."""
     open_closed_streams()
-    children.heed_children()
+    children.stop_ignoring_children()
     ending.turn_signals_into_exceptions()
     try:
         sys.exit(main())
     except BrokenPipeError:
-        discard_stream(sys.stdout)
+        redirect_to_devnull(sys.stdout)
         sys.exit(NO_INPUT)
     except (Stop, KeyboardInterrupt, OSError) as fault:
         status, said = status_and_message(fault)
@@ -61,7 +61,7 @@ def print_note(tool, words):
     try:
         print(f"{place.command_name(tool)}: {without_controls(words)}", file=sys.stderr, flush=True)
     except OSError:
-        discard_stream(sys.stderr)
+        redirect_to_devnull(sys.stderr)
 
 
 def open_closed_streams():
@@ -73,7 +73,7 @@ def open_closed_streams():
     sys.stderr = sys.stderr or open(os.devnull, "w")
 
 
-def discard_stream(stream):
+def redirect_to_devnull(stream):
     """Discards the text that couldn't be written, so that Python doesn't try again at its end."""
     os.dup2(os.open(os.devnull, os.O_WRONLY), stream.fileno())
 

@@ -10,7 +10,7 @@ from . import file_io
 
 def parse_participant(word):
     """A participant's name on the command line."""
-    if text.parse_participant(word.encode(errors="surrogateescape")) is None:
+    if text.parse_participant_or_none(word.encode(errors="surrogateescape")) is None:
         raise argparse.ArgumentTypeError(f"{text.quoted(word)} should be {text.A_PARTICIPANT}")
     return word
 

@@ -15,8 +15,8 @@ def read_day_texts(path, results_path):
     data = file_io.read_bytes(path)
     if results_path is not None:
         return data, file_io.read_bytes(results_path)
-    texts = results.split_day(data)
-    if texts is None and kinds.kind_of(data) in kinds.FILES:
+    texts = results.journal_and_results_or_none(data)
+    if texts is None and kinds.kind_or_none(data) in kinds.FILES:
         refuse_other_kind(path, data, kinds.JOURNAL)
     if texts is None:
         raise command.Stop(no_results_message(path))
@@ -30,7 +30,7 @@ def no_results_message(path):
 
 def refuse_other_kind(path, data, right, hints=()):
     """Ends the tool if a text looks like one of another kind. Hints give advice on some kinds."""
-    kind = kinds.kind_of(data)
+    kind = kinds.kind_or_none(data)
     if kind not in (None, right):
         advice = kinds.ADVICE.get(kind) if right == kinds.JOURNAL or kind in kinds.PACKED else None
         hint = hints[kind] if kind in hints else f"; {advice}" if advice else ""
@@ -53,28 +53,28 @@ class Day:
         read = require_journal(path, journal_data)
         if results_path is not None:
             refuse_other_kind(results_path, results_data, kinds.RESULTS)
-        self.set_contents(read, results_data, path, results_path or path)
+        self.set_contents_or_stop(read, results_data, path, results_path or path)
 
     def __repr__(self):
         blocks = len(self.problem.blocks)
         hourly = text.counted(len(self.problem.rows) - blocks, "hourly order")
         wrong = f", {text.counted(len(self.wrong), 'fault')}" if self.wrong else ""
-        welfare = f"welfare {self.problem.euros(self.published.welfare)} EUR"
+        welfare = f"welfare {self.problem.euros_text(self.published.welfare)} EUR"
         return f"<Day: {self.problem.periods} periods, {hourly}, {text.counted(blocks, 'block')}, {welfare}{wrong}>"
 
     @classmethod
     def of_text(cls, read, results_data):
         """The same from a journal that was read, and from the bytes of its results."""
         day = cls.__new__(cls)
-        day.set_contents(read, results_data, "the journal", "the text")
+        day.set_contents_or_stop(read, results_data, "the journal", "the text")
         return day
 
-    def set_contents(self, read, results_data, path, results_path):
+    def set_contents_or_stop(self, read, results_data, path, results_path):
         """Sets all that follows from a journal and the bytes of its results. Ends the tool if they have no results of this journal."""
         from ..results import check
 
         self.journal, self.text = read, results_data
-        self.book, self.reasons = book.run_commands(read)
+        self.book, self.reasons = book.book_and_refusals(read)
         if not self.book.closed:
             raise command.Stop(f"no command of {command.shown(path)} closes the book, so it has no results")
         self.problem = selection.Problem(self.book)
@@ -89,7 +89,7 @@ class Day:
         """The published numbers, by the name that `dam_tools` first gave them, for the programs that use it."""
         return self.published
 
-    def note_faults_and_return_status(self, tool, quiet=False):
+    def print_fault_and_return_status(self, tool, quiet=False):
         """Returns the status of a tool that has shown the results. If they break the rules, or else if their encoding differs, it says so on
         standard error."""
         if self.wrong and not quiet:

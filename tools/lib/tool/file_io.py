@@ -42,12 +42,30 @@ def refuse_own_output(path, file):
     """Ends the tool if what it prints would be added to a file that it reads. Then its record of the fault isn't printed either."""
     try:
         found = os.fstat(file.fileno())
+    except (OSError, ValueError):  # it has no number, or is closed
+        return
+    refuse_as_own_output(path, found)
+
+
+def refuse_own_outputs(paths):
+    """Ends the tool, before it reads or prints anything, if its standard output is one of these files; `-` is standard input."""
+    for path in paths:
+        try:
+            found = os.fstat(0) if path == "-" else os.stat(path)
+        except (OSError, ValueError):  # a later read reports it
+            continue
+        refuse_as_own_output(path, found)
+
+
+def refuse_as_own_output(path, found):
+    """Ends the tool if standard output is the file of a path, whose `stat` was found."""
+    try:
         is_own = sys.stdout is not None and stat.S_ISREG(found.st_mode) and os.path.samestat(found, os.fstat(1))
-    except (OSError, ValueError):  # one of them has no number, or is closed
+    except OSError:  # it is closed
         return
     if is_own:
         if ending.watched:  # not a program that calls the package for Python
-            command.discard_stream(sys.stdout)
+            command.redirect_to_devnull(sys.stdout)
         raise OwnOutput(f"standard output goes to {command.shown(path)}, which is one of the inputs: write to another file")
 
 
@@ -95,7 +113,7 @@ def write_stdout(data):
         raise
     except OSError as fault:
         if sys.stdout is not None:
-            command.discard_stream(sys.stdout)
+            command.redirect_to_devnull(sys.stdout)
         raise command.Stop(f"standard output can't be written: {fault.strerror}") from None
 
 
@@ -115,7 +133,7 @@ def write_file_or_stdout(tool, path, data, advice=None):
 def write_files(tool, files, advice=None):
     """Writes files by their paths. None is put in its place before each is whole. With advice, none replaces a file that is there by then:
     the tool ends as by `refuse_to_replace`."""
-    prepare = replacing.prepare_new if advice else replacing.prepare_write
+    prepare = replacing.write_new_beside_and_return_put if advice else replacing.write_beside_and_return_put
     with contextlib.ExitStack() as cleanups:
         puts = {path: call_or_stop(path, prepare, path, data, cleanups) for path, data in files.items()}
         for path, put in puts.items():

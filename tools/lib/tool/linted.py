@@ -21,14 +21,14 @@ class Linted:
         self.input = {"role": "journal", "file": text.for_json(path), "bytes": None, "sha256": None}
         self.findings = []
 
-    def read_and_lint(self):
+    def read_and_note_findings(self):
         data = file_io.read_bytes(self.path)
         self.input.update(bytes=len(data), sha256=hashlib.sha256(data).hexdigest())
         bar = StepBar("lint", len(data), "bytes", self.quiet)
         try:
             self.findings = lint.find_faults(data, self.purpose, bar)
         finally:
-            bar.end()
+            bar.erase()
 
     @property
     def status(self):

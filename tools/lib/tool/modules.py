@@ -30,19 +30,19 @@ def has_module(module):
     return importlib.util.find_spec(module) is not None
 
 
-def is_debians():
+def is_debian_python():
     """Whether this is Debian's Python, which has Debian's packages."""
     return os.path.realpath(sys.executable) == os.path.realpath(DEBIAN_PYTHON)
 
 
-def this_python():
+def words_of_this_python():
     """The words that start this Python for another tool: isolated, if it is."""
     return [sys.executable, *(["-I"] if sys.flags.isolated else [])]
 
 
-def run_for_modules(*modules):
+def run_and_see_if_debian_has(*modules):
     """Whether Debian's Python is a different one and has the modules. With -c alone it would also find those of the working folder."""
-    if is_debians():
+    if is_debian_python():
         return False
     find = "import importlib.util, sys; sys.exit(None in map(importlib.util.find_spec, sys.argv[1:]))"
     try:
@@ -55,7 +55,7 @@ def run_for_modules(*modules):
 
 def exec_with_modules(*modules):
     """Starts the tool again with Debian's Python, if that has the modules and this one lacks some."""
-    if not all(map(has_module, modules)) and run_for_modules(*modules):
+    if not all(map(has_module, modules)) and run_and_see_if_debian_has(*modules):
         # without -S, nothing would find Debian's packages for a program that ending.guard_tool doesn't guard
         late = ["-S"] if sys.flags.no_site else []
         os.execv(DEBIAN_PYTHON, [*ISOLATED, *late, sys.modules["__main__"].__file__, *sys.argv[1:]])

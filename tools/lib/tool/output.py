@@ -14,7 +14,7 @@ def add_options(parser):
     add("-o", "--out", default="-", help="the file to write, an Excel workbook if its name ends with .xlsx (default: standard output)")
 
 
-def refuse_wrong_options(args, *inputs):
+def exec_or_refuse_wrong_options(args, *inputs):
     """Ends the tool if the options can't be used together, or would write over an input, or a package is missing."""
     file_io.refuse_input_as_output(args.out, *inputs)
     if args.json and args.decimal_comma:
@@ -34,10 +34,10 @@ def is_table_name(path):
     return is_workbook_name(path) or path.lower().endswith(CSV)
 
 
-def workbook_bytes(tables):
+def workbook_bytes_or_stop(tables):
     """The bytes of a workbook with a sheet for each table, by name."""
     try:
-        return sheets.workbook_bytes(tables)
+        return sheets.workbook_bytes_or_refuse(tables)
     except sheets.BadTable as fault:
         raise command.Stop(f"{fault}: write it as {CSV}", command.COMMAND_LINE) from None
 
@@ -46,9 +46,9 @@ def write_table(tool, args, name, rows, periods):
     """Writes a table, which is whole before the first byte is written."""
     rows = list(rows)
     if is_workbook_name(args.out):
-        data = workbook_bytes({name: rows})
+        data = workbook_bytes_or_stop({name: rows})
     elif args.json:
-        data = shapes.as_json(name, rows, shapes.day_of_periods(periods)).encode()
+        data = shapes.json_text(name, rows, shapes.day_record(periods)).encode()
     else:
         data = sheets.table_text(rows, args.decimal_comma).encode()
     file_io.write_file_or_stdout(tool, args.out, data)

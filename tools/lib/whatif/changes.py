@@ -10,7 +10,7 @@ MOST_LINES = 5  # of the faults of a table
 HEADS = ["what", "unit", "participant", "order", "period", "before", "after", "change", "outcome_before", "outcome_after"]
 
 
-class Written:
+class NumberFormat:
     """How the numbers of two days are written."""
 
     def __init__(self, day):
@@ -18,38 +18,38 @@ class Written:
 
     def row(self, what, unit, before, after, who="", name="", period="", outcomes=("", "")):
         """A row of the table; of a number that is None in one of the days the cells are empty."""
-        write = {"EUR": self.eur, "EUR/MWh": text.eur_per_mwh, "MWh": self.mwh, "MW": text.mw}[unit]
+        write = {"EUR": self.eur_text, "EUR/MWh": text.eur_per_mwh, "MWh": self.mwh_text, "MW": text.mw}[unit]
         change = "" if None in (before, after) else write(after - before)
         cells = ["" if value is None else write(value) for value in (before, after)]
         return [what, unit, who, name, period, *cells, change, *outcomes]
 
-    def eur(self, amount):
+    def eur_text(self, amount):
         return text.eur(amount, self.hours, thousands="")
 
-    def mwh(self, tenths):
+    def mwh_text(self, tenths):
         return text.energy(tenths, self.hours, thousands="")
 
 
-def table(before, after, who=None):
+def difference_rows(before, after, who=None):
     """A row for each number that differs between two days of as many periods: the welfare, prices and volumes, and each order's executed
     energy and amount, of one participant or of all. With a participant also its gain and its net amount, whether they differ or not."""
-    written = Written(before)
+    number_format = NumberFormat(before)
     yield HEADS
     if who:
-        yield written.row("gain", "EUR", before.gain(who), after.gain(who), who)
-        yield written.row("net", "EUR", before.net(who), after.net(who), who)
+        yield number_format.row("gain", "EUR", before.gain(who), after.gain(who), who)
+        yield number_format.row("net", "EUR", before.net(who), after.net(who), who)
     if before.welfare != after.welfare:
-        yield written.row("welfare", "EUR", before.welfare, after.welfare)
+        yield number_format.row("welfare", "EUR", before.welfare, after.welfare)
     for what, unit, numbers in (
         ("price", "EUR/MWh", zip(traded_prices(before), traded_prices(after))),
         ("volume", "MW", zip(before.volumes, after.volumes)),
     ):
         for period, (one, other) in enumerate(numbers, 1):
             if one != other:
-                yield written.row(what, unit, one, other, period=period)
+                yield number_format.row(what, unit, one, other, period=period)
     for key in {**before.rows, **after.rows}:
         if not who or key[0] == who:
-            yield from order_rows(written, before, after, key)
+            yield from order_rows(number_format, before, after, key)
 
 
 def traded_prices(day):
@@ -57,29 +57,29 @@ def traded_prices(day):
     return [price if volume else None for price, volume in zip(day.prices, day.volumes)]
 
 
-def order_rows(written, before, after, key):
+def order_rows(number_format, before, after, key):
     """The rows of an order; of one that is in one book alone there are both, if it is executed there or not."""
     outcomes = before.outcome(key), after.outcome(key)
     alone = "" in outcomes
     for what, unit, number in (("executed", "MWh", "executed"), ("amount", "EUR", "amount")):
         one, other = (getattr(day, number)(key) if key in day.rows else None for day in (before, after))
         if one != other or alone:
-            yield written.row(what, unit, one, other, *key, outcomes=outcomes)
+            yield number_format.row(what, unit, one, other, *key, outcomes=outcomes)
 
 
-def differing(before, after, but=None):
+def differing_orders(before, after, but=None):
     """The orders that both days have and whose executed volume differs, without one of them."""
     return [key for key in before.rows if key != but and key in after.rows and before.orders[key] != after.orders[key]]
 
 
-def in_few_lines(fault):
+def first_lines_words(fault):
     """The first lines of the faults, and how many more there are, also those that one of the lines counts."""
     lines, counted = str(fault).split("\n"), getattr(fault, "more", 0)
     more = len(lines) + max(counted - 1, 0) - MOST_LINES
     return "\n  ".join(lines[:MOST_LINES] + ([f"and {more} more"] if more > 0 else []))
 
 
-def parse_changes(data, periods):
+def parse_changes_and_notes(data, periods):
     """Further commands for a day: records of a journal, with the records `day` and `close` or without them; a table of commands; or one of
     orders, each a submit. They are pairs of where each stands and a command, to go through once; with notes on the table."""
     try:
@@ -87,25 +87,25 @@ def parse_changes(data, periods):
             return [(f"record {entry.record}", entry.command) for entry in sent.parse_records(data, periods)], []
         table = order_table.parse_cells(data)
         if command_table.is_command_table(table):
-            commands, notes = command_table.parse_commands(table, periods)
+            commands, notes = command_table.parse_commands_and_notes(table, periods)
             return ((f"line {line}", command) for line, command in commands), notes
         orders = order_table.parse_tables([("", table)], periods)
         return [(f"order {number}", submit) for number, submit in orders.submits], orders.notes
     except (sent.BadSentText, order_table.BadOrders) as fault:
-        raise Fault(in_few_lines(fault)) from None
+        raise Fault(first_lines_words(fault)) from None
 
 
-def book_before_close(read):
+def book_before_close_or_raise(read):
     """The book of a journal as it is before its close."""
     held = book.Book(read.periods)
     for command in read.commands:
         if isinstance(command, journal.Close):
             return held
-        held.apply(command)
+        held.apply_or_return_refusal(command)
     raise Fault("no command closes the book: end the journal with close,,,,,,,,")
 
 
-def book_with_commands(held, commands):
+def book_with_commands_or_raise(held, commands):
     """A book with further commands, each with where it stands; the book itself stays as it is. A command that it refuses is a fault."""
     after = held.copy()
     for place, command in commands:
@@ -115,6 +115,6 @@ def book_with_commands(held, commands):
 
 def enter_or_raise(held, place, command):
     """Enters a command that stands at a place. If the book refuses it, that is a fault."""
-    if reason := held.apply(command):
+    if reason := held.apply_or_return_refusal(command):
         remedy = "; amend it, or use another name" if reason == "NameTaken" else ""
-        raise Fault(f"{place}: the book refuses {journal.command_record(command)}: {book.REASONS[reason].words} ({reason}){remedy}")
+        raise Fault(f"{place}: the book refuses {journal.command_record_text(command)}: {book.REASONS[reason].words} ({reason}){remedy}")

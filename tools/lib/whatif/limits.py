@@ -10,7 +10,7 @@ from ..results import decisions
 from ..runs import engine
 from ..tool import command, day_files
 from . import changes
-from ..runs.cleared import THE_DAY, Cleared, book_text
+from ..runs.cleared import THE_DAY, Cleared, journal_bytes
 from ..runs.errors import Fault, Wrong
 from ..base.progress import StepBar
 
@@ -53,27 +53,27 @@ class LimitSearch:
     def __init__(self, held, key, clear):
         self.held, self.key, self.clear = held, key, clear
         self.order = held.rows[key]
-        self.before, self.behind = book_text(self.rows(MARK), held.periods).split(MARK.encode())
+        self.before, self.behind = journal_bytes(self.rows_with(MARK), held.periods).split(MARK.encode())
         self.seen, self.printed = {}, {}  # the clearing, and the output, by limit
 
-    def rows(self, limit):
+    def rows_with(self, limit):
         """The orders of the book with this limit."""
         return {**self.held.rows, self.key: self.order._replace(price=limit)}
 
-    def text(self, limit):
+    def bytes_with(self, limit):
         return b"%s%d%s" % (self.before, limit, self.behind)
 
-    def run_for_output(self, limit):
+    def capture_output(self, limit):
         """The printed results with a limit, kept or by a run."""
         if limit not in self.printed:
-            self.keep_output_or_raise(limit, self.clear(self.text(limit)))
+            self.keep_output_or_raise(limit, self.clear(self.bytes_with(limit)))
         return self.printed[limit]
 
-    def run_for_day(self, limit):
+    def capture_day(self, limit):
         """The clearing with a limit, kept or by a run. If its results break the rules, that is a fault."""
         if limit not in self.seen:
             more = "" if limit == self.order.price else f" with a limit of {text.shown_price(limit)} EUR/MWh"
-            self.seen[limit] = Cleared.of_text(self.rows(limit), self.held.periods, self.run_for_output(limit), f"{THE_DAY}{more}")
+            self.seen[limit] = Cleared.of_text(self.rows_with(limit), self.held.periods, self.capture_output(limit), f"{THE_DAY}{more}")
         return self.seen[limit]
 
     def keep_output_or_raise(self, limit, printed):
@@ -82,67 +82,67 @@ class LimitSearch:
             raise printed
         self.printed[limit] = printed
 
-    def run_for_acceptance(self, limit):
+    def run_and_see_acceptance(self, limit):
         """Whether the block is accepted with a limit."""
-        output, start = self.run_for_output(limit), f"\nblock,{self.key[0]},{self.key[1]},".encode()
+        output, start = self.capture_output(limit), f"\nblock,{self.key[0]},{self.key[1]},".encode()
         word = output[output.find(start) + len(start) :].split(b",", 1)[0] if start in output else None
         if word not in (b"accepted", b"rejected"):
             raise Fault("the program printed no results of this journal")
         return word == b"accepted"
 
-    def run_for_ends(self):
+    def search_for_worst_and_next(self):
         """The worst limit of a block, and the one past it; None for one that isn't in the range. The places of the limits that accept it
         are those before some place."""
         side, own = self.order.side, self.order.price
-        low, high = (place_of(side, own) + 1, COUNT) if self.run_for_acceptance(own) else (0, place_of(side, own))
+        low, high = (place_of(side, own) + 1, COUNT) if self.run_and_see_acceptance(own) else (0, place_of(side, own))
         while low < high:
             middle = (low + high) // 2
-            if self.run_for_acceptance(limit_at(side, middle)):
+            if self.run_and_see_acceptance(limit_at(side, middle)):
                 low = middle + 1
             else:
                 high = middle
         return limit_at(side, low - 1) if low else None, limit_at(side, low) if low < COUNT else None
 
-    def run_for_worst(self):
+    def search_for_worst(self):
         """The worst limit at which the block is accepted, with the clearings that show it."""
-        self.run_for_day(self.order.price)
+        self.capture_day(self.order.price)
         before = len(self.printed)
-        limit, past = self.run_for_ends()
-        at, after = (None if end is None else self.run_for_day(end) for end in (limit, past))
+        limit, past = self.search_for_worst_and_next()
+        at, after = (None if end is None else self.capture_day(end) for end in (limit, past))
         return WorstLimit(limit, at, past, after, len(self.printed) - before)
 
 
-def why_never(search, worst):
+def never_accepted_words(search, worst):
     """Why a block is rejected with the best limit of the range."""
-    read = journal.parse_journal(search.text(worst.past_limit))
+    read = journal.parse_journal(search.bytes_with(worst.past_limit))
     day = day_files.Day.of_text(read, search.printed[worst.past_limit])
     place = day.problem.place(*search.key)
     why = decisions.decisions(day.problem, day.published.accepted, day.outcome)[place].why
     return why if why.startswith("with ") else f"it {why}"  # 'with' its family, 'it' would gain
 
 
-def other_orders(search, worst):
+def other_differing_orders(search, worst):
     """The orders whose result is another at the limit than one cent past it, without the block."""
     if worst.at is None or worst.past is None:
         return []
-    return changes.differing(worst.past, worst.at, search.key)
+    return changes.differing_orders(worst.past, worst.at, search.key)
 
 
-def row(search, worst):
+def limit_cells(search, worst):
     """The cells of `HEADS` for a block."""
-    order, own = search.order, search.run_for_day(search.order.price)
+    order, own = search.order, search.capture_day(search.order.price)
     cells = [*search.key, order.side, text.eur_per_mwh(order.price), own.outcome(search.key)]
     if worst.limit is None:
-        return [*cells, "", "", "", "", f"no limit of the range is enough: with the best, {why_never(search, worst)}"]
+        return [*cells, "", "", "", "", f"no limit of the range is enough: with the best, {never_accepted_words(search, worst)}"]
     amounts = [text.eur(amount, own.hours, thousands="") for amount in (worst.at.surplus(search.key), worst.at.welfare)]
     why = "every limit of the range is enough" if worst.past is None else ""
-    return [*cells, text.eur_per_mwh(worst.limit), *amounts, len(other_orders(search, worst)), why]
+    return [*cells, text.eur_per_mwh(worst.limit), *amounts, len(other_differing_orders(search, worst)), why]
 
 
-def cases(search, worst):
+def case_days(search, worst):
     """The days to compare, each with its name: as it was, at the limit, and one cent past it."""
     own = search.order.price
-    yield "as it was", own, search.run_for_day(own)
+    yield "as it was", own, search.capture_day(own)
     if worst.limit is not None:
         yield "at the worst limit", worst.limit, worst.at
     if worst.past is not None:
@@ -171,11 +171,11 @@ def record(search, worst):
         "side": search.order.side,
         "price_eur_mwh": own / 100,
         "worst_limit_eur_mwh": None if worst.limit is None else worst.limit / 100,
-        "why": row(search, worst)[-1] or None,
+        "why": limit_cells(search, worst)[-1] or None,
         "clearings": worst.clearings,
         "law": LAW,
-        "cases": [case(*each) for each in cases(search, worst)],
-        "others": [other(key) for key in other_orders(search, worst)],
+        "cases": [case(*each) for each in case_days(search, worst)],
+        "others": [other(key) for key in other_differing_orders(search, worst)],
     }
 
 
@@ -183,12 +183,12 @@ def sentences(search, worst):
     """The answer in words."""
     order, who = search.order, " ".join(search.key)
     does, worse = ("buys", "lower") if order.side == "buy" else ("sells", "higher")
-    outcome = search.run_for_day(order.price).outcome(search.key)
-    energy = text.energy(sum(volume for _, volume in order.volumes), search.run_for_day(order.price).hours)
+    outcome = search.capture_day(order.price).outcome(search.key)
+    energy = text.energy(sum(volume for _, volume in order.volumes), search.capture_day(order.price).hours)
     yield f"{who} {does} {energy} MWh in a block with a limit of {text.shown_price(order.price)} EUR/MWh, and is {outcome}."
     if worst.limit is None:
         best = text.shown_price(worst.past_limit)
-        yield f"No limit of the range is enough: with the best, {best} EUR/MWh, {why_never(search, worst)}."
+        yield f"No limit of the range is enough: with the best, {best} EUR/MWh, {never_accepted_words(search, worst)}."
     elif worst.past is None:
         yield f"Every limit of the range is enough, up to the worst, {text.shown_price(worst.limit)} EUR/MWh."
     else:
@@ -197,37 +197,37 @@ def sentences(search, worst):
     yield f"This is exact, since {LAW}. It took {text.counted(worst.clearings, 'clearing')} more than the day itself."
 
 
-def run_for_short_sentence(search):
+def capture_short_sentence(search):
     """The worst limit of a rejected block in one sentence."""
-    limit = search.run_for_worst().limit
+    limit = search.search_for_worst().limit
     if limit is None:
         return "With no limit would it have been accepted."
     return f"With a limit of {text.shown_price(limit)} EUR/MWh or {BETTER[search.order.side]} it would have been accepted."
 
 
-def run_for_rejected(day, who=None, is_asked=True):
+def capture_rejected_sentences(day, who=None, is_asked=True):
     """The same for each rejected block of a day, or of a participant, by place. If a limit isn't computed, the sentence says so, and why:
     never because of the time that it would take."""
     places = [place for place, block in enumerate(day.problem.blocks) if place not in day.published.accepted and who in (None, block.who)]
     if not places or day.wrong or not is_asked:
         return dict.fromkeys(places, not_computed_words("the results break the rules" if day.wrong else "the page was made without limits"))
-    own = engine.result_or_fault(engine.run_clear(book_text(day.book.rows, day.problem.periods)))
-    if words := uncomputable_words(day, own):
+    own = engine.result_or_fault(engine.run_clear(journal_bytes(day.book.rows, day.problem.periods)))
+    if words := uncomputable_words_or_none(day, own):
         why, more = words
         command.print_note("report", f"the limits that rejected blocks needed weren't computed: {why}: {more}")
         return dict.fromkeys(places, not_computed_words(why))
     bar = StepBar("report", len(places), "limits of rejected blocks")
     with engine.running_team(engine.count_processors()) as (team, running):
         was = Cleared.of_day(day)  # which the program has too
-        waiting = [team.submit(run_for_sentence, day.book, day.problem.blocks[place], own, was, running) for place in places]
+        waiting = [team.submit(capture_sentence, day.book, day.problem.blocks[place], own, was, running) for place in places]
         try:
             return {place: step_and_return(promise.result(), bar) for place, promise in zip(places, waiting)}
         finally:
-            bar.end()
+            bar.erase()
 
 
 def step_and_return(words, bar):
-    bar.step()
+    bar.count_and_show()
     return words
 
 
@@ -235,7 +235,7 @@ def not_computed_words(why):
     return f"Its limit wasn't computed: {why}."
 
 
-def uncomputable_words(day, own):
+def uncomputable_words_or_none(day, own):
     """Why no limit can be computed, in few words and in more, if the program failed on a day or printed other results than its own; None if
     it printed the same."""
     try:
@@ -250,13 +250,13 @@ def uncomputable_words(day, own):
         return "the program couldn't clear the day", str(fault)
 
 
-def run_for_sentence(held, block, own, was, running):
+def capture_sentence(held, block, own, was, running):
     """What a page says of a rejected block, whose day is printed as `own`, and was checked."""
     search = LimitSearch(held, (block.who, block.name), lambda given: engine.result_or_fault(engine.run_clear(given, running=running)))
     search.keep_output_or_raise(block.order.price, own)
     search.seen[block.order.price] = was
     try:
-        return run_for_short_sentence(search)
+        return capture_short_sentence(search)
     except Fault as fault:
         command.print_note("report", f"the limit of {' '.join(search.key)} wasn't computed: {fault}")
         return not_computed_words(BROKEN if isinstance(fault, Wrong) else "a run of the program failed")
@@ -269,9 +269,9 @@ def aligned_lines(rows):
         yield "  ".join([first.ljust(widths[0]), *(cell.rjust(width) for cell, width in zip(rest, widths[1:]))]).rstrip()
 
 
-def table(search, worst):
+def case_rows(search, worst):
     """What the block and the day come to in each case, and the prices that concern the block or differ."""
-    days = list(cases(search, worst))
+    days = list(case_days(search, worst))
     yield ["", *(name for name, _, _ in days)]
     yield ["limit, EUR/MWh", *(text.shown_price(limit) for _, limit, _ in days)]
     yield ["result", *(day.outcome(search.key) for _, _, day in days)]
@@ -287,7 +287,7 @@ def table(search, worst):
 
 def other_lines(search, worst):
     """The orders whose result differs between the limit and one cent past it."""
-    keys = other_orders(search, worst)
+    keys = other_differing_orders(search, worst)
     if worst.limit is None or worst.past is None:
         return
     if not keys:
@@ -300,6 +300,6 @@ def other_lines(search, worst):
         yield f"  and {len(keys) - MOST_OTHERS} more: --json has all"
 
 
-def lines(search, worst):
+def answer_lines(search, worst):
     """All of it, as lines for readers."""
-    return [*sentences(search, worst), "", *aligned_lines(list(table(search, worst))), "", *other_lines(search, worst)]
+    return [*sentences(search, worst), "", *aligned_lines(list(case_rows(search, worst))), "", *other_lines(search, worst)]

@@ -21,9 +21,9 @@ def parse_price(word):
     return cents
 
 
-def parse_order_name(word):
+def order_name_and_advice(word):
     """An order's name on the command line."""
-    if text.parse_name(word.encode(errors="surrogateescape")) is None:
+    if text.parse_name_or_none(word.encode(errors="surrogateescape")) is None:
         raise argparse.ArgumentTypeError(f"{text.quoted(word)} should be {text.A_NAME}")
     return word
 
@@ -34,7 +34,7 @@ def parse_jobs(word):
     return int(word)
 
 
-def add_command(commands, call, name, epilog, words):
+def add_command_parser(commands, call, name, epilog, words):
     """The parser of a command, with what all commands read."""
     words_of_call = call.__doc__ or place.read_docstring(sys.modules[call.__module__].__file__, call.__name__)
     parser = commands.add_parser(name, description=inspect.cleandoc(words_of_call), epilog=epilog, help=words)
@@ -45,11 +45,11 @@ def add_command(commands, call, name, epilog, words):
     return parser
 
 
-def add_limit(commands, call, epilog):
-    parser = add_command(commands, call, "limit", epilog, "the worst limit at which a block is accepted")
+def add_limit_command(commands, call, epilog):
+    parser = add_command_parser(commands, call, "limit", epilog, "the worst limit at which a block is accepted")
     add = parser.add_argument
     add("--participant", metavar="NAME", type=command_line.parse_participant, required=True, help="the participant that entered the order")
-    add("--order", metavar="NAME", type=parse_order_name, help="the order")
+    add("--order", metavar="NAME", type=order_name_and_advice, help="the order")
     add("--all", action="store_true", help="every block of the participant, a row each")
     add("--jobs", metavar="N", type=parse_jobs, help="the number of clearings at the same time (default: the number of processors)")
     add("--from", dest="least", metavar="EUR", type=parse_price, help="for an hourly order: the least limit (default: 20 below the price)")
@@ -57,22 +57,22 @@ def add_limit(commands, call, epilog):
     add("--step", metavar="EUR", type=parse_price, help="the distance between two limits (default: 1.00)")
 
 
-def add_change(commands, call, epilog):
-    parser = add_command(commands, call, "change", epilog, "the effect of further commands")
+def add_change_command(commands, call, epilog):
+    parser = add_command_parser(commands, call, "change", epilog, "the effect of further commands")
     words = "further commands: records as in a journal, or a table of orders, or of commands with the column what (CSV or Excel); - for"
     words += " standard input"
     parser.add_argument("changes", metavar="CHANGES", help=words)
     words = "only this participant's orders, with its gain and net amount"
     parser.add_argument("--participant", metavar="NAME", type=command_line.parse_participant, help=words)
-    add_quiet(parser)
+    add_quiet_option(parser)
 
 
-def add_quiet(parser):
+def add_quiet_option(parser):
     parser.add_argument("--quiet", action="store_true", help="leave out notes on standard error; faults are still printed")
 
 
-def add_scenarios(commands, call, epilog):
-    parser = add_command(commands, call, "scenarios", epilog, "the results of many scenarios")
+def add_scenarios_command(commands, call, epilog):
+    parser = add_command_parser(commands, call, "scenarios", epilog, "the results of many scenarios")
     add = parser.add_argument
     words = "a table with the column scenario and those of a table of orders, or of commands with the column what (CSV or Excel)"
     add("scenarios", metavar="SCENARIOS", nargs="?", help=words)
@@ -80,7 +80,7 @@ def add_scenarios(commands, call, epilog):
     add("--rows", choices=scenarios.TABLES, help=words)
     words = "only this participant's rows; with --sample, its orders stay"
     add("--participant", metavar="NAME", type=command_line.parse_participant, help=words)
-    add("--order", metavar="NAME", type=parse_order_name, help="only this order of the participant")
+    add("--order", metavar="NAME", type=order_name_and_advice, help="only this order of the participant")
     add("--jobs", metavar="N", type=parse_jobs, help="the number of clearings at the same time (default: the number of processors)")
     add("--sample", metavar="N", type=parse_sample_count, help="random scenarios instead of a table")
     add("--seed", metavar="WORD", help="the seed of the random scenarios (default: 1)")
@@ -89,7 +89,7 @@ def add_scenarios(commands, call, epilog):
     add("--volume-sd", metavar="SHARE", type=parse_standard_deviation, help=words)
     add("--cluster", metavar="ADDRESS", help="the scheduler of a dask cluster to run on, such as tcp://10.0.0.1:8786; with tls:// the"
         " certificates are those of ~/.config/dask or /etc/dask")
-    add_quiet(parser)
+    add_quiet_option(parser)
 
 
 def parse_sample_count(word):

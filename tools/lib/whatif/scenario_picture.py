@@ -3,7 +3,7 @@
 from ..base import text
 from ..pictures import canvas
 from ..pictures.drawing import pyplot
-from .scenarios import quantile
+from .scenarios import quantile_or_none
 
 BINS = 30
 MEDIAN = "median of the surplus"
@@ -15,13 +15,13 @@ def render_picture(over, suffix):
     with pyplot.rc_context(canvas.STYLE):
         figure, rows = pyplot.subplots(len(over.keys), 1, figsize=(canvas.BROAD, HEIGHT * len(over.keys) + 0.6), squeeze=False)
         for (axes,), key in zip(rows, over.keys):
-            draw(axes, over, key)
+            draw_distribution(axes, over, key)
         rows[-1][0].set_xlabel("surplus in the scenarios that accept the block, EUR")
         figure.tight_layout()
         return canvas.render_and_close(figure, suffix)
 
 
-def draw(axes, over, key):
+def draw_distribution(axes, over, key):
     found = [float(amount * over.hours / 1_000) for amount in over.surpluses[key]]
     whole = len(found) + over.rejected[key]
     share = f"accepted in {len(found):,} of {whole:,} scenarios ({100 * len(found) / whole:.1f} %)"
@@ -30,6 +30,6 @@ def draw(axes, over, key):
     axes.set_ylabel("scenarios")
     axes.xaxis.set_major_formatter(lambda value, _: f"{value:,.0f}")
     if found:
-        middle = f"{MEDIAN}: {quantile(sorted(found), 50):,.2f} EUR"
-        axes.axvline(quantile(sorted(found), 50), color=canvas.COLOURS["ink"], linewidth=1, linestyle="--", label=middle)
+        middle = f"{MEDIAN}: {quantile_or_none(sorted(found), 50):,.2f} EUR"
+        axes.axvline(quantile_or_none(sorted(found), 50), color=canvas.COLOURS["ink"], linewidth=1, linestyle="--", label=middle)
         axes.legend(loc="lower right", bbox_to_anchor=(1, 1), borderaxespad=0, fontsize=8, frameon=False)  # next to the title

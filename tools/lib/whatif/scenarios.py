@@ -12,7 +12,7 @@ from ..base import rules, text
 from ..results import selection
 from ..sheets import cell_values, order_table, sheets
 from . import changes
-from ..runs.cleared import NO_RESULTS, book_text
+from ..runs.cleared import NO_RESULTS, journal_bytes
 from ..sheets.command_table import Columns
 from ..runs.errors import Fault, Wrong
 
@@ -42,7 +42,7 @@ class Listed(NamedTuple):
 
     @property
     def text(self):
-        return book_text(self.book.rows, self.book.periods)
+        return journal_bytes(self.book.rows, self.book.periods)
 
 
 class Sampler:
@@ -111,14 +111,14 @@ class Table:
         try:
             self.columns = Columns(order_table.parse_cells(data, MOST_ROWS, is_long=True), (SCENARIO,))
         except order_table.BadOrders as fault:
-            raise Fault(f"{name}: {changes.in_few_lines(fault)}") from None
+            raise Fault(f"{name}: {changes.first_lines_words(fault)}") from None
         self.count = self.count_or_raise()
 
     def __len__(self):
         return self.count
 
     def __iter__(self):
-        return (Listed(scenario, self.book_of(rows)) for scenario, rows in self.parts())
+        return (Listed(scenario, self.book_or_raise(rows)) for scenario, rows in self.parts())
 
     def parts(self):
         """The name of each scenario, with its rows."""
@@ -135,39 +135,39 @@ class Table:
             if CONTROL.search(scenario):
                 words = f"{text.quoted(scenario)} has a control character: remove it"
                 raise Fault(f"{self.name}: line {first[0]}, column {SCENARIO}: {words}")
-            if not sheets.fits(scenario):
+            if not sheets.fits_cell(scenario):
                 words = f"{text.quoted(scenario)} would be too long for a cell of the output: shorten it"
                 raise Fault(f"{self.name}: line {first[0]}, column {SCENARIO}: {words}")
             if scenario in seen:
                 words = f"line {first[0]}: there is a scenario {text.quoted(scenario)} in line {seen[scenario]}"
                 raise Fault(f"{self.name}: {words}: the lines of a scenario stand together, and no two have one name")
             seen[scenario] = first[0]
-            self.try_out(trial, itertools.chain([first], rows))
+            self.try_out_or_raise(trial, itertools.chain([first], rows))
         if not seen:
             raise Fault(f"{self.name}: it has no scenarios")
         return len(seen)
 
-    def book_of(self, rows):
+    def book_or_raise(self, rows):
         """The book of the day with the commands of the lines of a scenario, which it takes."""
         after = self.held
-        for line, command in self.commands_of(rows):
+        for line, command in self.commands_or_raise(rows):
             after = self.held.copy() if after is self.held else after
             self.enter_or_raise(after, line, command)
         return after
 
-    def try_out(self, trial, rows):
+    def try_out_or_raise(self, trial, rows):
         """Enters the commands of the lines of a scenario, and takes them back."""
         before = {}
-        for line, command in self.commands_of(rows):
-            before.setdefault((command.who, command.name), trial.order(command))
+        for line, command in self.commands_or_raise(rows):
+            before.setdefault((command.who, command.name), trial.order_or_none(command))
             self.enter_or_raise(trial, line, command)
         for key, order in before.items():
             trial.put_back(key, order)
 
-    def commands_of(self, rows):
+    def commands_or_raise(self, rows):
         """The commands of lines, each with its line."""
         for line, _, cells in rows:
-            if (command := self.command_of(line, cells)) is not None:
+            if (command := self.command_or_raise(line, cells)) is not None:
                 yield line, command
 
     def enter_or_raise(self, held, line, command):
@@ -176,7 +176,7 @@ class Table:
         except Fault as fault:
             raise Fault(f"{self.name}: {fault}") from None
 
-    def command_of(self, line, cells):
+    def command_or_raise(self, line, cells):
         """The command of a line; None if it has none."""
         try:
             cell_values.refuse_unlike(self.columns.places.given_cell(cells, SCENARIO), True)
@@ -184,50 +184,51 @@ class Table:
             raise Fault(f"{self.name}: line {line}, column {SCENARIO}: {fault}") from None
         command, faults = self.columns.parse_row_and_faults(cells, self.held.periods)
         if faults:
-            wrong = "\n".join(order_table.row_fault(line, words) for words in faults)
-            raise Fault(f"{self.name}: {changes.in_few_lines(wrong)}")
+            wrong = "\n".join(order_table.row_fault_words(line, words) for words in faults)
+            raise Fault(f"{self.name}: {changes.first_lines_words(wrong)}")
         return command
 
 
-def parse_table(name, data, held):
+def parse_table_and_notes(name, data, held):
     """The scenarios of a table, and notes on it."""
     made = Table(name, data, held)
     return made, made.columns.table.notes
 
 
-def welfare(scenario, before, after, _):
-    written = changes.Written(after)
-    yield [scenario, written.eur(after.welfare), written.eur(after.welfare - before.welfare)]
+def welfare_rows(scenario, before, after, _):
+    number_format = changes.NumberFormat(after)
+    yield [scenario, number_format.eur_text(after.welfare), number_format.eur_text(after.welfare - before.welfare)]
 
 
-def prices(scenario, before, after, _):
+def price_rows(scenario, before, after, _):
     for period, (cents, volume, was) in enumerate(zip(after.prices, after.volumes, before.prices), 1):
         yield [scenario, period, text.eur_per_mwh(cents), text.mw(volume), text.eur_per_mwh(cents - was)]
 
 
-def orders(scenario, _, after, is_asked):
-    written = changes.Written(after)
+def order_rows(scenario, _, after, is_asked):
+    number_format = changes.NumberFormat(after)
     for key, order in after.rows.items():
         if is_asked(key):
-            surplus = written.eur(after.surplus(key)) if order.kind == "block" else ""
-            energy, amount = written.mwh(after.executed(key)), written.eur(after.amount(key))
+            surplus = number_format.eur_text(after.surplus(key)) if order.kind == "block" else ""
+            energy, amount = number_format.mwh_text(after.executed(key)), number_format.eur_text(after.amount(key))
             yield [scenario, *key, order.kind, after.outcome(key), energy, surplus, amount]
 
 
-def participants(scenario, _, after, is_asked):
-    written = changes.Written(after)
+def participant_rows(scenario, _, after, is_asked):
+    number_format = changes.NumberFormat(after)
     for who in sorted({who for who, name in after.rows if is_asked((who, None))}):
         own = [key for key in after.rows if key[0] == who]
         energies = [sum(after.executed(key) for key in own if after.rows[key].side == side) for side in ("buy", "sell")]
-        yield [scenario, who, *map(written.mwh, energies), written.eur(after.net(who)), written.eur(after.gain(who))]
+        amounts = after.net(who), after.gain(who)
+        yield [scenario, who, *map(number_format.mwh_text, energies), *map(number_format.eur_text, amounts)]
 
 
 # Each table with its columns after the first, which names the scenario.
 TABLES = {
-    "welfare": (welfare, ["welfare_eur", "change_eur"]),
-    "prices": (prices, ["period", "price_eur_mwh", "volume_mw", "change_eur_mwh"]),
-    "orders": (orders, ["participant", "order", "kind", "outcome", "executed_mwh", "surplus_eur", "amount_eur"]),
-    "participants": (participants, ["participant", "bought_mwh", "sold_mwh", "net_eur", "gain_eur"]),
+    "welfare": (welfare_rows, ["welfare_eur", "change_eur"]),
+    "prices": (price_rows, ["period", "price_eur_mwh", "volume_mw", "change_eur_mwh"]),
+    "orders": (order_rows, ["participant", "order", "kind", "outcome", "executed_mwh", "surplus_eur", "amount_eur"]),
+    "participants": (participant_rows, ["participant", "bought_mwh", "sold_mwh", "net_eur", "gain_eur"]),
 }
 
 
@@ -244,7 +245,7 @@ class Distribution:
         try:
             lines = printed.decode().split("\n", self.periods + 2)[2:-1]  # after the day and the welfare
             prices = {number: int(line.split(",")[2]) for number, line in enumerate(lines, 1)}
-            found = {key: (*block_of(printed, key), selection.surplus(self.rows[key], prices)) for key in self.keys}
+            found = {key: (*parse_block(printed, key), selection.surplus_or_none(self.rows[key], prices)) for key in self.keys}
         except (ValueError, LookupError):
             raise Fault(NO_RESULTS) from None
         for key, (is_accepted, amount, right) in found.items():
@@ -259,39 +260,39 @@ class Distribution:
     def heads(self):
         return [*BLOCK, *(f"p{part:02}_eur" for part in PARTS)]
 
-    def table(self):
+    def table_rows(self):
         """A row for each block; amounts are rounded to whole cents."""
         yield self.heads()
         for key in self.keys:
             found = sorted(self.surpluses[key])
             whole = len(found) + self.rejected[key]
-            amounts = [Fraction(sum(found), whole), *(quantile(found, part) for part in PARTS)]
+            amounts = [Fraction(sum(found), whole), *(quantile_or_none(found, part) for part in PARTS)]
             shares = [whole, len(found), f"{len(found) / whole:.4f}"]
-            yield [*key, text.eur_per_mwh(self.rows[key].price), *shares, *map(self.eur, amounts)]
+            yield [*key, text.eur_per_mwh(self.rows[key].price), *shares, *map(self.eur_text, amounts)]
 
-    def eur(self, amount):
+    def eur_text(self, amount):
         return "" if amount is None else f"{float(amount * self.hours / 1_000):.2f}"
 
 
-def block_of(printed, key):
+def parse_block(printed, key):
     """Whether a block is accepted in an output of `dam clear`, and its surplus; a ValueError or a KeyError if it isn't there."""
     begin = printed.index(f"\nblock,{key[0]},{key[1]},".encode()) + 1
     outcome, surplus = printed[begin : printed.index(b"\n", begin)].split(b",")[3:]
     return {b"accepted": True, b"rejected": False}[outcome], int(surplus)
 
 
-def quantile(numbers, part):
+def quantile_or_none(numbers, part):
     """The number of a sorted list that this per cent of it are at most; None of an empty list."""
     return numbers[max(-(-len(numbers) * part // 100) - 1, 0)] if numbers else None
 
 
-def distribution_words(distribution):
+def distribution_lines(distribution):
     """One line for each block."""
     for key in distribution.keys:
         found = distribution.surpluses[key]
         whole = len(found) + distribution.rejected[key]
         line = f"{' '.join(key)} is accepted in {len(found):,} of {whole:,} scenarios"
         if found:
-            middle = text.amount(quantile(sorted(found), 50), distribution.hours)
+            middle = text.amount(quantile_or_none(sorted(found), 50), distribution.hours)
             line += f"; the median of its surplus is then {middle} EUR"
         yield line

@@ -1,5 +1,6 @@
 """The work of each command of tools/whatif."""
 
+import argparse
 import collections
 import contextlib
 import itertools
@@ -19,8 +20,11 @@ def main(description, epilog):
     """Reads the command line, and does what it says."""
     parser = command_line.Parser("whatif", description, epilog)
     commands = parser.add_subparsers(dest="command", metavar="COMMAND", required=True)
-    each = (options.add_limit, write_limit), (options.add_change, write_change), (options.add_scenarios, write_scenarios)
-    for add, call in each:
+    for add, call in (
+        (options.add_limit_command, write_limit_and_return_status),
+        (options.add_change_command, write_change_and_return_status),
+        (options.add_scenarios_command, write_scenarios_and_return_status),
+    ):
         add(commands, call, epilog[epilog.index("\nstatuses:") :])
     args = parser.parse_args()
     try:
@@ -36,7 +40,7 @@ def status_of(fault):
     return command.FAILED if is_failure else command.NO_INPUT
 
 
-def require_program(args):
+def require_and_set_program(args):
     """Ends the tool if there is neither the library nor a program."""
     if args.program or not which.find_library():
         try:
@@ -49,51 +53,51 @@ def require_program(args):
 
 def read_closed_book(args):
     """The book of the journal, which has to be closed."""
-    require_program(args)
     found = day_files.require_journal(args.journal, file_io.read_bytes(args.journal))
     try:
-        return changes.book_before_close(found)
+        return changes.book_before_close_or_raise(found)
     except errors.Fault as fault:
         raise command.Stop(f"{command.shown(args.journal)}: {fault}") from None
 
 
-def engine_of(program, running=None):
+def engine_function(program, running=None):
     """The engine that clears a text; a run that fails is a `Fault`."""
     return lambda given: engine.result_or_fault(engine.run_clear(given, program, running))
 
 
-def write_limit(args):
+def write_limit_and_return_status(args):
     """Prints the worst limit at which a block is accepted, to the cent, or why no limit is enough. It adds the prices, the block's surplus,
     the participant's gain and the welfare at that limit and one cent past it, and the other orders whose results differ. The answer is in
     words; with --decimal-comma, or a file whose name ends with .csv or .xlsx, it is a table of one row. For an hourly order it prints the
     results under some limits."""
-    output.refuse_wrong_options(args, args.journal)
+    output.exec_or_refuse_wrong_options(args, args.journal)
     if args.all == bool(args.order):
         raise command.Stop("give --order with the order's name, or --all for every block", command.COMMAND_LINE)
+    require_and_set_program(args)
     held = read_closed_book(args)
     if args.all:
-        return write_all_limits(args, held)
+        return write_all_limits_and_return_status(args, held)
     key = args.participant, args.order
     if key not in held.rows:
-        raise command.Stop(unknown_words(held, *key))
+        raise command.Stop(unknown_order_words(held, *key))
     if held.rows[key].kind == "hour":
-        return write_samples(args, held, key)
+        return write_samples_and_return_status(args, held, key)
     if (args.least, args.greatest, args.step) != (None,) * 3:
         raise command.Stop("--from, --to and --step can't be used with a block, whose limit is found exactly", command.COMMAND_LINE)
-    search = limits.LimitSearch(held, key, engine_of(args.program))
-    found = search.run_for_worst()
+    search = limits.LimitSearch(held, key, engine_function(args.program))
+    found = search.search_for_worst()
     if args.json:
         data = json.dumps(limits.record(search, found), indent=1) + "\n"
     elif output.is_table_name(args.out) or args.decimal_comma:
-        output.write_table("whatif", args, "limits", [limits.HEADS, limits.row(search, found)], held.periods)
+        output.write_table("whatif", args, "limits", [limits.HEADS, limits.limit_cells(search, found)], held.periods)
         return command.DONE
     else:
-        data = "".join(f"{line}\n" for line in limits.lines(search, found)).rstrip("\n") + "\n"
+        data = "".join(f"{line}\n" for line in limits.answer_lines(search, found)).rstrip("\n") + "\n"
     file_io.write_file_or_stdout("whatif", args.out, data.encode())
     return command.DONE
 
 
-def unknown_words(held, who, name):
+def unknown_order_words(held, who, name):
     """The message about an order that isn't in the book."""
     own = [other for owner, other in held.rows if owner == who]
     if not own:
@@ -103,7 +107,7 @@ def unknown_words(held, who, name):
     return f"{who} has no order {name} in the book: {shown}"
 
 
-def write_all_limits(args, held):
+def write_all_limits_and_return_status(args, held):
     """The worst limits of all blocks of a participant, as a table."""
     keys = [key for key, order in held.rows.items() if key[0] == args.participant and order.kind == "block"]
     if not keys:
@@ -112,19 +116,19 @@ def write_all_limits(args, held):
     with engine.running_threads(args.jobs or engine.count_processors()) as (threads, running):
 
         def row(key):
-            search = limits.LimitSearch(held, key, engine_of(args.program, running))
-            return limits.row(search, search.run_for_worst())
+            search = limits.LimitSearch(held, key, engine_function(args.program, running))
+            return limits.limit_cells(search, search.search_for_worst())
 
-        rows = list(engine.stepping_bar(threads.map(row, keys), len(keys), "block"))
+        rows = list(engine.iterate_with_bar(threads.map(row, keys), len(keys), "block"))
     output.write_table("whatif", args, "limits", [limits.HEADS, *rows], held.periods)
     return command.DONE
 
 
-def write_samples(args, held, key):
+def write_samples_and_return_status(args, held, key):
     """An hourly order under a grid of limits, as a table."""
-    search = limits.LimitSearch(held, key, engine_of(args.program))
+    search = limits.LimitSearch(held, key, engine_function(args.program))
     period = held.rows[key].volumes[0][0]
-    price = search.run_for_day(search.order.price).prices[period - 1]
+    price = search.capture_day(search.order.price).prices[period - 1]
     reach, step = GRID
     step = step if args.step is None else args.step
     least = max(price - reach, rules.LOWEST_PRICE) if args.least is None else args.least
@@ -134,13 +138,13 @@ def write_samples(args, held, key):
     grid = sorted({*range(least, greatest + 1, step), search.order.price})
     if len(grid) > MOST_LIMITS:
         raise command.Stop(f"{len(grid):,} limits are too many: give a larger --step", command.COMMAND_LINE)
-    texts = [search.text(cents) for cents in grid]
+    texts = [search.bytes_with(cents) for cents in grid]
     with contextlib.closing(engine.run_clears(texts, args.jobs, program=args.program)) as answers:
-        for cents, printed in zip(grid, engine.stepping_bar(answers, len(grid), "limit")):
+        for cents, printed in zip(grid, engine.iterate_with_bar(answers, len(grid), "limit")):
             search.keep_output_or_raise(cents, printed)
     rows = [["limit_eur_mwh", "executed_mw", "price_eur_mwh", "surplus_eur", "welfare_eur"]]
     for cents in grid:
-        day = search.run_for_day(cents)
+        day = search.capture_day(cents)
         amounts = [text.eur(amount, day.hours, thousands="") for amount in (day.surplus(key), day.welfare)]
         rows.append([text.eur_per_mwh(cents), text.mw(day.executed(key)), text.eur_per_mwh(day.prices[period - 1]), *amounts])
     own = search.order.price
@@ -151,54 +155,55 @@ def write_samples(args, held, key):
     return command.DONE
 
 
-def write_change(args):
+def write_change_and_return_status(args):
     """Prints the differences if further commands are put before the close: the welfare, prices and volumes, and each order's executed
     energy and amount, in the table of tools/compare."""
-    output.refuse_wrong_options(args, args.journal, args.changes)
+    output.exec_or_refuse_wrong_options(args, args.journal, args.changes)
     if args.journal == args.changes == "-":
         raise command.Stop("only one file can be standard input", command.COMMAND_LINE)
+    require_and_set_program(args)
     before = read_closed_book(args)
     try:
-        further, notes = changes.parse_changes(file_io.read_bytes(args.changes), before.periods)
+        further, notes = changes.parse_changes_and_notes(file_io.read_bytes(args.changes), before.periods)
         for note in [] if args.quiet else notes:
             command.print_note("whatif", f"{command.shown(args.changes)}: {note}")
-        books = [before, changes.book_with_commands(before, further)]
+        books = [before, changes.book_with_commands_or_raise(before, further)]
     except errors.Fault as fault:
         raise command.Stop(f"{command.shown(args.changes)}: {fault}") from None
-    rows = list(run_and_compare(books, args.participant, args.program))
+    rows = list(capture_difference_rows(books, args.participant, args.program))
     if len(rows) == 1 and not args.quiet:
         command.print_note("whatif", "nothing differs")
     output.write_table("whatif", args, "changes", rows, before.periods)
     return command.DONE
 
 
-def run_and_compare(books, who, program):
+def capture_difference_rows(books, who, program):
     """The differences between the results of two books, as a table: of one participant, or of all."""
     if who is not None and not any(who == owner for one in books for owner, _ in one.rows):
         raise errors.Fault(f"{who or text.quoted(who)} has no order in the book, before or after the changes")
-    printed = list(engine.run_clears([cleared.book_text(one.rows, one.periods) for one in books], program=program))
+    printed = list(engine.run_clears([cleared.journal_bytes(one.rows, one.periods) for one in books], program=program))
     for found in printed:
         if isinstance(found, errors.Fault):
             raise found
     names = cleared.THE_DAY, f"{cleared.THE_DAY} with the changes"
     days = [Cleared.of_text(one.rows, one.periods, found, name) for one, found, name in zip(books, printed, names)]
-    return changes.table(*days, who)
+    return changes.difference_rows(*days, who)
 
 
 def require_asked_order(args, books):
     """Ends the tool if no book has an order that is asked for."""
-    is_asked = asked_of(args)
+    is_asked = key_test(args)
     if not any(map(is_asked, itertools.chain.from_iterable(books))):
         name = f" {args.order}" if args.order else ""
         raise command.Stop(f"{args.participant} has no order{name} in the book or in a scenario")
 
 
-def require_asked_keys(args, held):
+def require_asked_blocks(args, held):
     """The blocks whose distribution is asked for."""
     if args.order and (args.participant, args.order) not in held.rows:
-        raise command.Stop(unknown_words(held, args.participant, args.order))
+        raise command.Stop(unknown_order_words(held, args.participant, args.order))
     if not any(who == args.participant for who, _ in held.rows):
-        raise command.Stop(unknown_words(held, args.participant, None))
+        raise command.Stop(unknown_order_words(held, args.participant, None))
     blocks = [key for key, order in held.rows.items() if key[0] == args.participant and order.kind == "block"]
     own = [key for key in blocks if args.order in (None, key[1])]
     if not own:
@@ -219,20 +224,23 @@ def connecting_executor(args):
         yield executor, dam_tools.engine.run_clear  # by the name that it has in the package
 
 
-def write_scenarios(args):
+def write_scenarios_and_return_status(args):
     """Prints the results of many scenarios. In a table, each scenario has a name, with the orders or commands that it adds to the journal.
     With --sample the scenarios are random: the orders of all but one participant have other limits and volumes. An output that ends with
     .svg or .png is a picture of these."""
-    output.refuse_wrong_options(args, args.journal, args.scenarios)
+    output.exec_or_refuse_wrong_options(args, args.journal, args.scenarios)
     options.refuse_wrong_scenario_options(args)
     if options.is_picture_name(args.out):
         modules.exec_or_require_modules("matplotlib")
     if args.sample:
         modules.exec_or_require_modules("numpy")
+    if args.cluster is not None:
+        modules.exec_or_require_modules("distributed")
+    require_and_set_program(args)
     held = read_closed_book(args)
     if args.sample is None:
         data = file_io.read_bytes(args.scenarios)
-        given, notes = scenarios.parse_table(command.shown(args.scenarios), data, held)
+        given, notes = scenarios.parse_table_and_notes(command.shown(args.scenarios), data, held)
         for note in [] if args.quiet else notes:
             command.print_note("whatif", f"{command.shown(args.scenarios)}: {note}")
         count = len(given)
@@ -242,8 +250,8 @@ def write_scenarios(args):
         sds = [3 if args.price_sd is None else args.price_sd, 0.1 if args.volume_sd is None else args.volume_sd]
         sampler = scenarios.Sampler(held, args.participant, args.seed or "1", sds[0] * 100, sds[1])
         given, count = sampler.draw_scenarios(args.sample), args.sample
-    over = scenarios.Distribution(held, require_asked_keys(args, held)) if args.sample and not args.rows else None
-    rows = list(run_for_scenario_rows(args, held, given, count, over))
+    over = scenarios.Distribution(held, require_asked_blocks(args, held)) if args.sample and not args.rows else None
+    rows = list(capture_scenario_rows(args, held, given, count, over))
     if over is None:
         output.write_table("whatif", args, "scenarios", rows, held.periods)
     else:
@@ -251,13 +259,13 @@ def write_scenarios(args):
     return command.DONE
 
 
-def run_for_scenario_rows(args, held, given, count, over):
+def capture_scenario_rows(args, held, given, count, over):
     """The rows of the scenarios, or none, and then their results are added to the distribution."""
     make, heads = scenarios.TABLES[args.rows or "welfare"]
     waiting = collections.deque()
 
     def texts():
-        yield cleared.book_text(held.rows, held.periods)
+        yield cleared.journal_bytes(held.rows, held.periods)
         for scenario in given:
             waiting.append(scenario)
             yield scenario.text
@@ -269,18 +277,18 @@ def run_for_scenario_rows(args, held, given, count, over):
         program = args.program if args.cluster is None else None
         answers = ends.enter_context(contextlib.closing(engine.run_clears(texts(), args.jobs, executor, program, call)))
         before = require_day("the day as it was", held.rows, held.periods, next(answers))
-        for number, printed in enumerate(engine.stepping_bar(answers, count, "scenario", args.quiet)):
+        for number, printed in enumerate(engine.iterate_with_bar(answers, count, "scenario", args.quiet)):
             scenario = waiting.popleft()
             name = f"scenario {scenario.name}"
             if over is None:
-                yield from make(scenario.name, before, require_day(name, scenario.rows(), held.periods, printed), asked_of(args))
+                yield from make(scenario.name, before, require_day(name, scenario.rows(), held.periods, printed), key_test(args))
                 continue
             if number % scenarios.EACH == 0:
                 require_day(name, scenario.rows(), held.periods, printed)
             over.add_or_raise(name, require_printed(name, printed))
 
 
-def asked_of(args):
+def key_test(args):
     """Whether an order, or a participant's name with None, is asked for."""
     return lambda key: args.participant in (None, key[0]) and (key[1] is None or args.order in (None, key[1]))
 
@@ -300,12 +308,12 @@ def require_day(name, rows, periods, printed):
 def write_distribution(args, held, over):
     """The table of the blocks over all scenarios, or a picture and then the table on standard output."""
     if not args.quiet:
-        for line in scenarios.distribution_words(over):
+        for line in scenarios.distribution_lines(over):
             command.print_note("whatif", line)
     if options.is_picture_name(args.out):
         from . import scenario_picture
 
         data = scenario_picture.render_picture(over, args.out.lower().rpartition(".")[2])
         file_io.write_file_or_stdout("whatif", args.out, data)
-        args.out = "-"
-    output.write_table("whatif", args, "distribution", over.table(), held.periods)
+        args = argparse.Namespace(**{**vars(args), "out": "-"})
+    output.write_table("whatif", args, "distribution", over.table_rows(), held.periods)

@@ -10,6 +10,9 @@ from ..base import text
 COLUMN = re.compile(r"[A-Z]{1,3}")
 ESCAPE = re.compile(r"_x(?![dD][89a-fA-F])([0-9a-fA-F]{4})_")  # a character, but no half of one
 
+# A text that is shown alike from left to right and from right to left: letters and digits, words of them from a letter on, a plain number.
+EITHER_WAY = re.compile(r"[A-Za-z0-9]*|[A-Za-z][ -~]*[A-Za-z0-9]|[0-9]+[.,][0-9]+")
+
 
 class Unlike(str):
     """The text of a cell that Excel shows in another way than it is read."""
@@ -17,7 +20,7 @@ class Unlike(str):
     __slots__ = ()
     kind, remedy = "", "make the cell one of text"
 
-    def fault(self):
+    def fault_words(self):
         """The words on the cell."""
         return f"{text.quoted(self)} is {self.kind}: {self.remedy}"
 
@@ -75,6 +78,13 @@ class Struck(Changed):
     kind, remedy = "struck out", "remove its row, or clear its formats"
 
 
+class Reversed(Changed):
+    """A text or number that Excel shows from right to left, so that its parts change places."""
+
+    __slots__ = ()
+    kind, remedy = "shown from right to left", "give its cell the text direction Left-to-Right"
+
+
 class Hidden(Changed):
     __slots__ = ()
     kind, remedy = "a zero that its sheet hides", "show the sheet's zeros (in Excel's advanced options)"
@@ -86,7 +96,7 @@ class Rounded(Changed):
     __slots__ = ()
     remedy = "round it, or give its cell the format General"
 
-    def fault(self):
+    def fault_words(self):
         number, shown = self.split()
         return f"{text.quoted(number)} is a number that Excel shows as {shown}: {self.remedy}"
 
@@ -96,7 +106,7 @@ class Worded(Changed):
 
     __slots__ = ()
 
-    def fault(self):
+    def fault_words(self):
         number, words = self.split(" ", 1)
         return f"{text.quoted(number)} is a number whose format adds {text.quoted(words)}: {self.remedy}"
 
@@ -130,11 +140,24 @@ class StruckString(int):
     __slots__ = ()
 
 
+class ReversedString(int):
+    """The number of a shared string whose cell is shown from right to left."""
+
+    __slots__ = ()
+
+
 class Uncomputed(Unlike):
     """The formula of a cell that was saved without its value."""
 
     __slots__ = ()
     kind, remedy = "a formula that was saved without its value", "open the workbook in Excel, and save it"
+
+
+class Volatile(Uncomputed):
+    """A formula that Excel computes again once it opens the workbook, so that it may show another value than was saved."""
+
+    __slots__ = ()
+    kind, remedy = "a formula whose value changes whenever Excel opens the workbook", "write the value in place of it"
 
 
 class Numbers:
@@ -175,8 +198,8 @@ class Kept:
 
 
 # The kinds of cells: before each cell of a packed row stands a half of a character, which no text has, and says its kind.
-NUMBERS_SHOWN = Formatted, Price, Power, Percentage, Changed, Currency, Repeated, Struck, Hidden, Rounded, Worded, Shortened
-CELLS = str, int, StyledString, StruckString, Uncomputed, Date, *NUMBERS_SHOWN, Styled, Truth
+NUMBERS_SHOWN = Formatted, Price, Power, Percentage, Changed, Currency, Repeated, Struck, Reversed, Hidden, Rounded, Worded, Shortened
+CELLS = str, int, StyledString, StruckString, ReversedString, Uncomputed, Volatile, Date, *NUMBERS_SHOWN, Styled, Truth
 HALVES = {kind: chr(0xD800 + at) for at, kind in enumerate(CELLS)}
 PACKED = re.compile("([\ud800-\udfff])([^\ud800-\udfff]*)")
 
@@ -197,6 +220,11 @@ class Rows(Kept):
 
     def add(self, number, cells):
         super().add(number, "".join([f"{HALVES[type(cell)]}{cell}" for cell in cells]))
+
+
+def changes_from_right(words):
+    """Whether parts of a text change places if it is shown from right to left."""
+    return not EITHER_WAY.fullmatch(words.strip())
 
 
 def trimmed(cells):

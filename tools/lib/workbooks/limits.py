@@ -22,14 +22,14 @@ class BadWorkbook(Exception):
     """A file that isn't a workbook, or a sheet that can't be read whole."""
 
 
-def broken(words):
+def broken_error(words):
     return BadWorkbook(f"line 1: the Excel workbook can't be read: {words}")
 
 
-def too_many(most, things):
-    return broken(f"it has more than {most:,} {things}")
+def too_many_error(most, things):
+    return broken_error(f"it has more than {most:,} {things}")
 
 
-def size_of(words):
+def memory_size(words):
     """The bytes that the characters of a text take in memory: each takes as many as the widest."""
     return len(words) * (1 if words.isascii() or (widest := max(words)) <= "\xff" else 2 if widest <= "\uffff" else 4)

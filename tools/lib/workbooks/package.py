@@ -5,7 +5,7 @@ import zipfile
 from xml.parsers import expat
 
 from ..base import text
-from .limits import CHUNK, MOST_PARTS, MOST_UNPACKED, broken, too_many
+from .limits import CHUNK, MOST_PARTS, MOST_UNPACKED, broken_error, too_many_error
 
 DIRECTORY = b"PK\x01\x02"  # begins the entry of a file in the directory of a zip archive
 END, END_SIZE = b"PK\x05\x06", 22  # begins the end of the archive, which a comment may follow; its bytes
@@ -17,56 +17,56 @@ class Package:
     def __init__(self, data):
         # The archive's directory is read whole, so its entries are counted first.
         if data.count(DIRECTORY) > MOST_PARTS:
-            raise too_many(MOST_PARTS, "parts")
-        self.archive = call_zipfile(lambda: zipfile.ZipFile(io.BytesIO(data)))
+            raise too_many_error(MOST_PARTS, "parts")
+        self.archive = call_zipfile_or_refuse(lambda: zipfile.ZipFile(io.BytesIO(data)))
         self.parts = {}
         files = self.archive.infolist()
         if files and min(info.header_offset for info in files):
-            raise broken("other bytes stand before its archive, such as another workbook")
+            raise broken_error("other bytes stand before its archive, such as another workbook")
         if not data.startswith(END, len(data) - len(self.archive.comment) - END_SIZE):
-            raise broken("other bytes stand after its archive, such as another workbook")
+            raise broken_error("other bytes stand after its archive, such as another workbook")
         for info in files:
-            if self.parts.setdefault(key(info.filename), info) is not info:
-                raise broken(f"two parts are named {text.quoted(info.filename)}")
+            if self.parts.setdefault(part_key(info.filename), info) is not info:
+                raise broken_error(f"two parts are named {text.quoted(info.filename)}")
         self.unpacked = self.elements = 0
 
     def has(self, name):
-        return key(name) in self.parts
+        return part_key(name) in self.parts
 
-    def parse_part(self, name, part):
+    def parse_into_or_refuse(self, name, part):
         """Parses a part from its beginning to its end."""
         if not self.has(name):
-            raise broken(f"it has no part {text.quoted(name)}")
+            raise broken_error(f"it has no part {text.quoted(name)}")
         try:
-            part.parse(self, self.read_chunks(self.parts[key(name)]))
+            part.parse_or_refuse(self, self.read_chunks(self.parts[part_key(name)]))
         except expat.ExpatError as fault:
-            raise broken(f"{text.quoted(name)}: {fault}") from None
+            raise broken_error(f"{text.quoted(name)}: {fault}") from None
 
     def read_chunks(self, info):
         if info.compress_type not in (zipfile.ZIP_STORED, zipfile.ZIP_DEFLATED):
-            raise broken(f"{text.quoted(info.filename)} is compressed in another way than Excel does it")
+            raise broken_error(f"{text.quoted(info.filename)} is compressed in another way than Excel does it")
         length = 0
-        with call_zipfile(lambda: self.archive.open(info)) as file:
-            while chunk := call_zipfile(lambda: file.read(CHUNK)):
+        with call_zipfile_or_refuse(lambda: self.archive.open(info)) as file:
+            while chunk := call_zipfile_or_refuse(lambda: file.read(CHUNK)):
                 length += len(chunk)
                 self.unpacked += len(chunk)
                 if self.unpacked > MOST_UNPACKED:
-                    raise too_many(MOST_UNPACKED // 2**20, "MiB in its parts")
+                    raise too_many_error(MOST_UNPACKED // 2**20, "MiB in its parts")
                 yield chunk
         if length != info.file_size:
-            raise broken(f"{text.quoted(info.filename)} has {length} bytes instead of {info.file_size}")
+            raise broken_error(f"{text.quoted(info.filename)} has {length} bytes instead of {info.file_size}")
 
 
-def key(name):
+def part_key(name):
     """The name of a part, as it is looked up."""
     return name.replace("\\", "/").lstrip("/").lower()
 
 
-def call_zipfile(call):
+def call_zipfile_or_refuse(call):
     """The result of a call of zipfile, which raises any exception if the archive is broken."""
     try:
         return call()
     except MemoryError:
         raise
     except Exception as fault:
-        raise broken(text.safe(str(fault) or type(fault).__name__)) from None
+        raise broken_error(text.safe(str(fault) or type(fault).__name__)) from None

@@ -8,7 +8,7 @@ from xml.parsers import expat
 
 from ..base import text
 from .limits import DEEPEST, LONGEST_CELL, LONGEST_MARKUP, LONGEST_NAME
-from .limits import MOST_ELEMENTS, MOST_NAMED, MOST_NAMES, MOST_NAMESPACES, broken, too_many
+from .limits import MOST_ELEMENTS, MOST_NAMED, MOST_NAMES, MOST_NAMESPACES, broken_error, too_many_error
 
 SPREADSHEET = ("http://schemas.openxmlformats.org/spreadsheetml/2006/main", "http://purl.oclc.org/ooxml/spreadsheetml/main")
 BLANK = " \t\r\n"  # the characters that may stand between elements
@@ -52,12 +52,12 @@ class Part:
         self.prefix = ""  # of the known names: the namespace
         self.within, self.ranks = [""], [-1]  # the elements around this place, and the rank of the last one in each
         self.left_out, self.outside = 0, ""  # how deep it is in an element that is left out, and the name of that
-        self.places, self.known = places_of(type(self))
+        self.places, self.known = places_and_known_elements(type(self))
         self.opening, self.closing = ({name: getattr(self, f"{when}_{name}", None) for name in self.known} for when in ("open", "close"))
         self.kept = {f"{space} {name}" for space in self.NAMESPACES for name in self.known - self.ELSEWHERE}
         self.taken, self.length = [], 0
 
-    def parse(self, package, chunks):
+    def parse_or_refuse(self, package, chunks):
         names, self.package, self.namespaces = {}, package, 0
         self.parser = parser = expat.ParserCreate(None, " ", names)
         parser.buffer_text = True
@@ -71,34 +71,34 @@ class Part:
                 parser.Parse(chunk, False)
                 fed += len(chunk)
                 if len(names) > MOST_NAMES:
-                    raise too_many(MOST_NAMES, "names of elements")
+                    raise too_many_error(MOST_NAMES, "names of elements")
                 characters += sum(map(length_or_refuse, itertools.islice(names, seen, None)))
                 seen = len(names)
                 if characters > MOST_NAMED:
-                    raise too_many(MOST_NAMED, "characters in the names of elements")
+                    raise too_many_error(MOST_NAMED, "characters in the names of elements")
                 if fed - parser.CurrentByteIndex > LONGEST_MARKUP:
-                    raise broken(f"a tag has more than {LONGEST_MARKUP} bytes")
+                    raise broken_error(f"a tag has more than {LONGEST_MARKUP} bytes")
             parser.Parse(b"", True)
         finally:
             self.parser = None  # with its names
 
     def refuse_encoding(self, version, encoding, standalone):
         if encoding and encoding.lower() not in ("utf-8", "utf-16"):
-            raise broken(f"the encoding {text.quoted(encoding)} isn't one of Excel's")
+            raise broken_error(f"the encoding {text.quoted(encoding)} isn't one of Excel's")
 
     def refuse_type(self, *type):
-        raise broken("it has a document type")
+        raise broken_error("it has a document type")
 
     def count_namespace_or_refuse(self, prefix, uri):
         self.namespaces += 1
         if self.namespaces > MOST_NAMESPACES:
-            raise too_many(MOST_NAMESPACES, "namespaces")
+            raise too_many_error(MOST_NAMESPACES, "namespaces")
         length_or_refuse(uri)
 
     def open_element(self, name, attributes):
         self.package.elements += 1
         if self.package.elements > MOST_ELEMENTS:
-            raise too_many(MOST_ELEMENTS, "elements: delete the rows and columns that the table doesn't need")
+            raise too_many_error(MOST_ELEMENTS, "elements: delete the rows and columns that the table doesn't need")
         if self.left_out:
             self.pass_left_out_or_refuse(name, attributes)
             return
@@ -124,9 +124,9 @@ class Part:
         """Passes an element in one that is left out."""
         self.left_out += 1
         if self.left_out > DEEPEST:
-            raise broken(f"more than {DEEPEST} elements stand in one another")
+            raise broken_error(f"more than {DEEPEST} elements stand in one another")
         if name in self.kept:
-            raise self.fault(f"an element {text.quoted(name.rpartition(' ')[2])} stands in {text.quoted(self.outside)}")
+            raise self.error_of(f"an element {text.quoted(name.rpartition(' ')[2])} stands in {text.quoted(self.outside)}")
         self.refuse_in_left_out(name.rpartition(" ")[2], attributes)
 
     def refuse_in_left_out(self, name, attributes):
@@ -135,17 +135,17 @@ class Part:
     def refuse_stranger(self, within, kind, name):
         """Refuses an element that isn't a known one, unless it may stand here."""
         if kind not in self.BETWEEN.get(within, ()):
-            raise self.fault(f"an element {text.quoted(name)} stands in {text.quoted(within)}")
+            raise self.error_of(f"an element {text.quoted(name)} stands in {text.quoted(within)}")
         if EXTENSIONS in self.places[within] and self.ranks[-1] == self.places[within][EXTENSIONS].rank:
-            raise self.fault(f"an element {text.quoted(name)} stands after the extensions of {text.quoted(within)}")
+            raise self.error_of(f"an element {text.quoted(name)} stands after the extensions of {text.quoted(within)}")
 
     def note_place_or_refuse(self, within, name, place):
         """Notes the place of an element, or refuses it: one that should stand once, or before the one that it follows."""
         if place.rank < self.ranks[-1]:
             last = next(other for other, each in self.places[within].items() if each.rank == self.ranks[-1])
-            raise self.fault(f"an element {name!r} of {within!r} stands after {last!r}, but should stand before it")
+            raise self.error_of(f"an element {name!r} of {within!r} stands after {last!r}, but should stand before it")
         if place.rank == self.ranks[-1] and not place.repeats:
-            raise self.fault(f"two elements {name!r} stand in {within!r}")
+            raise self.error_of(f"two elements {name!r} stand in {within!r}")
         self.ranks[-1] = place.rank
 
     def close_element(self, name):
@@ -160,17 +160,17 @@ class Part:
 
     def refuse_text(self, words):
         if words := words.strip(BLANK):
-            raise self.fault(f"the text {text.quoted(words)} stands in {text.quoted(self.within[-1])}")
+            raise self.error_of(f"the text {text.quoted(words)} stands in {text.quoted(self.within[-1])}")
 
     def begin_root_or_refuse(self, name):
         """Takes the namespace of the first element, or refuses the element."""
         namespace, _, name = name.rpartition(" ")
         if namespace not in self.NAMESPACES or name != self.ROOT:
-            raise broken(f"a part has {text.quoted(name)} instead of {self.ROOT!r} as its first element")
+            raise broken_error(f"a part has {text.quoted(name)} instead of {self.ROOT!r} as its first element")
         self.prefix = f"{namespace} "
 
-    def fault(self, words):
-        return broken(words)
+    def error_of(self, words):
+        return broken_error(words)
 
     def keep_text(self):
         """From now on keeps the text of an element."""
@@ -179,7 +179,7 @@ class Part:
     def keep_words_or_refuse(self, words):
         self.length += len(words)
         if self.length > LONGEST_CELL:
-            raise self.fault(f"it has more than {LONGEST_CELL:,} characters")
+            raise self.error_of(f"it has more than {LONGEST_CELL:,} characters")
         self.taken.append(words)
 
     def ignore_text(self):
@@ -198,7 +198,7 @@ class Part:
 
 
 @functools.lru_cache(None)
-def places_of(kind):
+def places_and_known_elements(kind):
     """The places of a kind of parts, and its known elements."""
     places, known = {}, set()
     for within, names in kind.PLACES.items():
@@ -212,7 +212,7 @@ def length_or_refuse(name):
     """The length of a name of XML, or of none, if it isn't too long."""
     length = len(name or "")
     if length > LONGEST_NAME:
-        raise broken(f"the name of an element has more than {LONGEST_NAME:,} characters")
+        raise broken_error(f"the name of an element has more than {LONGEST_NAME:,} characters")
     return length
 
 
@@ -256,7 +256,7 @@ class Texts(Part):
 
     def open_r(self, _):
         if self.is_whole:
-            raise self.fault("it has two texts: a whole one, and one in runs")
+            raise self.error_of("it has two texts: a whole one, and one in runs")
 
     def open_rPh(self, _):
         self.is_pronounced = True
@@ -267,5 +267,5 @@ class Texts(Part):
     def pop_whole_text_or_refuse(self):
         words = self.pop_text()
         if self.is_pronounced and not words:
-            raise self.fault("its only text is how it is pronounced (rPh)")
+            raise self.error_of("its only text is how it is pronounced (rPh)")
         return words

@@ -3,10 +3,10 @@
 import posixpath
 
 from ..base import text
-from .limits import LONGEST_NAME, MOST_HEADS, MOST_SHEETS, BadWorkbook, broken, too_many
+from .limits import LONGEST_NAME, MOST_HEADS, MOST_SHEETS, BadWorkbook, broken_error, too_many_error
 from .package import Package
 from .part import ANY_OTHERS, Part, truth_word_or_none
-from .sheet import FirstRow, Sheet, Strings, is_due
+from .sheet import FirstRow, Sheet, Strings, is_calculation_due
 from .styles import Styles
 
 PACKAGING = ("http://schemas.openxmlformats.org/package/2006/relationships",)
@@ -19,7 +19,7 @@ WITHOUT_CELLS, OF_MACROS = ("chartsheet", "dialogsheet"), ("xlMacrosheet", "xlIn
 KINDS = {WORKBOOK, SHEET, *WITHOUT_CELLS, *OF_MACROS, STRINGS, STYLES}
 
 
-def parse_rows(data, preferred, needed=(), most=None):
+def parse_rows_and_note(data, preferred, needed=(), most=None):
     """The rows of a workbook's sheet that aren't empty, with their numbers: of the preferred sheet, or else of the first with the needed
     names in its first row, or else of the first. If there are `most`, more rows after the first are a fault. Also a note on the sheet, if
     there are several."""
@@ -27,7 +27,7 @@ def parse_rows(data, preferred, needed=(), most=None):
     book = Workbook(package)
     name, part, note = book.choose_sheet_or_refuse(preferred, needed)
     sheet = Sheet(name, part, book, most)
-    package.parse_part(sheet.part, sheet)
+    package.parse_into_or_refuse(sheet.part, sheet)
     return sheet.rows_or_refuse(book.parse_strings(sheet.needed)), note
 
 
@@ -50,20 +50,20 @@ class Relations(Part):
         if kind not in KINDS:
             return
         if max(len(identifier), len(target)) > LONGEST_NAME:
-            raise broken(f"the name of a part has more than {LONGEST_NAME:,} characters")
+            raise broken_error(f"the name of a part has more than {LONGEST_NAME:,} characters")
         if identifier in self.parts:
-            raise broken(f"two relations are named {text.quoted(identifier)}")
+            raise broken_error(f"two relations are named {text.quoted(identifier)}")
         if len(self.parts) == MOST_SHEETS:
-            raise too_many(MOST_SHEETS, "sheets")
+            raise too_many_error(MOST_SHEETS, "sheets")
         if attributes.get("TargetMode") == "External":
-            raise broken(f"{text.quoted(target)} isn't a part of it")
+            raise broken_error(f"{text.quoted(target)} isn't a part of it")
         self.parts[identifier] = kind, posixpath.normpath(posixpath.join(self.folder, target)).lstrip("/")
 
     def only_part_or_refuse(self, kind):
         """The only part of a kind; None if there is none."""
         found = [part for each, part in self.parts.values() if each == kind]
         if len(found) > 1:
-            raise broken(f"it has two parts of the kind {kind}")
+            raise broken_error(f"it has two parts of the kind {kind}")
         return found[0] if found else None
 
 
@@ -80,21 +80,22 @@ class Workbook(Part):
         super().__init__()
         self.package, self.from_1904, self.is_computed, self.sheets, self.hidden = package, False, True, [], set()
         if not package.has("_rels/.rels"):
-            raise broken("it isn't an Excel workbook (.xlsx), but another archive")
+            raise broken_error("it isn't an Excel workbook (.xlsx), but another archive")
         part = self.parse_relations("").only_part_or_refuse(WORKBOOK)
         if part is None:
-            raise broken("it has no sheets")
+            raise broken_error("it has no sheets")
         self.relations = self.parse_relations(part)
-        package.parse_part(part, self)
+        package.parse_into_or_refuse(part, self)
         styles = Styles()
         if part := self.relations.only_part_or_refuse(STYLES):
-            package.parse_part(part, styles)
+            package.parse_into_or_refuse(part, styles)
         self.formats, self.styled = styles.cell_formats(), styles.styled_formats()
         self.struck, self.conditional, self.has_striking_tables = styles.struck, styles.conditional, styles.has_striking_tables
+        self.from_right = styles.from_right
 
     def parse_relations(self, owner):
         relations = Relations(owner)
-        self.package.parse_part(relations.part, relations)
+        self.package.parse_into_or_refuse(relations.part, relations)
         return relations
 
     def open_workbookPr(self, attributes):
@@ -102,19 +103,19 @@ class Workbook(Part):
 
     def open_calcPr(self, attributes):
         """A program that doesn't compute formulas stores any values, and lets Excel compute them once it opens the workbook."""
-        self.is_computed = not is_due(attributes) and truth_word_or_none(attributes, "calcCompleted") != "FALSE"
+        self.is_computed = not is_calculation_due(attributes) and truth_word_or_none(attributes, "calcCompleted") != "FALSE"
 
     def open_sheet(self, attributes):
         if len(self.sheets) == MOST_SHEETS:
-            raise too_many(MOST_SHEETS, "sheets")
+            raise too_many_error(MOST_SHEETS, "sheets")
         name, identifier = attributes.get("name", ""), next((attributes[each] for each in RELATION if each in attributes), "")
         if max(len(name), len(identifier)) > LONGEST_NAME:
-            raise broken(f"the name of a sheet has more than {LONGEST_NAME:,} characters")
+            raise broken_error(f"the name of a sheet has more than {LONGEST_NAME:,} characters")
         self.sheets.append((name, identifier))
         if attributes.get("state", "visible") != "visible":
             self.hidden.add(name)
 
-    def tables_or_refuse(self):
+    def sheet_parts_or_refuse(self):
         """The sheets with cells: the part of each, by its name; None of a sheet of macros, whose cells aren't read. Excel takes names that
         differ by capitals alone for one."""
         sheets, names = {}, set()
@@ -124,21 +125,21 @@ class Workbook(Part):
                 continue
             is_known = name.lower() in names
             if kind not in (SHEET, *OF_MACROS) or is_known:
-                raise broken(f"{'two sheets are' if is_known else 'no part has the sheet'} named {text.quoted(name)}")
+                raise broken_error(f"{'two sheets are' if is_known else 'no part has the sheet'} named {text.quoted(name)}")
             sheets[name] = part if kind == SHEET else None
             names.add(name.lower())
         if not any(sheets.values()):
-            raise broken("it has no sheets")
+            raise broken_error("it has no sheets")
         return sheets
 
     def choose_sheet_or_refuse(self, preferred, needed):
         """The name and the part of the sheet that is read, and a note on it if there are several."""
-        sheets = self.tables_or_refuse()
+        sheets = self.sheet_parts_or_refuse()
         if len(sheets) == 1:
             return *next(iter(sheets.items())), None
         named = [name for name in sheets if name.lower() == preferred]
         if named and sheets[named[0]] is None:
-            raise broken(f"the sheet {text.quoted(named[0])} is one of macros: copy its table to another sheet")
+            raise broken_error(f"the sheet {text.quoted(named[0])} is one of macros: copy its table to another sheet")
         tables = {name: sheets[name] for name in sorted(sheets, key=self.hidden.__contains__) if sheets[name] is not None}
         found = named or self.find_sheets_or_refuse(tables, needed, preferred)
         name = [*found, *tables][0]
@@ -150,13 +151,13 @@ class Workbook(Part):
         """The sheets with the needed names in their first rows. One that can't be read may have them too: before these it is a fault."""
         rows, heads = [FirstRow(name, part, self, needed) for name, part in sheets.items()] if needed else [], 0
         for row in rows:
-            row.parse_first_row()
+            row.parse_and_note_first_row()
             heads += len(row.needed)
             if heads > MOST_HEADS:
-                raise too_many(MOST_HEADS, "strings in the first rows of its sheets")
+                raise too_many_error(MOST_HEADS, "strings in the first rows of its sheets")
         shared, found = self.parse_strings(set().union(*(row.needed for row in rows))), []
         for name, row in zip(sheets, rows):
-            if row.has_names(shared):
+            if row.find_names_or_note_unread(shared):
                 found.append(name)
             elif row.unread and not found:
                 raise BadWorkbook(f"{row.unread}: repair the sheet {text.quoted(name)}, or name the one to read {preferred!r}")
@@ -167,5 +168,5 @@ class Workbook(Part):
         strings = Strings(needed)
         part = self.relations.only_part_or_refuse(STRINGS)
         if needed and part:
-            self.package.parse_part(part, strings)
+            self.package.parse_into_or_refuse(part, strings)
         return strings

@@ -5,9 +5,9 @@ import math
 import re
 
 from ..base import text
-from .cells import Date, Hidden, Kept, Numbers, Rows, Struck, StruckString, Styled, StyledString, Truth, Uncomputed
-from .cells import column_name, column_number, trimmed, unescaped
-from .limits import LAST_COLUMN, LAST_ROW, MOST_CELLS, MOST_ELEMENTS, MOST_TEXT, BadWorkbook, broken, size_of, too_many
+from .cells import Date, Hidden, Kept, Numbers, Reversed, ReversedString, Rows, Struck, StruckString, Styled, StyledString, Truth
+from .cells import Uncomputed, Volatile, changes_from_right, column_name, column_number, trimmed, unescaped
+from .limits import LAST_COLUMN, LAST_ROW, MOST_CELLS, MOST_ELEMENTS, MOST_TEXT, BadWorkbook, broken_error, memory_size, too_many_error
 from .part import ANY_OTHERS, EXTENSIONS, FONT, OF_FONTS, TRUTHS, Texts, strikes_out, truth_word_or_none, unsigned_number_or_none
 from .styles import A_NUMBER_FORMAT, A_STRIKING_FONT, digits_text, general_text
 
@@ -15,13 +15,22 @@ NUMBER = re.compile(r"[+-]?(?:[0-9]+(?:\.[0-9]*)?|\.[0-9]+)(?:[eE][+-]?[0-9]{1,3
 WHOLE = re.compile(r"-?[0-9]{1,15}")
 PLACE = re.compile(r"[1-9][0-9]{0,6}")
 RANGE = re.compile(r"\$?([A-Z]{1,3})\$?([1-9][0-9]{0,6})(?::\$?([A-Z]{1,3})\$?([1-9][0-9]{0,6}))?")
+# The functions that Excel computes again once it opens a workbook.
+VOLATILE = re.compile(r"\b(?:NOW|TODAY|RAND(?:BETWEEN|ARRAY)?|OFFSET|INDIRECT|CELL|INFO)\s*\(")
 DATE = re.compile(r"([0-9]{4}-[0-9]{2}-[0-9]{2})(?:T[0-9:.]*Z?)?")
 CLOCK = re.compile(r"T?([0-9]{2}:[0-9]{2})(?::[0-9.]*)?Z?")
 
 
-def is_due(attributes):
+def is_calculation_due(attributes):
     """Whether Excel computes all formulas once it opens the workbook."""
     return truth_word_or_none(attributes, "fullCalcOnLoad") == "TRUE"
+
+
+def has_volatile_function(formula):
+    """Whether a formula has one of these functions, besides its texts and the names of sheets."""
+    for quote in "\"'":
+        formula = "".join(formula.split(quote)[::2])
+    return bool(VOLATILE.search(formula.upper()))
 
 
 HIDING = "that hides numbers"
@@ -52,15 +61,15 @@ class Strings(Texts):
     def close_si(self):
         if self.is_taken:
             words = unescaped(self.pop_whole_text_or_refuse())
-            self.size += size_of(words)
+            self.size += memory_size(words)
             if self.size > MOST_TEXT:
-                raise too_many(MOST_TEXT, "bytes of text in its cells")
+                raise too_many_error(MOST_TEXT, "bytes of text in its cells")
             self.texts.add(self.number, words)
             if self.is_marked:
                 self.styled.add(self.number)
 
-    def fault(self, words):
-        return broken(f"string {self.number} of its cells: {words}")
+    def error_of(self, words):
+        return broken_error(f"string {self.number} of its cells: {words}")
 
 
 class Sheet(Texts):
@@ -102,9 +111,10 @@ class Sheet(Texts):
         self.row = self.column = self.count_of_cells = self.size = 0
         self.cells = None  # of a row; None outside
         self.first_formula = None  # its row and its column
+        self.shared_volatile = Numbers()  # of the formulas that cells share, those that are volatile
         self.has_data = self.hides_zeros = False
 
-    def fault(self, words):
+    def error_of(self, words):
         column = column_name(self.column) if self.column else ""
         place = f", {'cell' if column else 'row'} {column}{self.row}" if self.row and self.cells is not None else ""
         if self.row and self.cells is None and self.within[-1] == "sheetData":
@@ -123,16 +133,16 @@ class Sheet(Texts):
             found = str(self.row + 1)
         number = int(found) if PLACE.fullmatch(found) else 0
         if not 1 <= number <= LAST_ROW:
-            raise self.fault(f"a row has the number {text.quoted(found)}: they go from 1 to {LAST_ROW}")
+            raise self.error_of(f"a row has the number {text.quoted(found)}: they go from 1 to {LAST_ROW}")
         last, self.row, self.column, self.cells = self.row, number, 0, []
         if number <= last:
-            raise self.fault("it occurs twice" if number == last else f"it stands after row {last}, but the rows should increase")
+            raise self.error_of("it occurs twice" if number == last else f"it stands after row {last}, but the rows should increase")
 
     def close_row(self):
         if self.cells:
             if len(self.rows) == self.last:
                 self.column = 0
-                raise self.fault(f"a table has at most {self.last - 1:,} rows after its first")
+                raise self.error_of(f"a table has at most {self.last - 1:,} rows after its first")
             self.rows.add(self.row, self.cells)
         self.column, self.cells = 0, None
 
@@ -145,16 +155,16 @@ class Sheet(Texts):
             letters = found.rstrip("0123456789")
             column = column_number(letters)
             if not column or found != f"{letters}{self.row}":
-                raise self.fault(f"a cell of this row has the place {text.quoted(found)}")
+                raise self.error_of(f"a cell of this row has the place {text.quoted(found)}")
             self.column = column
         if self.column > LAST_COLUMN:
-            raise self.fault(f"a row has at most {LAST_COLUMN} cells")
+            raise self.error_of(f"a row has at most {LAST_COLUMN} cells")
         if self.column <= last:
             words = f"it stands after {column_name(last)}{self.row}, but the cells of a row should increase"
-            raise self.fault("it occurs twice" if self.column == last else words)
+            raise self.error_of("it occurs twice" if self.column == last else words)
         self.kind, self.style = attributes.get("t", "n"), attributes.get("s", "0")
-        self.value = self.formula = None
-        self.is_marked = False
+        self.value = self.formula = self.shared = None
+        self.is_marked = self.is_volatile = False
 
     def open_v(self, _):
         self.refuse_value(self.kind == "inlineStr")
@@ -166,11 +176,13 @@ class Sheet(Texts):
 
     def refuse_value(self, is_other):
         if self.value is not None:
-            raise self.fault("it has two values")
+            raise self.error_of("it has two values")
         if is_other:
-            raise self.fault(f"its value isn't of its type, {text.quoted(self.kind)}")
+            raise self.error_of(f"its value isn't of its type, {text.quoted(self.kind)}")
 
-    def open_f(self, _):
+    def open_f(self, attributes):
+        self.is_volatile = truth_word_or_none(attributes, "ca") == "TRUE"
+        self.shared = attributes.get("si")
         self.keep_text()
 
     def close_v(self):
@@ -183,7 +195,16 @@ class Sheet(Texts):
     def close_f(self):
         self.allow_no_text()
         self.formula = self.pop_text()
+        self.note_volatile()
         self.first_formula = self.first_formula or (self.row, self.column)
+
+    def note_volatile(self):
+        """Notes whether the cell's formula is volatile. Of those that cells share, the first one has the text."""
+        number = unsigned_number_or_none(self.shared or "")
+        is_known = number is not None and number < MOST_ELEMENTS
+        self.is_volatile = self.is_volatile or has_volatile_function(self.formula) or is_known and number in self.shared_volatile
+        if self.is_volatile and is_known:
+            self.shared_volatile.add(number)
 
     def close_c(self):
         words = self.content_or_refuse()
@@ -191,7 +212,7 @@ class Sheet(Texts):
             return
         self.count_of_cells += self.column - len(self.cells)
         if self.count_of_cells > MOST_CELLS:
-            raise self.fault(f"the sheet has more than {MOST_CELLS:,} cells before this one: delete those that the table doesn't need")
+            raise self.error_of(f"the sheet has more than {MOST_CELLS:,} cells before this one: delete those that the table doesn't need")
         self.cells += [""] * (self.column - 1 - len(self.cells))
         self.cells.append(words)
         if isinstance(words, int):
@@ -200,63 +221,74 @@ class Sheet(Texts):
             self.count_text_or_refuse(words)
 
     def count_text_or_refuse(self, words):
-        self.size += size_of(words)
+        self.size += memory_size(words)
         if self.size > MOST_TEXT:
-            raise self.fault(f"the sheet has more than {MOST_TEXT:,} bytes of text before this cell")
+            raise self.error_of(f"the sheet has more than {MOST_TEXT:,} bytes of text before this cell")
 
     def content_or_refuse(self):
-        """The content of a cell, as it would stand in a text; of a shared string its number. A formula that was saved without its value
-        stands for itself, so that it isn't taken for an empty cell."""
+        """The content of a cell, as it would stand in a text; of a shared string its number. A formula that was saved without its value, or
+        is volatile, stands for itself, so that it isn't taken for an empty cell."""
         value, kind = self.value, self.kind
         if self.formula is not None and (value is None or value == "" and kind != "str" or not self.book.is_computed):
             return Uncomputed(f"={self.formula}")
+        if self.is_volatile:
+            return Volatile(f"={self.formula}")
         if value is None or value == "" and kind in ("n", "str", "inlineStr"):
             return ""
         if kind == "n":
             return self.number_text_or_refuse(value.strip())
         if kind == "s":
             if not WHOLE.fullmatch(value) or not 0 <= int(value) < MOST_ELEMENTS:
-                raise self.fault(f"it has no string {text.quoted(value)}")
-            return self.text_kind_or_refuse(int, StyledString, StruckString)(value)
+                raise self.error_of(f"it has no string {text.quoted(value)}")
+            return self.text_kind_or_refuse(int, StyledString, StruckString, ReversedString)(value)
         if kind in ("str", "inlineStr"):
-            return self.text_kind_or_refuse(str, Styled, Struck)(unescaped(value))
+            words, of_text = unescaped(value), self.text_kind_or_refuse(str, Styled, Struck, Reversed)
+            return words if of_text is Reversed and not changes_from_right(words) else of_text(words)
         if kind == "e" and value:
             return value
         if kind == "b" and value in TRUTHS:
             return Truth(TRUTHS[value])
         if kind == "d" and (found := DATE.fullmatch(value) or CLOCK.fullmatch(value)):
             return Date(found[1])
-        raise self.fault(f"{text.quoted(value)} isn't of its type, {text.quoted(kind)}")
+        raise self.error_of(f"{text.quoted(value)} isn't of its type, {text.quoted(kind)}")
 
-    def text_kind_or_refuse(self, plain, styled, struck):
-        """Of the kinds of a text, the one that the cell is: shown as it is, in another way, or struck out."""
+    def text_kind_or_refuse(self, plain, styled, struck, from_right):
+        """Of the kinds of a text, the one that the cell is: shown as it is, in another way, struck out, or from right to left."""
         number = self.style_number_or_refuse()
         if number in self.book.struck:
             return struck
-        return styled if self.is_marked or number in self.book.styled else plain
+        if self.is_marked or number in self.book.styled:
+            return styled
+        return from_right if number in self.book.from_right else plain
 
     def number_text_or_refuse(self, value):
         """A number with the digits that Excel shows, or the date that it stands for."""
         if not NUMBER.fullmatch(value) or not math.isfinite(float(value)):
-            raise self.fault(f"{text.quoted(value)} isn't a number")
+            raise self.error_of(f"{text.quoted(value)} isn't a number")
         shown = self.number_format_or_refuse()
         if self.hides_zeros and not float(value):
             return Hidden("0")
+        if float(value) < 0 and self.style_number_or_refuse() in self.book.from_right:
+            return Reversed(digits_text(float(value)))
         if shown is Date:
             return Date(self.date_text_or_refuse(float(value)))
+        return self.formatted_text(shown, value)
+
+    def formatted_text(self, shown, value):
+        """A number as its format shows it."""
         return shown(int(value) if WHOLE.fullmatch(value) else digits_text(float(value)))
 
     def number_format_or_refuse(self):
         """How the cell's format shows numbers."""
         number, formats = self.style_number_or_refuse(), self.book.formats or [general_text]
         if number >= len(formats):
-            raise self.fault(f"it has no format {text.quoted(self.style)}")
+            raise self.error_of(f"it has no format {text.quoted(self.style)}")
         return formats[number]
 
     def style_number_or_refuse(self):
         number = unsigned_number_or_none(self.style)
         if number is None:
-            raise self.fault(f"it has no format {text.quoted(self.style)}")
+            raise self.error_of(f"it has no format {text.quoted(self.style)}")
         return number
 
     def date_text_or_refuse(self, serial):
@@ -272,20 +304,20 @@ class Sheet(Texts):
                 raise OverflowError
             return (first + datetime.timedelta(days)).isoformat()
         except OverflowError:
-            raise self.fault(f"{serial:.15g} is no date, which its format shows") from None
+            raise self.error_of(f"{serial:.15g} is no date, which its format shows") from None
 
     def open_sheetCalcPr(self, attributes):
         """As `Workbook.open_calcPr`, but after the cells."""
-        if self.first_formula and is_due(attributes):
+        if self.first_formula and is_calculation_due(attributes):
             (self.row, self.column), self.cells = self.first_formula, []
-            raise self.fault("its formula was saved without its value: open the workbook in Excel, and save it")
+            raise self.error_of("its formula was saved without its value: open the workbook in Excel, and save it")
 
     def open_mergeCell(self, attributes):
         """Of merged cells only the first has a value, so that a row could seem to have none."""
         ref = attributes.get("ref", "")
         found = RANGE.fullmatch(ref)
         if not found or not self.has_data:
-            raise self.fault(f"the merged cells {text.quoted(ref)} can't be read")
+            raise self.error_of(f"the merged cells {text.quoted(ref)} can't be read")
         if found[3] is None or not self.rows:
             return
         width = max(len(cells) for _, cells in self.rows) if self.width is None else self.width
@@ -293,7 +325,7 @@ class Sheet(Texts):
         (top, bottom), left = sorted((int(found[2]), int(found[4]))), min(column_number(found[1]), column_number(found[3]))
         is_apart = bottom < self.rows.numbers[0] or top > self.rows.numbers[-1] or left > width
         if not is_apart and (found[1], found[2]) != (found[3], found[4]):
-            raise self.fault(f"the cells {ref} are merged, but each row of a table has its own")
+            raise self.error_of(f"the cells {ref} are merged, but each row of a table has its own")
 
     def open_conditionalFormatting(self, attributes):
         self.ranges = attributes.get("sqref", "")
@@ -301,17 +333,17 @@ class Sheet(Texts):
     def open_cfRule(self, attributes):
         """A condition may give cells another format."""
         if "dxfId" in attributes and (kind := self.book.conditional.get(unsigned_number_or_none(attributes["dxfId"]))):
-            raise self.conditional_fault(f"with {kind}")
+            raise self.conditional_format_error(f"with {kind}")
 
     def open_dataBar(self, attributes):
         """A bar or an icon may stand in place of a number."""
         if hides_numbers(attributes):
-            raise self.conditional_fault(HIDING)
+            raise self.conditional_format_error(HIDING)
 
     open_iconSet = open_dataBar
 
-    def conditional_fault(self, kind):
-        return self.fault(f"the cells {text.quoted(self.ranges)} have a conditional format {kind}: delete it")
+    def conditional_format_error(self, kind):
+        return self.error_of(f"the cells {text.quoted(self.ranges)} have a conditional format {kind}: delete it")
 
     def refuse_in_left_out(self, name, attributes):
         """An extension has the conditional formats that Excel 2007 didn't have, each with its own number format and font."""
@@ -323,18 +355,18 @@ class Sheet(Texts):
         elif name in ("dataBar", "iconSet") and hides_numbers(attributes):
             kind = HIDING
         if kind:
-            raise self.fault(f"it has a conditional format {kind}: delete it")
+            raise self.error_of(f"it has a conditional format {kind}: delete it")
 
     def open_tablePart(self, _):
         if self.book.has_striking_tables:
-            raise self.fault("it has a table, and the workbook a style of tables that strikes out: delete the style")
+            raise self.error_of("it has a table, and the workbook a style of tables that strikes out: delete the style")
 
     width = None  # of the widest row, once it is needed
 
     def rows_or_refuse(self, shared):
         """The rows that aren't empty, with their shared strings."""
         if not self.has_data:
-            raise self.fault("it has no table of cells")
+            raise self.error_of("it has no table of cells")
         rows = Rows()
         for self.row, self.cells in self.rows:
             for at, cell in enumerate(self.cells):
@@ -342,7 +374,7 @@ class Sheet(Texts):
                     self.column = at + 1
                     words = shared.texts.get(cell)
                     if words is None:
-                        raise self.fault(f"it has no string '{cell}'")
+                        raise self.error_of(f"it has no string '{cell}'")
                     self.cells[at] = shared_text(cell, words, cell in shared.styled)
                     self.count_text_or_refuse(words)
             if cells := trimmed(self.cells):
@@ -354,7 +386,9 @@ def shared_text(cell, words, is_marked):
     """The text of a cell with a shared string."""
     if isinstance(cell, StruckString):
         return Struck(words)
-    return Styled(words) if is_marked or isinstance(cell, StyledString) else words
+    if is_marked or isinstance(cell, StyledString):
+        return Styled(words)
+    return Reversed(words) if isinstance(cell, ReversedString) and changes_from_right(words) else words
 
 
 class Enough(Exception):
@@ -376,20 +410,25 @@ class FirstRow(Sheet):
         self.uncomputed += isinstance(words, Uncomputed)
         return words if isinstance(words, int) or not words or words.strip().lower() in self.sought else "other"
 
+    def formatted_text(self, shown, value):
+        """A number, without the time that its format would take: no name is a number."""
+        return value
+
     def close_row(self):
         super().close_row()
         if self.rows:
             raise Enough
 
-    def parse_first_row(self):
+    def parse_and_note_first_row(self):
         try:
-            self.book.package.parse_part(self.part, self)
+            self.book.package.parse_into_or_refuse(self.part, self)
         except Enough:
             self.rows = [(row, list(set(cells))) for row, cells in self.rows]
         except BadWorkbook as fault:
-            self.rows, self.needed, self.unread = [], set(), fault
+            self.rows, self.needed = [], set()
+            self.unread = fault.with_traceback(None)  # whose frames would hold the parser
 
-    def has_names(self, shared):
+    def find_names_or_note_unread(self, shared):
         """Whether all names that are sought are in the row."""
         if self.unread:
             return False

@@ -8,7 +8,7 @@ from fractions import Fraction
 
 from ..base import text
 from .cells import Changed, Currency, Date, Formatted, Percentage, Power, Price, Repeated, Rounded, Shortened, Struck, Worded
-from .limits import LONGEST_FORMAT, MOST_FORMATS, MOST_OF_FORMATS, MOST_OWN_FORMATS, broken, too_many
+from .limits import LONGEST_FORMAT, MOST_FORMATS, MOST_OF_FORMATS, MOST_OWN_FORMATS, broken_error, too_many_error
 from .part import ANY_OTHERS, BLANK, FONT, OF_FONTS, Part, strikes_out, unsigned_number_or_none
 
 # The numbers of Excel's own formats: of all digits, of dates and times, of percentages, of the currency of each system, and of some digits.
@@ -21,12 +21,17 @@ ROUNDING_FORMATS = {
     "0.00E+00": (11,), "# ?/?": (12, 69), "# ??/??": (13, 70), "##0.0E+0": (48,),
 }  # fmt: skip
 MOST_DIGITS = 11  # that Excel shows of a number in the format General
-PIECE = re.compile(r'"[^"]*"|\\.|_.|\*.|\[[^\]\[]*\]|(?i:general)|[Ee][+-]|.')  # of a format
+MOST_BELOW = 15  # digits that Excel keeps of a number, and so those of a denominator that count
+PIECE = re.compile(r'"[^"]*"|\\.|_.|\*.|\[[^\]\[]*\]|(?i:general)|[Ee][+-]|.', re.DOTALL)  # of a format
 GENERAL = "\1"  # in place of the piece General
 DIGIT = f"[0#?{GENERAL}]"  # a place of digits
 DIGITS = re.compile(f"{DIGIT}(?:.*{DIGIT})?", re.DOTALL)
-UNSEEN = re.compile(r"_.|\* | |\[(?:\$(?:-.*)?|[^$].*)?\]", re.DOTALL)  # a piece that adds no character
+UNSEEN = re.compile(r"_.|\* |[ \n]|\[(?:\$(?:-.*)?|[^$].*)?\]", re.DOTALL)  # a piece that adds no character
+WHITE = re.compile(r"\[(?:white|color *0*2)\]", re.IGNORECASE)  # a piece that hides what its section shows
 SEPARATORS = " '\u00a0\u202f"  # of thousands, besides the comma
+# The places of digits that show one number: a separator stands only before three digits of its whole part, or a space before a fraction.
+WHOLE = f"(?:[0#?,]*|[0#?]+(?:[{SEPARATORS}][0#?]{{3}})+)"
+ONE_NUMBER = re.compile(f"{GENERAL}|{WHOLE}(?:[.E][0#?.,E]*)?|(?:{WHOLE}[ \u00a0\u202f])?[0#?]+/[0#?]+")
 POINTS = ".,\u00b7\u066b\u066c\u3001\u3002"  # and commas, in one width, of all scripts
 MINUS = re.compile(r"\b(?:MINUS|HYPHEN|DASH)\b")  # in the name of a character
 OTHER_MINUSES = "\u25b2\u25b3\u2500"  # the triangles of Japanese tables, and a line that looks like a minus
@@ -59,24 +64,30 @@ def digits_text(number):
     return f"{decimal.Decimal(words):f}" if "e-" in words else words
 
 
-def sections_of(code):
-    """The sections of a format, each the list of its pieces that add characters."""
+def whole_sections_of(code):
+    """The sections of a format, each the list of its pieces."""
     sections = [[]]
     for piece in PIECE.findall(code):
         if piece == ";":
             sections.append([])
-        elif not UNSEEN.fullmatch(piece):
+        else:
             sections[-1].append(piece)
     return sections
+
+
+def sections_of(code):
+    """The sections of a format, each the list of its pieces that add characters."""
+    return [[piece for piece in section if not UNSEEN.fullmatch(piece)] for section in whole_sections_of(code)]
 
 
 def shows_texts(code):
     """Whether a format shows a text as it is. Its fourth section is of texts, or else its last one, if that has an @."""
     sections = sections_of(code)
-    of_texts = sections[3] if len(sections) > 3 else sections[-1]
+    at = 3 if len(sections) > 3 else -1
+    of_texts = sections[at]
     words = "".join(of_texts).lower()
     if of_texts == ["@"] or words == "general":
-        return True
+        return not any(map(WHITE.fullmatch, whole_sections_of(code)[at]))
     return len(sections) < 4 and "@" not in of_texts and not (len(sections) == 1 and "general" in words)
 
 
@@ -85,7 +96,7 @@ def is_percentage(code):
     return any(piece == "%" or piece.startswith("[$") and "%" in piece for piece in PIECE.findall(code))
 
 
-def added(piece):
+def added_characters(piece):
     """The characters that a piece of a format adds to a number; of one that fills the cell, once."""
     if piece.startswith("[$"):
         return piece[2:-1].partition("-")[0]
@@ -94,9 +105,9 @@ def added(piece):
     return "" if piece.isascii() else piece
 
 
-def code_of(piece):
+def one_character_of(piece):
     """A piece as one character. Of one that adds characters, a character that no format has, or nothing if they may separate thousands."""
-    if words := added(piece):
+    if words := added_characters(piece):
         return "\0" if words.strip(SEPARATORS) else ""
     if piece.lower() == "general":
         return GENERAL
@@ -105,17 +116,34 @@ def code_of(piece):
     return piece[0] if len(piece) == 1 or piece[0] in "Ee" else ""
 
 
-def is_changed(pieces):
-    """Whether a section of a format shows another number: if it adds digits, a point or a comma, or anything between digits, or shows two
-    points, a thousandth, digits in reverse, or none."""
-    words = list(map(added, pieces))
+def place_character(piece):
+    """A piece between places of digits as one character, also if it only adds a blank. Of one that fills the cell, a character that no
+    format has."""
+    if piece[0] in "_*":
+        return " " if piece[0] == "_" else "\0"
+    words = "" if UNSEEN.fullmatch(piece) else added_characters(piece)
+    return (words if words in SEPARATORS and len(words) == 1 else "\0") if words else one_character_of(piece)
+
+
+def parts_digits(section):
+    """Whether a whole section of a format shows the digits of a number in parts that may be taken for several numbers, or shows none."""
+    found = DIGITS.search("".join(map(place_character, section)))
+    return not found or not ONE_NUMBER.fullmatch(found[0])
+
+
+def changes_number(section):
+    """Whether a whole section of a format shows another number: if it adds digits, a point or a comma, or anything between digits that
+    separates no thousands, or shows two points, a thousandth, digits in reverse or in white, or none."""
+    pieces = [piece for piece in section if not UNSEEN.fullmatch(piece)]
+    if parts_digits(section) or any(map(WHITE.fullmatch, section)):
+        return True
+    words = list(map(added_characters, pieces))
     if any(each.isnumeric() or each == REVERSED for each in "".join(words)):
         return True
     if re.search(f"[{POINTS}]", unicodedata.normalize("NFKC", without_letters(words))):
         return True
-    code = "".join(map(code_of, pieces))
-    found = DIGITS.search(code)
-    if not found or re.search(rf"[^0#?.,/E{SEPARATORS}]", found[0][1:-1]) or "," in code[found.end() :]:
+    code = "".join(map(one_character_of, pieces))
+    if "," in code[DIGITS.search(code).end() :]:
         return True
     return bool(re.search(r"[1-9]|[0#?],+(?![0#?,])|\..*\.", code))
 
@@ -126,7 +154,7 @@ def without_letters(words):
 
 
 @functools.lru_cache(2**10)
-def sign(character):
+def plain_sign(character):
     """A minus or a bracket for those of all scripts; other characters as they are."""
     kind = unicodedata.category(character)
     if kind == "Pd" or character in OTHER_MINUSES or MINUS.search(unicodedata.name(character, "")):
@@ -134,15 +162,15 @@ def sign(character):
     return {"Ps": "(", "Pe": ")"}.get(kind, character)
 
 
-def signs(pieces):
+def plain_signs(pieces):
     """The characters that each piece shows besides digits, with the same signs for all scripts."""
-    return ["".join(map(sign, added(piece) or (piece if len(piece) == 1 else ""))) for piece in pieces]
+    return ["".join(map(plain_sign, added_characters(piece) or (piece if len(piece) == 1 else ""))) for piece in pieces]
 
 
 def has_sign(pieces):
     """Whether a section of a format shows the sign of a negative number: a minus, or brackets around the number. Within words, such as
     EUR-MWh or (MW), they are none."""
-    marks, places = signs(pieces), [at for at, piece in enumerate(pieces) if re.fullmatch(DIGIT, code_of(piece))]
+    marks, places = plain_signs(pieces), [at for at, piece in enumerate(pieces) if re.fullmatch(DIGIT, one_character_of(piece))]
     if re.search("[-()]", without_letters(marks)) or not places:
         return bool(places)
     before, after = (
@@ -153,18 +181,19 @@ def has_sign(pieces):
 
 def hides_zero(pieces):
     """Whether a section of a format shows zero without a digit, and without the dash that stands for it in accounts."""
-    return not re.search(f"[0/{GENERAL}]", "".join(map(code_of, pieces))) and "-" not in "".join(signs(pieces))
+    return not re.search(f"[0/{GENERAL}]", "".join(map(one_character_of, pieces))) and "-" not in "".join(plain_signs(pieces))
 
 
 def added_words(pieces):
     """The words that a section of a format adds to a number, before and after digits."""
-    words = (added(piece) or ("\0" if code_of(piece) in f"0#?.,/@{GENERAL}" or len(piece) > 1 else piece) for piece in pieces)
+    ends = f"0#?.,/@{GENERAL}"  # what may end words
+    words = (added_characters(piece) or ("\0" if one_character_of(piece) in ends or len(piece) > 1 else piece) for piece in pieces)
     return [found for found in "".join(words).split("\0") if found]
 
 
-def kind_of_words(words):
+def kind_function(words):
     """The kind of a number to which a format adds words: by the unit that they say, or with one of them if orders don't have it."""
-    units = ["".join(map(sign, found)).strip(SIGNS) for found in words]
+    units = ["".join(map(plain_sign, found)).strip(SIGNS) for found in words]
     for kind, pattern in UNITS.items():
         if all(map(pattern.fullmatch, units)):
             return kind
@@ -172,11 +201,12 @@ def kind_of_words(words):
     return lambda number: Worded(f"{number} {(others or words[-1:])[0]}")
 
 
-def changes(code):
+def changes_positive_negative_zero(code):
     """Whether a format changes positive numbers, negative ones and zero. A section of its own for negative ones shows them without their
     sign, unless it has one. Under conditions, any section may be of any number, and show it without its sign."""
     sections = sections_of(code)[:3]
-    changed, signed, hides = (list(map(call, sections)) for call in (is_changed, has_sign, hides_zero))
+    changed = list(map(changes_number, whole_sections_of(code)[:3]))
+    signed, hides = (list(map(call, sections)) for call in (has_sign, hides_zero))
     if re.search(r"\[[<>=]", code):
         positive = any(changed) or any(signed)
         return positive, True, positive or any(hides)
@@ -185,13 +215,13 @@ def changes(code):
     return positive, negative, changed[2] or hides[2] if len(sections) > 2 else positive or hides[0]
 
 
-def of_sections(code):
+def sections_function(code):
     """How a format shows a number. Of a name, 0 alone shows all characters."""
-    positive, negative, zero = changes(code)
+    positive, negative, zero = changes_positive_negative_zero(code)
     sections = sections_of(code)[:3]
     parts = [sections] if re.search(r"\[[<>=]", code) else [[section] for section in sections]  # a number has one of these
-    kinds = [kind_of_words([words for section in part for words in added_words(section)]) for part in parts]
-    roundings = [list(map(rounding, part)) for part in parts]
+    kinds = [kind_function([words for section in part for words in added_words(section)]) for part in parts]
+    roundings = [list(map(rounding_function, part)) for part in parts]
 
     def shown(words):
         number = decimal.Decimal(words)
@@ -207,9 +237,9 @@ def of_sections(code):
     return shown
 
 
-def rounding(pieces):
+def rounding_function(pieces):
     """The function that rounds a number to the digits of a section of a format, or to its fractions."""
-    code = "".join(map(code_of, pieces))
+    code = "".join(map(one_character_of, pieces))
     digits, *power = re.split("[Ee]", code, 1)
     whole, places, below = (len(re.findall(DIGIT, part)) for part in (*digits.partition(".")[::2], code.partition("/")[2]))
 
@@ -217,7 +247,8 @@ def rounding(pieces):
         if GENERAL in code or not number:
             return number
         if below:
-            return Fraction(number).limit_denominator(10**below - 1)
+            most = 10 ** min(below, MOST_BELOW) - 1
+            return Fraction(number).limit_denominator(most) if abs(number) * 2 * most >= 1 else 0
         first = 0 if not power else number.adjusted() // whole * whole if whole else number.adjusted() + 1
         last = decimal.Decimal(1).scaleb(first - places)
         return number if number.normalize().as_tuple().exponent >= first - places else number.quantize(last, decimal.ROUND_HALF_UP)
@@ -225,15 +256,15 @@ def rounding(pieces):
     return rounded
 
 
-def shown_by(code):
+def format_function(code):
     """How a format shows a number."""
     if code.strip().lower() in GENERAL_CODES:
         return general_text
     is_date = re.search("[dmyhs]", NO_DATE.sub("", code).split(";")[0], re.IGNORECASE)
-    return Date if is_date else Percentage if is_percentage(code) else of_sections(code)
+    return Date if is_date else Percentage if is_percentage(code) else sections_function(code)
 
 
-ROUNDING = [(numbers, of_sections(code)) for code, numbers in ROUNDING_FORMATS.items()]
+ROUNDING = [(numbers, sections_function(code)) for code, numbers in ROUNDING_FORMATS.items()]
 
 
 def format_number_or_refuse(attributes):
@@ -241,9 +272,11 @@ def format_number_or_refuse(attributes):
     words = attributes.get("numFmtId", "0")
     number = unsigned_number_or_none(words)
     if number is None:
-        raise broken(f"a format has the number {text.quoted(words)}")
+        raise broken_error(f"a format has the number {text.quoted(words)}")
     return number
 
+
+FROM_RIGHT = 2  # the reading order of an alignment: from right to left
 
 # Why the format of a condition changes what is shown.
 A_NUMBER_FORMAT, A_STRIKING_FONT = "a number format", "a font that strikes out"
@@ -281,6 +314,7 @@ class Styles(Part):
         kinds = (GENERAL_FORMATS, general_text), (DATE_FORMATS, Date), (PERCENT_FORMATS, Percentage), (CURRENCY_FORMATS, Currency), *ROUNDING
         self.shown = {number: shown for numbers, shown in kinds for number in numbers}
         self.formats, self.filled, self.own, self.characters = [], set(), 0, 0
+        self.from_right = set()  # the formats whose cells are read from right to left
         self.styled = set()  # the numbers of formats that show texts in another way
         self.fonts, self.struck_fonts = 0, set()  # how many fonts there are, and those that strike out
         self.struck = set()  # the formats with one of these
@@ -290,21 +324,21 @@ class Styles(Part):
     def open_numFmt(self, attributes):
         code = attributes.get("formatCode", "")
         if len(code) > LONGEST_FORMAT:
-            raise broken(f"a format has more than {LONGEST_FORMAT} characters")
+            raise broken_error(f"a format has more than {LONGEST_FORMAT} characters")
         self.own += 1
         if self.own > MOST_OWN_FORMATS:
-            raise too_many(MOST_OWN_FORMATS, "number formats")
+            raise too_many_error(MOST_OWN_FORMATS, "number formats")
         self.characters += len(code)
         if self.characters > MOST_OF_FORMATS:
-            raise too_many(MOST_OF_FORMATS, "characters in its number formats")
-        shown, is_plain = shown_by(code), shows_texts(code)
+            raise too_many_error(MOST_OF_FORMATS, "characters in its number formats")
+        shown, is_plain = format_function(code), shows_texts(code)
         if self.within[-2] == "dxf":
             if shown is not general_text or not is_plain:
                 self.conditional.setdefault(self.conditions - 1, A_NUMBER_FORMAT)
             return
         number = format_number_or_refuse(attributes)
         if self.codes.setdefault(number, code) != code:
-            raise broken(f"two formats have the number {number}")
+            raise broken_error(f"two formats have the number {number}")
         self.shown[number] = shown
         if not is_plain:
             self.styled.add(number)
@@ -332,12 +366,14 @@ class Styles(Part):
             self.struck.add(len(self.formats))
         self.formats.append(format_number_or_refuse(attributes))
         if len(self.formats) > MOST_FORMATS:
-            raise too_many(MOST_FORMATS, "formats of cells")
+            raise too_many_error(MOST_FORMATS, "formats of cells")
 
     def open_alignment(self, attributes):
-        """A cell may be filled with its text or number, again and again."""
+        """A cell may be filled with its text or number, again and again, or be shown from right to left."""
         if attributes.get("horizontal", "").strip(BLANK) == "fill":
             self.filled.add(len(self.formats) - 1)
+        if unsigned_number_or_none(attributes.get("readingOrder", "0")) == FROM_RIGHT:
+            self.from_right.add(len(self.formats) - 1)
 
     def cell_formats(self):
         made = [Struck if at in self.struck else self.shown.get(number, Formatted) for at, number in enumerate(self.formats)]

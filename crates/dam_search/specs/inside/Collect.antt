@@ -8,7 +8,7 @@ use Rattle.dam_blocks.specs.Problem.{ProblemState}
 use Rattle.dam_blocks.specs.Selection.{choice}
 use Rattle.dam_search.specs.declared.answer.PieceAnswer.{PieceAnswer}
 use Rattle.dam_search.specs.declared.fault.SearchFault.{SearchFault}
-use Rattle.dam_search.specs.declared.fault.SearchFault.TheVariants.{Memory, Collected, Unfinished}
+use Rattle.dam_search.specs.declared.fault.SearchFault.TheVariants.{Memory, AnswerMissingOrRepeated, Unfinished}
 use Rattle.dam_search.specs.Piece.{node_count, IsSpent}
 use Rattle.dam_search.specs.Answer.{IsSoundAnswer, IsReached, IsHighest}
 use Rattle.dam_search.specs.Words.{most_pieces}
@@ -18,10 +18,10 @@ use Rattle.dam_search.specs.Words.{most_pieces}
 pub record IsWorked (problem : ProblemState) (depth nodes : ℕ) (a : PieceAnswer) : Type 0 where
   pub in_cutting : a.piece < 2 ^ depth
   pub sound : IsSoundAnswer problem depth a
-  pub reached : IsReached problem a.read
+  pub reached : IsReached problem a.incumbent_read
   pub spent : nodes < node_count (length problem.blocks - depth)
       → IsSpent problem (choice depth a.piece) (length problem.blocks - depth) 0 nodes
-      a.visited a.read a.done
+      a.visited a.incumbent_read a.done
   pub done : node_count (length problem.blocks - depth) ≤ nodes → a.done ≡ true
 
 -- how many answers there are about the piece
@@ -69,7 +69,7 @@ IsLeastUnfinished answers (Some u) =
 -- or has several, else the least unfinished one, else the highest selection that was found
 abbrev pub IsCollected : ℕ → List PieceAnswer → Result Solution SearchFault → Type 0
 IsCollected depth answers (Err Memory) = ⊥
-IsCollected depth answers (Err (Collected piece)) =
+IsCollected depth answers (Err (AnswerMissingOrRepeated piece)) =
     (piece < 2 ^ depth) × IsFirstFaulty answers piece
 IsCollected depth answers (Err (Unfinished piece visited)) =
     AreOneEach answers (2 ^ depth)

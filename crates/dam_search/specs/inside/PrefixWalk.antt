@@ -51,7 +51,7 @@ pub record ReadsIncumbent (left visited_before visited_after read_before read_af
 pub record IsGoing (problem : ProblemState) (nodes greatest_read greatest_offer : ℕ) (found : WalkState)
     : Type 0 where
   pub within : found.visited ≤ nodes
-  pub read : found.read ≤ greatest_read
+  pub read : found.incumbent_read ≤ greatest_read
   pub best : IsFind problem [] found.best
   pub offered : welfare_found found.best ≤ greatest_offer
 
@@ -61,11 +61,11 @@ pub record IsWalked (problem : ProblemState) (prefix : List Bool)
     (nodes greatest_read_before greatest_offer_before greatest_read_after greatest_offer_after : ℕ)
     (before after : WalkState) (done : Bool) : Type 0 where
   pub finds : Finds problem prefix before.best after.best
-  pub covers : done ≡ true → Covers problem prefix after.best after.read
+  pub covers : done ≡ true → Covers problem prefix after.best after.incumbent_read
   pub spends : Spends problem prefix (length problem.blocks - length prefix) greatest_read_before
       nodes before.visited after.visited done
   pub needed : done ≡ true → HasNeeded problem prefix (length problem.blocks - length prefix)
-      after.read (after.visited - before.visited)
+      after.incumbent_read (after.visited - before.visited)
   pub reads : ReadsIncumbent (length problem.blocks - length prefix) before.visited after.visited
-      before.read after.read greatest_read_before greatest_read_after
+      before.incumbent_read after.incumbent_read greatest_read_before greatest_read_after
   pub offered : greatest_offer_after ≡ max greatest_offer_before (welfare_found after.best)

@@ -1,6 +1,6 @@
 -- A walk by prices: its nodes, and the account of it.
-use Rattle.std.specs.Prelude.{◌≡◌, ℕ, ◌<◌, ◌≤◌, max, ℤ, pos, ◌+ℤ◌, ◌-ℤ◌, ◌≤ℤ◌, ◌<ℤ◌, ◌⊎◌, ◌&&◌, Bool, true, false, not}
-use Rattle.std.specs.Prelude.{Option, Some, None, List, [], ◌∷◌, length, slice_set}
+use Rattle.std.specs.Prelude.{◌≡◌, ℕ, zero, suc, ◌<◌, ◌≤◌, max, ℤ, pos, ◌+ℤ◌, ◌-ℤ◌, ◌≤ℤ◌, ◌<ℤ◌, ◌⊎◌, ◌&&◌, Bool, true, false, not}
+use Rattle.std.specs.Prelude.{Option, Some, None, List, [], ◌∷◌, length, slice_index_or, slice_set}
 use Rattle.std.specs.Int.{int_min, int_max}
 use Rattle.dam_book.specs.Limits.{most_blocks}
 use Rattle.dam_blocks.specs.declared.selection.Solution.{Solution}
@@ -10,7 +10,7 @@ use Rattle.dam_blocks.specs.Eligible.{IsEligible}
 use Rattle.dam_bound.specs.declared.pricing.Pricing.{Pricing}
 use Rattle.dam_bound.specs.declared.net_limits.NetLimit.{NetLimit}
 use Rattle.dam_bound.specs.declared.net_limits.Slack.{Slack}
-use Rattle.dam_bound.specs.NetLimits.{AreSlacks, HasSlack}
+use Rattle.dam_bound.specs.NetLimits.{slack_taken, AreSlacks, HasSlack}
 use Rattle.dam_bound.specs.Open.{is_among, IsOpen, AreFree}
 use Rattle.dam_bound.specs.Prices.{bound_of, IsPricing}
 use Rattle.dam_search.specs.declared.walk_state.WalkState.{WalkState}
@@ -39,6 +39,12 @@ pub record IsSlack (problem : ProblemState) (limits : List NetLimit) (accepted :
   pub slacks : AreSlacks slack.slacks
   pub has : (selection : List Bool) (w : ℤ) → IsOpen accepted left selection → IsEligible problem selection w
       → HasSlack limits selection (λ place. is_among place left) slack.slacks
+
+-- the slack under a limit that the decisions of `accepted` on the first n places leave
+abbrev pub slack_left : NetLimit → List Bool → ℕ → ℤ
+slack_left limit accepted zero = limit.slack
+slack_left limit accepted (suc n) =
+    slack_left limit accepted n -ℤ slack_taken (accepts accepted n) (slice_index_or limit.nets n (pos 0))
 
 -- the selection decides on the first places as the other one does
 abbrev pub AgreesUnder : ℕ → List Bool → List Bool → Type 0
@@ -81,7 +87,7 @@ CoversOpen problem accepted left best read =
 
 -- a walk before it goes on, if these are the greatest value read of its incumbent and the greatest that was offered
 pub record IsReady (greatest_read greatest_offer : ℕ) (found : WalkState) : Type 0 where
-  pub read : found.read ≡ greatest_read
+  pub read : found.incumbent_read ≡ greatest_read
   pub long : IsLong found.best
   pub offered : welfare_found found.best ≤ greatest_offer
 
@@ -91,9 +97,9 @@ pub record IsWalkedOpen (problem : ProblemState) (accepted : List Bool) (left : 
     (greatest_offer_before greatest_read_after greatest_offer_after : ℕ) (before after : WalkState)
     : Type 0 where
   pub finds : FindsOpen problem accepted left before.best after.best
-  pub covers : CoversOpen problem accepted left after.best after.read
-  pub grows : before.read ≤ after.read
-  pub read : after.read ≡ greatest_read_after
+  pub covers : CoversOpen problem accepted left after.best after.incumbent_read
+  pub grows : before.incumbent_read ≤ after.incumbent_read
+  pub read : after.incumbent_read ≡ greatest_read_after
   pub offered : greatest_offer_after ≡ max greatest_offer_before (welfare_found after.best)
 
 -- ---- the order of the decisions

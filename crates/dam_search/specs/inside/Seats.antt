@@ -10,7 +10,7 @@ use Rattle.dam_search.specs.declared.workers.WorkedSeat.{WorkedSeat}
 use Rattle.dam_search.specs.declared.view.View.{View}
 use Rattle.dam_search.specs.Answer.{greatest_found}
 use Rattle.dam_search.specs.Words.{times, once_below, view_of, new_view}
-use Rattle.dam_search.specs.Work.{IsWalkedPiece, AreAnswersOf}
+use Rattle.dam_search.specs.inside.Work.{IsWalkedPiece, AreAnswersOf}
 
 -- a seat for a worker, at the table of this identity
 pub record IsNewSeat (table : TableId) (pieces : ℕ) (s : WorkerSeat) : Type 0 where
@@ -43,4 +43,4 @@ pub record AreAllAnswers (problem : ProblemState) (depth nodes first : ℕ) (ans
   pub each : (x : ℕ)
       → times x (map (λ (a : PieceAnswer). a.piece) answers) ≡ once_below x (2 ^ depth)
   pub walked : All (λ (a : PieceAnswer). IsWalkedPiece problem depth nodes a) answers
-  pub greatest_read : All (λ (a : PieceAnswer). a.read ≤ max first (greatest_found answers)) answers
+  pub greatest_read : All (λ (a : PieceAnswer). a.incumbent_read ≤ max first (greatest_found answers)) answers

@@ -8,7 +8,7 @@ use Rattle.dam_engines.proofs.alone.clear_book_alone.Goals as goal
 pub returns-clause-done : goal.returns-clause-done
 returns-clause-done c =
     let made = c.in_ok-problem.ensures.ok in
-    let clearing = c.published_results_are_clearings.ensures c.args.book.now _ _ _ _ _ _ made.0 made.1 c.in_ok-best.ensures.ok
+    let clearing = c.published_results_are_clearings.ensures c.args.book.now _ _ _ _ _ _ made.0 made.1 c.in_ok-best.ensures.0
     c.in_ok-published.ensures in
     let found = c.in_ok-published.published in
     let best = c.in_ok-best.best in
@@ -17,8 +17,8 @@ returns-clause-done c =
     let needed : PlanHasNeeded (terms_alone c.args.nodes) problem = record {
       selection = best.selection;
       welfare = best.welfare;
-      best = c.in_ok-best.ensures.ok;
-      needed = subst (λ (depth : ℕ). LimitHasNeeded problem depth c.args.nodes best.welfare) (sym uncut) c.in_ok-best.ensures.needed;
+      best = c.in_ok-best.ensures.0;
+      needed = subst (λ (depth : ℕ). LimitHasNeeded problem depth c.args.nodes best.welfare) (sym uncut) c.in_ok-best.ensures.1;
     } in (
       (found.welfare, found.periods.items, found.rows.items, clearing, c.in_ok-results_text.ensures),
       subst (λ (problem : ProblemState). PlanHasNeeded (terms_alone c.args.nodes) problem) made.1 needed,

@@ -1,24 +1,21 @@
 -- The one answer is a worker's, and it is about the one piece.
-use Rattle.std.proofs.Common.{◌≤◌, max, [], ◌∷◌, arith}
+use Rattle.std.proofs.Common.{◌≤◌, max, arith}
 use Rattle.dam_search.specs.declared.answer.PieceAnswer.{PieceAnswer}
 use Rattle.dam_search.specs.Piece.{welfare_found}
 use Rattle.dam_search.specs.inside.Collect.{IsWorked}
 use Rattle.dam_search.proofs.OneAnswer.{all_one, one_alone, worked_is}
-use Rattle.dam_search.proofs.Seats.{none_faulty}
 use Rattle.dam_search.proofs.alone.search_alone_by_walk.Goals as goal
 
 pub collected-requires-clause-worked : goal.collected-requires-clause-worked
 collected-requires-clause-worked g c =
     let problem = c.args.problem.now in let a = c.walk_piece-answer.result in let first = c.args.first_welfare in
     let walked = c.walk_piece-answer.ensures in
-    let read : a.read ≤ max first (welfare_found a.best) =
+    let read : a.incumbent_read ≤ max first (welfare_found a.best) =
     (let told = walked.greatest_read in let top = walked.offered in let known = c.walk_piece-answer.new.incumbent.known in let offered =
     c.offer.ensures.greatest_offer in let none =
     c.new-incumbent.ensures.greatest_offer in omega (arith, told, top, known, offered, none)) in
     all_one (λ (x : PieceAnswer). IsWorked problem 0 c.args.nodes x) a
     (worked_is problem (g.W.PieceWalk.problem c.args.walk.now) first c.args.nodes a c.requires.same walked.walked c.requires.reached read)
 
-pub returns-clause-whole : goal.returns-clause-whole
-returns-clause-whole g c piece e =
-    let a = c.walk_piece-answer.result in
-    none_faulty 0 (a ∷ []) c.collected.result piece c.collected.ensures.collected (one_alone a c.walk_piece-answer.ensures.piece) e
+pub returns : goal.returns
+returns g c = c.collected.ensures.searched (one_alone c.walk_piece-answer.result c.walk_piece-answer.ensures.piece)

@@ -1,7 +1,7 @@
--- Each piece has one answer, all of them done: together they give the result.
-use Rattle.std.proofs.Common.{ℕ, ◌^◌, subst}
+-- If each piece has one answer, together they give the answer of the search.
+use Rattle.std.proofs.Common.{ℕ, ◌^◌, ◌<◌, subst}
 use Rattle.dam_search.specs.inside.Collect.{AreOneEach}
-use Rattle.dam_search.proofs.Answers.{all_in_cutting, conclusive, least_named}
+use Rattle.dam_search.proofs.Answers.{all_in_cutting, conclusive, least_is}
 use Rattle.dam_search.proofs.Collecting.{limit_needed}
 use Rattle.dam_search.proofs.collect.collected.Goals as goal
 
@@ -11,11 +11,14 @@ first_faulty-requires-clause-in_cutting g c =
     c.piece_count.ensures.value c.piece_count.ensures.few
     c.requires.worked
 
-pub returns-in-Some-least_unfinished-clause-unfinished : goal.returns-in-Some-least_unfinished-clause-unfinished
-returns-in-Some-least_unfinished-clause-unfinished g c =
-    let answers = c.args.answers.now in
-    let one : AreOneEach answers (2 ^ c.args.depth) = subst (λ (n : ℕ). AreOneEach answers n) c.piece_count.ensures.value c.in_default.ensures in
-    least_named c.args.problem.now c.args.depth c.args.nodes answers c.in-Some-least_unfinished.answer c.requires.worked one
+pub returns-in-Some-clause-searched : goal.returns-in-Some-clause-searched
+returns-in-Some-clause-searched g c one =
+    let faulty = c.in-Some.ensures in
+    faulty.1.faulty (one c.in-Some.piece (subst (λ (n : ℕ). c.in-Some.piece < n) c.piece_count.ensures.value faulty.0))
+
+pub returns-in-Some-least_unfinished-clause-searched : goal.returns-in-Some-least_unfinished-clause-searched
+returns-in-Some-least_unfinished-clause-searched g c one =
+    least_is c.args.problem.now c.args.depth c.args.nodes c.args.answers.now c.in-Some-least_unfinished.answer c.requires.worked one
     c.in-Some-least_unfinished.ensures
 
 pub unreachable-requires : goal.unreachable-requires
@@ -26,19 +29,11 @@ unreachable-requires g c =
     c.in_default-least_unfinished.ensures in
     c.conclusive_answers_give_result.ensures.found problem depth answers are c.in-None.ensures
 
-pub returns-clause-ok : goal.returns-clause-ok
-returns-clause-ok g c =
+pub returns-clause-searched : goal.returns-clause-searched
+returns-clause-searched g c one =
     let problem = c.args.problem.now in let depth = c.args.depth in let answers = c.args.answers.now in
-    let one : AreOneEach answers (2 ^ depth) = subst (λ (n : ℕ). AreOneEach answers n) c.piece_count.ensures.value c.in_default.ensures in
+    let best = c.in-Some-highest.best in
     let are = conclusive problem depth c.args.nodes answers c.use_invariant.ensures c.requires.depth c.requires.worked one
     c.in_default-least_unfinished.ensures in
-    c.conclusive_answers_give_result.ensures.result problem depth answers c.in-Some-highest.best are c.in-Some-highest.ensures
-
-pub returns-clause-needed : goal.returns-clause-needed
-returns-clause-needed g c =
-    let problem = c.args.problem.now in let depth = c.args.depth in let answers = c.args.answers.now in
-    let one : AreOneEach answers (2 ^ depth) = subst (λ (n : ℕ). AreOneEach answers n) c.piece_count.ensures.value c.in_default.ensures in
-    let are = conclusive problem depth c.args.nodes answers c.use_invariant.ensures c.requires.depth c.requires.worked one
-    c.in_default-least_unfinished.ensures in
-    limit_needed problem depth c.args.nodes answers c.in-Some-highest.best c.requires.worked are.answered
-    (c.conclusive_answers_give_result.ensures.result problem depth answers c.in-Some-highest.best are c.in-Some-highest.ensures)
+    let result = c.conclusive_answers_give_result.ensures.result problem depth answers best are c.in-Some-highest.ensures in
+    (result, limit_needed problem depth c.args.nodes answers best c.requires.worked are.answered result)

@@ -30,8 +30,8 @@ visit-done-requires-clause-going g c = record { within = omega arith; read = ome
 pub returns-clause-sound : goal.returns-clause-sound
 returns-clause-sound g c =
     let found = c.visit-done.new.found in
-    subst (λ (prefix : List Bool). IsSound c.args.problem.now prefix found.best found.read c.visit-done.result) c.of_piece-prefix.ensures
-    (sound c.args.problem.now c.of_piece-prefix.result found.best found.read c.visit-done.result c.visit-done.ensures.walked.finds
+    subst (λ (prefix : List Bool). IsSound c.args.problem.now prefix found.best found.incumbent_read c.visit-done.result) c.of_piece-prefix.ensures
+    (sound c.args.problem.now c.of_piece-prefix.result found.best found.incumbent_read c.visit-done.result c.visit-done.ensures.walked.finds
     c.visit-done.ensures.walked.covers)
 
 pub returns-clause-spent : goal.returns-clause-spent
@@ -40,11 +40,11 @@ returns-clause-spent g c =
     let long = as_long c.of_piece-prefix.result c.args.depth c.args.piece c.of_piece-prefix.ensures in
     let found = c.visit-done.new.found in let walked = c.visit-done.ensures.walked in
     subst (λ (left : ℕ). IsSpent c.args.problem.now (choice c.args.depth c.args.piece) (n - left) told c.args.nodes found.visited
-    found.read c.visit-done.result) long
+    found.incumbent_read c.visit-done.result) long
     (subst (λ (prefix : List Bool). IsSpent c.args.problem.now prefix (n - length c.of_piece-prefix.result) told c.args.nodes
-    found.visited found.read c.visit-done.result) c.of_piece-prefix.ensures
+    found.visited found.incumbent_read c.visit-done.result) c.of_piece-prefix.ensures
     (spent_from c.args.problem.now c.of_piece-prefix.result (n - length c.of_piece-prefix.result) told c.args.nodes found.visited
-    found.read c.visit-done.result walked.spends walked.needed))
+    found.incumbent_read c.visit-done.result walked.spends walked.needed))
 
 pub returns-clause-read : goal.returns-clause-read
 returns-clause-read g c some few =

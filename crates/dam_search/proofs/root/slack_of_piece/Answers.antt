@@ -1,9 +1,21 @@
 -- Before the loop every place is open; each decision closes one.
-use Rattle.std.proofs.Common.{◌≡◌, ℕ, ◌+◌, not, ◌∙◌, sym, subst, refl, arith}
+use Rattle.std.proofs.Common.{◌≡◌, ℕ, suc, ◌+◌, ℤ, pos, ◌-ℤ◌, Bool, not, List, get_or, ◌∙◌, ap, sym, subst, refl, arith}
 use Rattle.std.specs.Prelude.{nat_lt}
-use Rattle.dam_bound.specs.NetLimits.{HasSlack, every_place}
+use Rattle.dam_blocks.specs.Selection.{accepts}
+use Rattle.dam_bound.specs.declared.net_limits.NetLimit.{NetLimit}
+use Rattle.dam_bound.specs.NetLimits.{slack_taken, limit_in, HasSlack, every_place}
+use Rattle.dam_search.specs.inside.PriceWalk.{slack_left}
 use Rattle.dam_search.proofs.Slacks.{less_open, open_at, decided_at, others_open, agrees_less, agrees_here}
 use Rattle.dam_search.proofs.root.slack_of_piece.Goals as goal
+
+left_after : (limit : NetLimit) (accepted : List Bool) (at : ℕ) (accept : Bool) (before after : ℤ) → accept ≡ accepts accepted at
+    → before ≡ slack_left limit accepted at → after ≡ before -ℤ slack_taken accept (get_or limit.nets at (pos 0))
+    → after ≡ slack_left limit accepted (at + 1)
+left_after limit accepted at accept before after is so_far taken =
+    let next : suc at ≡ at + 1 = omega arith in
+    taken ∙ ap (λ (z : ℤ). z -ℤ slack_taken accept (get_or limit.nets at (pos 0))) so_far
+    ∙ ap (λ (b : Bool). slack_left limit accepted at -ℤ slack_taken b (get_or limit.nets at (pos 0))) is
+    ∙ ap (slack_left limit accepted) next
 
 pub loop-at-init : goal.loop-at-init
 loop-at-init c = record {
@@ -11,6 +23,7 @@ loop-at-init c = record {
   has = λ problem sel w are e agrees.
       less_open c.args.limits.now.limits sel every_place (λ place. not (nat_lt place 0)) c.slack-slack.result.slacks (λ place on. refl)
       (c.slack-slack.ensures.eligible problem sel w are e);
+  left = c.slack-slack.ensures.whole;
 }
 
 pub loop-at-preserved : goal.loop-at-preserved
@@ -21,6 +34,8 @@ loop-at-preserved c =
           c.in-Some.ensures.some sel (λ p. not (nat_lt p at)) (λ p. not (nat_lt p (at + 1)))
           (c.loop-at.invariant.has problem sel w are e (agrees_less at c.args.accepted sel agrees)) (open_at at) (decided_at at) (others_open at)
           (agrees_here at c.args.accepted sel agrees ∙ sym c.has.ensures.value);
+      left = λ k d l. left_after (limit_in c.args.limits.now.limits k) c.args.accepted at c.has.result (get_or c.loop-at.slack.slacks k d)
+          (get_or c.in-Some.next.slacks k d) c.has.ensures.value (c.loop-at.invariant.left k d l) (c.in-Some.ensures.lowered k d l);
     }
 
 pub returns-in_default-clause-none : goal.returns-in_default-clause-none
@@ -36,3 +51,9 @@ returns-clause-some c problem sel w are e agrees =
     let same : c.loop-at.at ≡ c.args.depth = omega (arith, past, end) in
     subst (λ (n : ℕ). HasSlack c.args.limits.now.limits sel (λ p. not (nat_lt p n)) c.loop-at.slack.slacks) same
     (c.loop-at.invariant.has problem sel w are e (λ p l. agrees p (omega (arith, l, same))))
+
+pub returns-clause-left : goal.returns-clause-left
+returns-clause-left c k d l =
+    let past = c.loop-at-test.false in let end = c.loop-at.auto.at-end in
+    let same : c.loop-at.at ≡ c.args.depth = omega (arith, past, end) in
+    c.loop-at.invariant.left k d l ∙ ap (slack_left (limit_in c.args.limits.now.limits k) c.args.accepted) same

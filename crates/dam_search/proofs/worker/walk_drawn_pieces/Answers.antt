@@ -4,7 +4,7 @@ use Rattle.atomic_table.specs.Seated.{TableId}
 use Rattle.dam_search.specs.declared.answer.PieceAnswer.{PieceAnswer}
 use Rattle.dam_search.specs.declared.view.View.{View}
 use Rattle.dam_search.specs.Piece.{welfare_found}
-use Rattle.dam_search.specs.Work.{AreAnswersOf}
+use Rattle.dam_search.specs.inside.Work.{AreAnswersOf}
 use Rattle.dam_search.proofs.Seats.{none_yet, one_more, past_end, as_many, one_drawn, next_view}
 use Rattle.dam_search.proofs.worker.walk_drawn_pieces.Goals as goal
 
@@ -54,7 +54,7 @@ loop-piece-preserved g c =
     let u = c.walk_piece.new.incumbent.seat.me.0 in let a = c.walk_piece.result in
     let drawn = c.in-Some.ensures.piece.1 in let kept = c.walk_piece.ensures.kept in
     let next = next_view v w u c.in-Some.piece drawn (ap (λ (k : View × TableId). k.0) kept) in
-    let told = c.walk_piece.ensures.greatest_read ∙ ap (λ (x : View). max x.greatest_read a.read) drawn in
+    let told = c.walk_piece.ensures.greatest_read ∙ ap (λ (x : View). max x.greatest_read a.incumbent_read) drawn in
     let top = c.walk_piece.ensures.offered ∙ ap (λ (x : View). max x.greatest_offer (welfare_found a.best)) drawn in
     record {
       answers = subst (λ (xs : List PieceAnswer). AreAnswersOf (g.W.PieceWalk.problem c.args.walk.now) c.args.depth c.args.nodes 0 u xs)

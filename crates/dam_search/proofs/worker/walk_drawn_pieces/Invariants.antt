@@ -1,6 +1,6 @@
 -- The answers so far are those about the pieces drawn so far; the seat is going on, and is the same seat.
 use Rattle.std.proofs.Common.{◌≡◌, ◌^◌, ◌-◌, ◌≤◌, length, vec_capacity}
-use Rattle.dam_search.specs.Work.{AreAnswersOf}
+use Rattle.dam_search.specs.inside.Work.{AreAnswersOf}
 use Rattle.dam_search.proofs.worker.walk_drawn_pieces.Given as goal
 
 abbrev pub invariant-loop-piece : goal.invariant-loop-piece

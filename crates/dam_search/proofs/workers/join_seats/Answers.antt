@@ -8,7 +8,7 @@ use Rattle.std.specs.declared.alloc.AllocError.{AllocError}
 use Rattle.std.proofs.lemmas.List.Elements.{All-pop}
 use Rattle.dam_search.specs.declared.answer.PieceAnswer.{PieceAnswer}
 use Rattle.dam_search.specs.declared.workers.WorkedSeat.{WorkedSeat}
-use Rattle.dam_search.specs.Work.{AreAnswersOf}
+use Rattle.dam_search.specs.inside.Work.{AreAnswersOf}
 use Rattle.dam_search.specs.inside.Seats.{IsWorkedSeat, AreJoined}
 use Rattle.dam_search.proofs.Seats.{none_joined, one_joined}
 use Rattle.dam_search.proofs.workers.join_seats.Goals as goal

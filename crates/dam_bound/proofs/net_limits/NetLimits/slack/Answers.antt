@@ -8,3 +8,7 @@ returns-clause-eligible c problem sel w are e k l =
     let most = (are.each k l).keeps sel w e in let past = c.loop-k-test.false in
     let is = c.loop-k.invariant.each k (pos 0) (omega (arith, l, past)) in
     omega (arith, ints, most, is)
+
+pub returns-clause-whole : goal.returns-clause-whole
+returns-clause-whole c k d l =
+    let past = c.loop-k-test.false in c.loop-k.invariant.each k d (omega (arith, l, past))

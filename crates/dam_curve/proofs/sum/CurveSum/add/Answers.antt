@@ -18,8 +18,8 @@ use Rattle.dam_curve.proofs.sum.CurveSum.add.Goals as goal
 abbrev own_segments : List Step → List Segment
 own_segments rising = segments_from (offered_volume Buy rising) (worth_of rising) lowest_price 0 0 rising
 
-pub write_period_segments-requires : goal.write_period_segments-requires
-write_period_segments-requires g c =
+pub fill_period_segments-requires : goal.fill_period_segments-requires
+fill_period_segments-requires g c =
     let long = same_length c.requires.3 c.args.supply.now c.requires.5.same in
     let few = c.requires.5.is_hour.few in let same = ap length c.steps.ensures in
     omega (arith, long, few, same)
@@ -35,7 +35,7 @@ add_segments-requires g c =
       between = c.price_is_between_ends.ensures.between;
     } in
     let nothing : NoLaws = record { none = c.best_has_greatest_welfare.ensures.none; within = c.balances_within_offers.ensures.within } in
-    let own : c.deref.result.now ≡ own_segments c.args.supply.now = c.deref.ensures.value ∙ c.in_ok-write_period_segments.ensures
+    let own : c.deref.result.now ≡ own_segments c.args.supply.now = c.deref.ensures.value ∙ c.in_ok-fill_period_segments.ensures
     ∙ ap own_segments c.steps.ensures in
     let old : c.deref-2.result.now ≡ c.args.self.now = search rules in
     let few = c.requires.6 in (
@@ -57,7 +57,7 @@ returns-clause-added g c ps least most ss is supply few =
       between = c.price_is_between_ends.ensures.between;
     } in
     let nothing : NoLaws = record { none = c.best_has_greatest_welfare.ensures.none; within = c.balances_within_offers.ensures.within } in
-    let own : c.deref.result.now ≡ own_segments c.args.supply.now = c.deref.ensures.value ∙ c.in_ok-write_period_segments.ensures
+    let own : c.deref.result.now ≡ own_segments c.args.supply.now = c.deref.ensures.value ∙ c.in_ok-fill_period_segments.ensures
     ∙ ap own_segments c.steps.ensures in
     let old : c.deref-2.result.now ≡ c.args.self.now = search rules in
     let new : c.swap.new.x.items ≡ c.add_segments.new.sum.items = search rules in

@@ -35,7 +35,7 @@ returns-then-not-is_admissible-clause-walked g t c =
       spends = spends_nothing problem prefix left told c.args.nodes found.visited going.within;
       needed = λ done admissible. absurd
           (not_admitted c.is_admissible.result c.if-not-is_admissible.true (c.is_admissible.ensures.value.1 admissible));
-      reads = reads_nothing left found.visited found.visited found.read told told going.read refl (inl refl);
+      reads = reads_nothing left found.visited found.visited found.incumbent_read told told going.read refl (inl refl);
       offered = let offered = going.offered in omega (arith, offered);
     }
 
@@ -49,7 +49,7 @@ returns-then-found-nodes-clause-walked g t c =
       covers = λ done. absurd (cc);
       spends = spends_none problem prefix left told c.args.nodes found.visited c.if-found-nodes.true;
       needed = λ done. absurd (cc);
-      reads = reads_nothing left found.visited found.visited found.read told told going.read refl (inl refl);
+      reads = reads_nothing left found.visited found.visited found.incumbent_read told told going.read refl (inl refl);
       offered = let offered = going.offered in omega (arith, offered);
     }
 
@@ -67,12 +67,12 @@ returns-then-depth-block_count-clause-walked g t c =
       spends =
           subst (λ (n : ℕ). Spends problem prefix left (told c.args.incumbent.now) c.args.nodes found.visited n true) (sym visited)
           (spends_one problem prefix left (told c.args.incumbent.now) c.args.nodes found.visited within);
-      needed = λ done. needed_one problem prefix left after.read found.visited after.visited visited (inl full);
+      needed = λ done. needed_one problem prefix left after.incumbent_read found.visited after.visited visited (inl full);
       reads =
-          subst (λ (n : ℕ). ReadsIncumbent left found.visited after.visited found.read n (told c.args.incumbent.now)
+          subst (λ (n : ℕ). ReadsIncumbent left found.visited after.visited found.incumbent_read n (told c.args.incumbent.now)
           (told c.offer_if_best.new.incumbent))
           (sym c.offer_if_best.ensures.read)
-          (reads_nothing left found.visited after.visited found.read (told c.args.incumbent.now)
+          (reads_nothing left found.visited after.visited found.incumbent_read (told c.args.incumbent.now)
           (told c.offer_if_best.new.incumbent) going.read
           c.offer_if_best.ensures.greatest_read (inr full));
       offered = c.offer_if_best.ensures.offered;
@@ -98,7 +98,7 @@ returns-in_default-clause-walked g t c =
       needed = λ done. needed_one problem prefix left least found.visited (found.visited + 1) refl
           (inr (λ value le. unreached (relaxed_welfare problem prefix) value least none le));
       reads =
-          reads_asked left found.visited (found.visited + 1) found.read least (told c.args.incumbent.now)
+          reads_asked left found.visited (found.visited + 1) found.incumbent_read least (told c.args.incumbent.now)
           (told c.read-found.new.self) (omega (arith, inside)) (omega arith) read c.read-found.ensures.rises
           c.read-found.ensures.greatest_read;
       offered = omega (arith, offered, c.read-found.ensures.greatest_offer);
@@ -138,7 +138,7 @@ returns-then-not-visit-clause-walked g t c =
           c.in-Some.ensures.1 one;
       needed = λ done. absurd (cc);
       reads =
-          reads_asked (n - length prefix) before after c.args.found.now.read c.visit.new.found.read (told c.args.incumbent.now)
+          reads_asked (n - length prefix) before after c.args.found.now.incumbent_read c.visit.new.found.incumbent_read (told c.args.incumbent.now)
           (told c.visit.new.incumbent) (omega (arith, inside)) (omega (arith, more)) c.requires.going.read
           (omega (arith, c.read-found.ensures.rises, grows)) (omega (arith, c.read-found.ensures.greatest_read, grows, reads));
       offered = omega (arith, offered, c.read-found.ensures.greatest_offer);
@@ -173,16 +173,16 @@ returns-clause-walked g t c =
           (finds_shorter problem prefix (first ∷ []) a b w.finds)
           (finds_shorter problem prefix (not first ∷ []) b z v.finds);
       covers = λ done.
-          covers_both problem prefix first a b z c.visit.new.found.read c.visit-2.new.found.read c.ranking_is_total.ensures.transitive
+          covers_both problem prefix first a b z c.visit.new.found.incumbent_read c.visit-2.new.found.incumbent_read c.ranking_is_total.ensures.transitive
           c.completions_split.ensures.extended few c.requires.going.best w.finds
           (w.covers refl) v.finds (v.covers done) grows';
       spends =
           spends_both problem prefix first n (told c.args.incumbent.now) least later nodes before middle after c.visit-2.result inside
           c.read-found.ensures.rises (omega (arith, asked, raised)) c.in-Some.ensures.1 one v.spends;
-      needed = λ done. needed_both problem prefix first n c.visit.new.found.read c.visit-2.new.found.read before middle after
+      needed = λ done. needed_both problem prefix first n c.visit.new.found.incumbent_read c.visit-2.new.found.incumbent_read before middle after
           inside few more more' grows' (w.needed refl) (v.needed done);
       reads =
-          reads_asked (n - length prefix) before after c.args.found.now.read c.visit-2.new.found.read (told c.args.incumbent.now)
+          reads_asked (n - length prefix) before after c.args.found.now.incumbent_read c.visit-2.new.found.incumbent_read (told c.args.incumbent.now)
           (told c.visit-2.new.incumbent) (omega (arith, inside)) (omega (arith, more, more')) c.requires.going.read
           (omega (arith, c.read-found.ensures.rises, grows, grows')) (omega (arith, asked, raised, raised', grows, grows'));
       offered =

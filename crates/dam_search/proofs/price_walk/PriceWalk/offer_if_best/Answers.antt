@@ -16,7 +16,7 @@ pub returns-in_default-clause-walked : goal.returns-in_default-clause-walked
 returns-in_default-clause-walked g c =
     let problem = c.args.self.now.problem.now in let relaxed = g.P.PricedProblem.problem c.args.self.now.priced.now in let found = c.args.found.now in
     walked_nothing problem c.args.selection [] _ _ found c.requires.ready
-    (covers_leaf problem relaxed c.args.selection found.best found.read c.requires.long c.args.self.now.same
+    (covers_leaf problem relaxed c.args.selection found.best found.incumbent_read c.requires.long c.args.self.now.same
     (λ w is e. (let under = c.clear_selection.ensures.none c.in_default.is w e in inl (omega (arith, ints, under, c.requires.fits)))))
 
 pub returns-in_default-better_than_found-clause-walked : goal.returns-in_default-better_than_found-clause-walked
@@ -25,22 +25,22 @@ returns-in_default-better_than_found-clause-walked g c =
     let fits : SFits w64 c.in-Some.welfare = search rules in
     let value = to_z-of_z w64 c.in-Some.welfare fits in
     walked_nothing problem c.args.selection [] _ _ found c.requires.ready
-    (covers_leaf problem relaxed c.args.selection found.best found.read c.requires.long c.args.self.now.same
+    (covers_leaf problem relaxed c.args.selection found.best found.incumbent_read c.requires.long c.args.self.now.same
     (λ w is e. (let same = one_welfare _ w c.in-Some.welfare e c.in-Some.ensures.some.0 in
-    subst (λ (z : ℤ). (z <ℤ pos found.read) ⊎ IsMatched z c.args.selection found.best) (value ∙ sym same) c.in_default-better_than_found.ensures.none)))
+    subst (λ (z : ℤ). (z <ℤ pos found.incumbent_read) ⊎ IsMatched z c.args.selection found.best) (value ∙ sym same) c.in_default-better_than_found.ensures.none)))
 
 pub returns-then-not-admissible-clause-walked : goal.returns-then-not-admissible-clause-walked
 returns-then-not-admissible-clause-walked g c =
     let problem = c.args.self.now.problem.now in let relaxed = g.P.PricedProblem.problem c.args.self.now.priced.now in let found = c.args.found.now in
     walked_nothing problem c.args.selection [] _ _ found c.requires.ready
-    (covers_leaf problem relaxed c.args.selection found.best found.read c.requires.long c.args.self.now.same
+    (covers_leaf problem relaxed c.args.selection found.best found.incumbent_read c.requires.long c.args.self.now.same
     (λ w is e. absurd (unadmitted c.admissible.result c.if-not-admissible.true (c.admissible.ensures.1 is.admissible))))
 
 pub returns-then-has_loss-clause-walked : goal.returns-then-has_loss-clause-walked
 returns-then-has_loss-clause-walked g c =
     let problem = c.args.self.now.problem.now in let relaxed = g.P.PricedProblem.problem c.args.self.now.priced.now in let found = c.args.found.now in
     walked_nothing problem c.args.selection [] _ _ found c.requires.ready
-    (covers_leaf problem relaxed c.args.selection found.best found.read c.requires.long c.args.self.now.same
+    (covers_leaf problem relaxed c.args.selection found.best found.incumbent_read c.requires.long c.args.self.now.same
     (λ w is e. absurd (no_eligible_loss problem relaxed c.args.selection c.has_loss.result w c.args.self.now.same c.if-has_loss.true c.has_loss.ensures is)))
 
 pub returns-clause-walked : goal.returns-clause-walked

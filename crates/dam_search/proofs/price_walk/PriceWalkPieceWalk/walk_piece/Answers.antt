@@ -26,4 +26,4 @@ returns-clause-walked g c =
     let by = c.args.self.now in let walk = c.walk_by_prices.ensures in let a = c.walk_by_prices.result in
     let suits = both_hold by.depth _ (node_count (length by.problem.now.blocks - _)) _ c.requires.suits in
     walked_whole by.problem.now _ _ c.args.piece a walk.piece c.requires.piece
-    (subst (λ (n : ℕ). IsSound by.problem.now (choice n c.args.piece) a.best a.read a.done) suits.0 walk.sound) walk.done suits.1
+    (subst (λ (n : ℕ). IsSound by.problem.now (choice n c.args.piece) a.best a.incumbent_read a.done) suits.0 walk.sound) walk.done suits.1

@@ -6,9 +6,9 @@ import os
 import subprocess
 import sys
 
+import costs_by_shape
 import judge
 import peaks
-import shapes
 from shared.preload import LEFT, SECONDS, HostileProgram, RefusedCalls
 from rows import AUCTION, CLOSE, DAY, OPEN_AUCTION, TOP
 from shared.printed import Printed
@@ -96,7 +96,7 @@ def check_freed_texts(runs):
             runs.check(f"{word} starts {started} threads with a block of {least} bytes or more", (started > 0) == is_held)
     # as often as a run that has the text, and then comes to a fault
     for word, data, faulty in [("clear", AUCTION, OPEN_AUCTION), ("day", OPEN_AUCTION, AUCTION)]:
-        for workers in map(str, range(1, shapes.MOST_WORKERS + 1)):
+        for workers in map(str, range(1, costs_by_shape.MOST_WORKERS + 1)):
             tried = (([word, "--workers", workers], it + b"\n" * (1 << 20), RefusedCalls("beside", most=1 << 20)) for it in (data, faulty))
             (_, made), (_, least) = (runs.program.run(*it) for it in tried)
             runs.check(f"{word} --workers {workers} asks for memory {made} times with its text, and not {least}", made == least)
@@ -110,7 +110,7 @@ def check_reads(runs):
             _, made = runs.program.run([word], text, RefusedCalls("read", most=most))
             at_once = "one byte" if most else "as much as it asks for"
             runs.check(f"{word} reads {len(text)} bytes by {made} calls that give {at_once}", least <= made <= greatest)
-        answer, rest = runs.run_for_answer([word], data), data.removeprefix(DAY)
+        answer, rest = runs.capture_answer([word], data), data.removeprefix(DAY)
         for length in LENGTHS:
             empty = b"\n" * (length - len(data))
             for text in (data + empty, DAY + empty + b"\n" + rest.removesuffix(b"\n")):
@@ -148,7 +148,7 @@ def check_writes(runs):
     """A text of any length is written by one call, if the stream takes it whole."""
     refused = DAY + b"cancel,ABCDEFGH,NAME-NUMBER1,,,,,,\n" * rules.MOST_DAY_COMMANDS
     tried = [("replay", AUCTION, 500), ("replay", refused, 200_000), ("clear", AUCTION, 500), ("day", OPEN_AUCTION, 500)]
-    tried = [(*it, None) for it in tried] + [it for count in AMENDS for it in amended_journals(runs.program, count)]
+    tried = [(*it, None) for it in tried] + [it for count in AMENDS for it in capture_amended_journals(runs.program, count)]
     for word, data, least, right in tried:
         got, made = runs.program.run([word], data, RefusedCalls("write"))
         about = f"{word} writes {len(got.stdout):,} bytes by {made} calls: status {got.status}, {got.stderr[:80]!r}"
@@ -158,7 +158,7 @@ def check_writes(runs):
         runs.program.write_input(data).unlink()
 
 
-def amended_journals(program, count):
+def capture_amended_journals(program, count):
     """Yields a day of one participant whose blocks are amended so often, and its closed journal, each with its right output. All blocks
     are accepted, at one price. What a block gains shows its last amend."""
     begin = [b"day,100,,,,,,,\n", *map(peaks.block_submit, peaks.NAMES)]
@@ -178,11 +178,11 @@ def check_books_by_size(runs):
     sides, sizes = [b"buy", b"sell"], range(STEP, rules.MOST_HOURLY + 1, STEP)
     orders = [b"submit,A,%d,hour,%b,%d,%d:1,,\n" % (at, sides[at % 2], at % 97, at % 23 + 1) for at in range(rules.MOST_HOURLY)]
     block = b"submit,A,K,block,sell,-100,1:1;23:1,,\n"
-    for words, periods in itertools.product([shapes.REPLAY, shapes.CLEAR, shapes.DAY], rules.DAYS):
+    for words, periods in itertools.product([costs_by_shape.REPLAY, costs_by_shape.CLEAR, costs_by_shape.DAY], rules.DAYS):
         for first, counts in ((b"", range(SMALL_BOOK + 1)), (block, sizes)):
-            begin, end = b"day,%d,,,,,,,\n" % periods + first, CLOSE * (words != shapes.DAY)
+            begin, end = b"day,%d,,,,,,,\n" % periods + first, CLOSE * (words != costs_by_shape.DAY)
             texts = [begin + b"".join(orders[:count]) + end for count in counts]
-            found = list(runs.pool.map(lambda text: runs.program.run_for_peak(words, text), texts))
+            found = list(runs.pool.map(lambda text: runs.program.measure_peak(words, text), texts))
             for count, (got, held, growths), (_, more_held, more) in zip(counts, found, [*found[1:], found[-1]]):
                 about = f"{words[0]} of {count} hourly orders{' and a block' * (first == block)} on {periods} periods"
                 runs.check(f"{about}: status {got.status}, {got.stderr[:80]!r}", (got.status, got.stderr) == (0, b""))
@@ -204,7 +204,8 @@ def check_stacks(runs):
 
 
 def check_copies(runs):
-    """A day asks for memory as often for each command, however many orders the book holds: no command copies the book."""
+    """A day asks for memory as often for each command, however many orders the book holds: no command copies all orders, each into a block
+    of its own. The instructions of runs on full books, which the part `shapes` counts, would show another copy."""
     records = ["submit,%s,N-%d,hour,buy,0,1:1,,\n", "amend,%s,N-%d,,,1,1:1,,\n", "cancel,%s,N-%d,,,,,,\n"]
     tried = [(24, "A", rules.MOST_HOURLY), *((periods, codes, 600) for periods in rules.DAYS for codes in ("A", "AB", "ABCDEFGH"))]
     for (periods, codes, orders), last in itertools.product(tried, range(len(records))):

@@ -7,7 +7,7 @@ PARTICIPANTS = ["A", "B", "NORD", "STADTWKE"]
 LIMITS = [rules.LOWEST_PRICE, rules.LOWEST_PRICE + 1, -1, 0, 1, rules.HIGHEST_PRICE - 1, rules.HIGHEST_PRICE]
 
 
-def price_source(rng):
+def draw_price_source(rng):
     """The generator of limit prices."""
     kind = rng.randrange(6)
     if kind == 0:
@@ -24,7 +24,7 @@ def price_source(rng):
     return lambda: middle + step * rng.randint(-5, 5)
 
 
-def volume_source(rng):
+def draw_volume_source(rng):
     """The generator of volumes."""
     kind = rng.randrange(5)
     if kind == 0:
@@ -106,7 +106,7 @@ class Draft:
         """With profiles, or without; or else by chance."""
         self.rng = rng
         self.periods = rng.choice(list(rules.DAYS))
-        self.price, self.volume = price_source(rng), volume_source(rng)
+        self.price, self.volume = draw_price_source(rng), draw_volume_source(rng)
         self.block_price, self.block_volume = self.price, self.volume
         few = rng.sample(range(1, self.periods + 1), rng.choice([1, 1, 2, 3]))
         self.active = few if rng.random() < 0.85 else list(range(1, self.periods + 1))

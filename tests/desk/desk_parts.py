@@ -1,4 +1,4 @@
-"""parts.py ROOM [--all | --count] [PART..]: runs the parts of the tests of a desk, on ROOM/dam-desk."""
+"""desk_parts.py ROOM [--all | --count] [PART..]: runs the parts of the tests of a desk, on ROOM/dam-desk."""
 
 import os
 import resource
@@ -8,7 +8,7 @@ from pathlib import Path
 
 sys.dont_write_bytecode = True
 TESTS = Path(__file__).resolve().parents[1]
-sys.path[:0] = [str(TESTS), str(TESTS / "fuzz")]
+sys.path.insert(0, str(TESTS))
 
 import crashes
 import files
@@ -22,7 +22,7 @@ import streams
 from device import DeskProgram
 from journals import DamProgram
 from shared.counts import Counts
-from shared.parts import parse_parts_or_exit
+from shared.parts_asked import parse_parts_or_exit
 
 PARTS = {
     "stand_ins": stand_ins.check_stand_ins,
@@ -48,12 +48,12 @@ def main():
     counts, dam = Counts(), DamProgram(os.environ["DAM"])
     desk = DeskProgram([Path(room) / "dam-desk"], room)
     if asked.counts_only:
-        return shape_costs.run_and_write_tables(desk)
+        return shape_costs.run_and_write_cost_tables(desk)
     for name in asked.names:
         begun = time.monotonic(), read_processor_time()
         PARTS[name](counts, desk, dam, asked.is_whole)
         print(f"{name}: {time.monotonic() - begun[0]:.0f} s, {read_processor_time() - begun[1]:.0f} s of a processor", flush=True)
-    return counts.print_totals()
+    return counts.print_totals_and_return_status()
 
 
 if __name__ == "__main__":

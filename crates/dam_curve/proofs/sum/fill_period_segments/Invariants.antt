@@ -3,7 +3,7 @@ use Rattle.std.proofs.Common.{◌≡◌, ◌*◌, ◌≤◌, ◌++◌, drop}
 use Rattle.dam_book.specs.Limits.{lowest_price, greatest_volume}
 use Rattle.dam_hour.specs.Limits.{price_span}
 use Rattle.dam_curve.specs.inside.Segments.{segments_from}
-use Rattle.dam_curve.proofs.sum.write_period_segments.Given as goal
+use Rattle.dam_curve.proofs.sum.fill_period_segments.Given as goal
 
 abbrev pub invariant-loop-step : goal.invariant-loop-step
 invariant-loop-step g l = record {

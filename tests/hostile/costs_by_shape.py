@@ -21,10 +21,10 @@ from again import REFUSALS
 from costs import crowded_book
 from judge import UNFINISHED
 from shared.cost_tables import Cost
-from shared.instructions import FIXED, run_for_counts
+from shared.instructions import FIXED, measure_counts
 from shared.preload import HostileProgram, RefusedCalls  # by which `lib` is found
 from shared.records import journal_text, volumes_text
-from shared.shapes import COMMANDS, LONG, OTHERS, SHORT, SIDES, commands_by_name
+from shared.shapes import COMMANDS, LONG, OTHERS, SHORT, SIDES, named_commands
 from lib.base import rules
 
 import full  # of tests/fuzz
@@ -70,14 +70,14 @@ def runs_of_commands():
     """Yields the runs on commands of each kind."""
     for shape in (SHORT, LONG):
         first = list(shape.submits_of_book())
-        for about, records in commands_by_name(shape):
+        for about, records in named_commands(shape):
             for run in runs_of_engines(shape, [*first, *itertools.islice(records, COMMANDS)]):
                 yield f"{run.words[0]} {shape.periods}: {about}", run
         refused = itertools.cycle([shape.submit_of_hour(0), first[-1], shape.amend_of("X", 1, shape.volumes()), shape.cancel_of("X")])
         closed = [*first[:-1], "close,,,,,,,,\n", *itertools.islice(refused, COMMANDS)]
         yield f"replay {shape.periods}: Closed", Run(REPLAY, journal_text(closed, True, shape.periods))
     for shape in OTHERS:
-        *_, (about, records) = commands_by_name(shape)
+        *_, (about, records) = named_commands(shape)
         for run in runs_of_engines(shape, [*shape.submits_of_book(), *itertools.islice(records, COMMANDS)]):
             yield f"{run.words[0]} {shape.periods}: {about}", run
 
@@ -85,11 +85,11 @@ def runs_of_commands():
 def runs_of_full_books():
     """Yields the runs on full books: with commands of each kind, by one participant, and with orders that they refuse."""
     first = list(SHORT.submits_of_book(FULL_HOURS))
-    for about, records in commands_by_name(SHORT):
+    for about, records in named_commands(SHORT):
         if about != "hourly orders":
             records = [*first, SHORT.cancel_of(SHORT.name_of(1)), *itertools.islice(records, FULL_COMMANDS)]
             yield f"replay of a full book: {about}", Run(REPLAY, journal_text(records))
-    *_, (about, records) = commands_by_name(SHORT)
+    *_, (about, records) = named_commands(SHORT)
     records = [*first, SHORT.cancel_of(SHORT.name_of(1)), *itertools.islice(records, rules.MOST_DAY_COMMANDS - len(first) - 1)]
     yield f"day of a full journal of one participant: {about}", Run(DAY, journal_text(records, False))
     for shape in (SHORT, LONG):
@@ -108,9 +108,9 @@ def runs_of_participants():
         yield f"{run.words[0]} of {rules.MOST_HOURLY:,} participants", run
 
 
-def make_runs_by_workers():
+def generate_runs_by_workers():
     """Yields the clearings of a book by each number of workers."""
-    data = run_script("make_blocks.py", "random", 20, 1, 1, 20, THIN, "free")
+    data = generate_journal("make_blocks.py", "random", 20, 1, 1, 20, THIN, "free")
     for workers in range(2, MOST_WORKERS + 1):
         yield f"clear by {workers} workers", Run(["clear", "--workers", str(workers)], data)
 
@@ -130,6 +130,13 @@ def runs_of_closes():
     for count in (30, 3_000):
         records = [*SHORT.submits_of_book(), *["close,,,,,,,,\n"] * count]
         yield f"{count:,} closes at a gate", Run([], journal_text(records, False), program=REFUSALS)
+
+
+def runs_at_gates():
+    """Yields the runs on a full book on each length of a day: a keeper takes the orders, and then a gate, with a look after each of them."""
+    for periods in rules.DAYS:
+        data = journal_text(map(SHORT._replace(periods=periods).submit_of_hour, range(FULL_HOURS)), False, periods)
+        yield f"{FULL_HOURS:,} orders at a gate, {periods} periods", Run([], data, program=REFUSALS)
 
 
 def runs_of_gaps():
@@ -156,31 +163,36 @@ def runs_of_searches():
             yield f"clear by {1 << cut} pieces, limited: {about}", Run(words, data, (0, UNFINISHED))
 
 
-def run_script(script, *words):
+def generate_journal(script, *words):
     """A closed book that a script of the bench prints."""
     words = [sys.executable, TOP / "bench" / script, *map(str, words)]
     return subprocess.run(words, stdout=subprocess.PIPE, check=True).stdout
 
 
-def make_runs_of_blocks():
+def generate_runs_of_blocks():
     """Yields the runs on blocks as users have them, in markets with few orders for a period, and on families of books that are hard."""
     for number, (kind, parts) in enumerate(itertools.product(KINDS, (1, 4))):
         bonds = full.BONDS[(number + number // 2) % 4]
-        yield f"clear: {kind}, {24 * parts} periods, {bonds}", Run(CLEAR, run_script("make_blocks.py", kind, 50, 1, parts, 12, 400, bonds))
+        data = generate_journal("make_blocks.py", kind, 50, 1, parts, 12, 400, bonds)
+        yield f"clear: {kind}, {24 * parts} periods, {bonds}", Run(CLEAR, data)
     for family in FAMILIES:
-        yield f"clear: {family}", Run(CLEAR, run_script("make_family.py", family, 400, 12))
+        yield f"clear: {family}", Run(CLEAR, generate_journal("make_family.py", family, 400, 12))
     for count in (4, 8, *range(16, rules.MOST_BLOCKS + 1)):
-        yield f"clear: {count} blocks in a thin market", Run(CLEAR, run_script("make_blocks.py", "random", 20, 1, 1, count, THIN, "free"))
+        data = generate_journal("make_blocks.py", "random", 20, 1, 1, count, THIN, "free")
+        yield f"clear: {count} blocks in a thin market", Run(CLEAR, data)
+        if count == 16:
+            words = [*CLEAR, "--nodes", str((2 << count) - 1)]
+            yield f"clear: {count} blocks in a thin market, the least limit that can't bind", Run(words, data)
     for periods in rules.DAYS:
         drawn = full.FullDay(random.Random(f"whole {periods}"), periods, "large", WHOLE, True, "free")
         yield f"clear: a full book of large blocks, {periods} periods", Run(CLEAR, drawn.draw_text())
     yield "clear of a crowded period up to a node", Run([*CLEAR, "--nodes", "1"], journal_text(crowded_book()), (UNFINISHED,))
 
 
-def make_runs_of_one_sided_books():
+def generate_runs_of_one_sided_books():
     """Yields the clearings of books without the hourly orders of a side, and blocks with a volume of their own in each period."""
     for (kind, count), side in itertools.product((("shaped", 16), ("shaped", 20), ("random", 20)), SIDES):
-        data = run_script("make_blocks.py", kind, 20, 1, 1, count, THIN, "free").splitlines(keepends=True)
+        data = generate_journal("make_blocks.py", kind, 20, 1, 1, count, THIN, "free").splitlines(keepends=True)
         kept = b"".join(line for line in data if f",hour,{side},".encode() not in line)
         yield f"clear: {count} {kind} blocks without an hourly {side}", Run(CLEAR, kept)
 
@@ -250,23 +262,25 @@ def runs_of_texts():
         yield f"{words[0]} {shape.periods}: a fault", Run(words, text[:-1] + b",\n", (1,))
 
 
-def make_runs_of_every_kind():
-    books = [runs_of_commands(), runs_of_full_books(), runs_of_participants(), runs_of_small_books(), runs_of_closes(), runs_of_gaps()]
-    searches = [make_runs_by_workers(), runs_of_searches(), make_runs_of_blocks(), make_runs_of_one_sided_books(), runs_of_walks()]
+def generate_runs_of_every_kind():
+    books = [runs_of_commands(), runs_of_full_books(), runs_of_participants(), runs_of_small_books(), runs_of_closes(), runs_at_gates()]
+    books.append(runs_of_gaps())
+    scripts = [generate_runs_by_workers(), generate_runs_of_blocks(), generate_runs_of_one_sided_books()]
+    searches = [runs_of_searches(), *scripts, runs_of_walks()]
     return dict(itertools.chain(*books, *searches, runs_of_texts(), runs_of_long_texts()))
 
 
-def run_for_cost(program, run):
+def measure_cost(program, run):
     program = HostileProgram(run.program, program.room) if run.program else program
     printed, peak = program.run(run.words, run.data, RefusedCalls("peak"))
     if printed.status not in run.statuses:
         raise ValueError(f"{run.words}: status {printed.status}, {printed.stderr[:80]!r}")
-    found, growths = run_for_counts(program, run.words, run.data, FIXED, printed.status)
+    found, growths = measure_counts(program, run.words, run.data, FIXED, printed.status)
     program.write_input(run.data).unlink(missing_ok=True)
     return Cost(found, peak, growths if run.is_alone else None)
 
 
-def run_for_costs(runs):
+def measure_costs(runs):
     """Yields the name of each run, and its cost."""
-    tried = make_runs_of_every_kind()
-    yield from zip(tried, runs.pool.map(lambda run: run_for_cost(runs.program, run), tried.values()))
+    tried = generate_runs_of_every_kind()
+    yield from zip(tried, runs.pool.map(lambda run: measure_cost(runs.program, run), tried.values()))

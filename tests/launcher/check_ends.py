@@ -21,7 +21,7 @@ wait
 
 
 class CheckTests(RepositoryCase):
-    def check_end(self, status, signals, ignored=()):
+    def start_and_assert_end(self, status, signals, ignored=()):
         """Starts a check that ignores some signals, sends signals to it, but not to the part that is running, and sees how both end."""
         running = os.open(f"{self.at.top}/running", os.O_RDONLY | os.O_NONBLOCK)
         shell = [f"trap '' {name}" for name in ignored] + ['exec "$0" --no-install']
@@ -48,11 +48,11 @@ class CheckTests(RepositoryCase):
         SourceFileLoader("check", check.__file__).exec_module(check)
         for name in ("low", "left", "right"):
             self.at.write(f"crates/{name}/out/rlib/{name}.rlib/checked", name)
-        crates = check.Crates(f"{self.at.top}/copied")
-        crates.note_line("rt: low proved")
-        crates.note_line("rt: left is kept: an earlier run on this machine proved the same files over the same libraries")
-        crates.note_line("rt: right NOT PROVED")
-        rows = list(crates.stop_and_list_rows())
+        crates = check.ProofWatch(f"{self.at.top}/copied")
+        crates.note_line_and_copy_library("rt: low proved")
+        crates.note_line_and_copy_library("rt: left is kept: an earlier run on this machine proved the same files over the same libraries")
+        crates.note_line_and_copy_library("rt: right NOT PROVED")
+        rows = list(crates.rows())
         self.assertEqual(sorted(os.listdir(f"{self.at.top}/copied")), ["left.rlib", "low.rlib"])
         self.assertEqual(self.at.read("copied/left.rlib/checked"), "left")
         self.assertIn("proved 0.0 minutes after the start", rows[0])
@@ -74,11 +74,13 @@ class CheckTests(RepositoryCase):
                 ends.callback(process.wait)
                 ends.callback(process.kill)
             ends.callback(os.kill, int(stranger), signal.SIGKILL)
-            crates = check.Crates(f"{self.at.top}/copied")
+            crates = check.ProofWatch(f"{self.at.top}/copied")
+            crates.start_thread()
             counted = {("low", False, str(proof.pid)), ("low", True, str(edit.pid))}
             self.wait_for(lambda: {it for it, seconds in list(crates.seconds.items()) if seconds} == counted)
-            crates.note_line("rt: low proved")
-            self.assertEqual(len(list(crates.stop_and_list_rows())), 1)
+            crates.note_line_and_copy_library("rt: low proved")
+            crates.end_thread()
+            self.assertEqual(len(list(crates.rows())), 1)
             self.assertEqual(set(crates.seconds), counted)
 
     def test_the_totals_are_written_with_the_commit(self):
@@ -98,7 +100,7 @@ class CheckTests(RepositoryCase):
         for changed, of in ((None, commit), ("crates/low/src/lib.rt", None)):
             if changed:
                 self.at.write(changed, "changed meanwhile")
-            check.write_record(whole, commit, False)
+            check.write_totals_record(whole, commit, False)
             told = json.loads(self.at.read("out/check.json"))
             self.assertEqual((told["commit"], told["command"], told["passed"], told["failed"]), (of, "./check", 7, 1))
 
@@ -108,5 +110,5 @@ class CheckTests(RepositoryCase):
         os.chmod(f"{self.at.top}/tests/wrong-bodies", 0o755)
         os.mkfifo(f"{self.at.top}/running")
         for number in (signal.SIGTERM, signal.SIGINT, signal.SIGHUP):
-            self.check_end(128 + number, [number])
-        self.check_end(128 + signal.SIGTERM, [signal.SIGHUP, signal.SIGINT, signal.SIGTERM], ["HUP", "INT"])
+            self.start_and_assert_end(128 + number, [number])
+        self.start_and_assert_end(128 + signal.SIGTERM, [signal.SIGHUP, signal.SIGINT, signal.SIGTERM], ["HUP", "INT"])

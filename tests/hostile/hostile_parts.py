@@ -1,4 +1,4 @@
-"""parts.py ROOM PROGRAM [--all | --count] [PART..]: runs the parts of the tests of a hostile system, with ROOM/refuse.so and
+"""hostile_parts.py ROOM PROGRAM [--all | --count] [PART..]: runs the parts of the tests of a hostile system, with ROOM/refuse.so and
 ROOM/collide."""
 
 import shutil
@@ -10,13 +10,13 @@ TESTS = Path(__file__).resolve().parents[1]
 sys.path[:0] = [str(TESTS), str(TESTS / "fuzz")]
 
 import again
-import checks
 import costs
+import costs_by_shape
 import peaks
+import properties
 import rows
-import shapes
 from shared.cost_tables import check_costs, write_tables
-from shared.parts import parse_parts_or_exit
+from shared.parts_asked import parse_parts_or_exit
 from shared.preload import HostileProgram
 
 
@@ -30,7 +30,7 @@ def check_calls(runs):
     runs.check_rows("threads refused", rows.rows_of_threads())
     runs.check_rows("random bytes refused", rows.rows_of_random_bytes())
     runs.check_rows("reads and writes that fail", rows.rows_of_devices())
-    checks.check_devices(runs)
+    properties.check_devices(runs)
 
 
 def check_retries(runs):
@@ -38,24 +38,24 @@ def check_retries(runs):
 
 
 def check_texts(runs):
-    checks.check_freed_texts(runs)
-    checks.check_reads(runs)
-    checks.check_writes(runs)
+    properties.check_freed_texts(runs)
+    properties.check_reads(runs)
+    properties.check_writes(runs)
 
 
 def check_threads(runs):
-    checks.check_seeds(runs)
-    checks.check_threads(runs)
-    checks.check_strays(runs)
+    properties.check_seeds(runs)
+    properties.check_threads(runs)
+    properties.check_strays(runs)
 
 
 def check_books(runs):
-    checks.check_books_by_size(runs)
-    checks.check_copies(runs)
+    properties.check_books_by_size(runs)
+    properties.check_copies(runs)
 
 
 def check_shapes(runs):
-    check_costs(runs, shapes.HERE, shapes.run_for_costs(runs))
+    check_costs(runs, costs_by_shape.HERE, costs_by_shape.measure_costs(runs))
 
 
 PARTS = {
@@ -65,7 +65,7 @@ PARTS = {
     "threads": check_threads,
     "texts": check_texts,
     "books": check_books,
-    "stacks": checks.check_stacks,
+    "stacks": properties.check_stacks,
     "peaks": peaks.check_peaks,
     "names": costs.check_names,
     "cancels": costs.check_cancels,
@@ -80,13 +80,13 @@ def main():
     asked = parse_parts_or_exit(words, PARTS)
     runs = rows.RunsOfRows(HostileProgram(program, room), asked.is_whole)
     if asked.counts_only:
-        return write_tables(shapes.HERE, shapes.run_for_costs(runs))
+        return write_tables(costs_by_shape.HERE, costs_by_shape.measure_costs(runs))
     for name in asked.names:
         if name in COUNTED and not shutil.which("valgrind"):
             runs.leave_out(f"{name}: valgrind, which counts instructions, is missing")
         else:
             PARTS[name](runs)
-    return runs.print_totals()
+    return runs.print_totals_and_return_status()
 
 
 if __name__ == "__main__":

@@ -21,7 +21,7 @@ import numpy
 
 from ..base import rules
 from ..results import selection
-from .best import Curve, Selection, tried_words
+from .recursive_enumeration import Curve, Selection, tried_words
 
 LOW_BITS = 14
 # The welfare of a period that doesn't balance. It is so low that a sum with it is under every welfare, and 100 of it are a number.
@@ -59,7 +59,7 @@ class Period:
         """The welfare by the volume that is taken, from `least` to `most`."""
         table = numpy.full(self.most - self.least + 1, NEVER, dtype=numpy.int64)
         balanced = table[self.first - self.least : self.last - self.least + 1]
-        balanced[0] = self.curve.welfare(self.buys - self.first)
+        balanced[0] = self.curve.welfare_or_none(self.buys - self.first)
         # The welfare that each further tenth adds.
         counts = numpy.diff(numpy.clip(self.ends, self.first, self.last))
         balanced[1:] = numpy.repeat(-numpy.array(self.limits, dtype=numpy.int64), counts)
@@ -70,14 +70,14 @@ class Period:
         """The period's price for each of these pairs of numbers of high and of low bits, for which it balances."""
         with self.lock:
             if self.coded is None:
-                self.coded = self.code_prices()
+                self.coded = self.codes_and_prices()
         codes, prices = self.coded
         taken = self.high.take(highs)
         taken += self.low.take(lows)
         taken += self.buys - self.first
         return prices.take(codes.take(taken))
 
-    def code_prices(self):
+    def codes_and_prices(self):
         """For each number of tenths from `first` to `last` the place of its price in a list, and that list.
 
         The last tenth taken and the next one have the ends of the supporting prices. So the price changes only where the limits
@@ -86,7 +86,7 @@ class Period:
         begins, prices = [], []
         for place, end in enumerate(self.ends):
             begins += [end, end + 1]
-            prices += [rules.price_between(edges[place], edges[place + 1])[0], edges[place + 1]]
+            prices += [rules.price_and_case(edges[place], edges[place + 1])[0], edges[place + 1]]
         counts = numpy.diff(numpy.clip(begins, self.first, self.last + 1))
         there = numpy.flatnonzero(counts)
         kind = numpy.uint8 if len(there) <= 256 else numpy.uint16
@@ -179,11 +179,11 @@ class Selections:
         """The price of a period that follows from each of these selections, for which it balances."""
         return self.periods[number].prices(numbers >> self.low_bits, numbers & self.all_low)
 
-    def accepted_of(self, numbers, place):
+    def are_accepted(self, numbers, place):
         """Which of these selections accept a block."""
-        return numbers & self.bit(place) != 0
+        return numbers & self.bit_of(place) != 0
 
-    def surplus(self, place, numbers):
+    def surpluses(self, place, numbers):
         """The surplus of a block that follows from each of these selections."""
         volumes = selection.net_volumes(self.problem.blocks[place].order)
         total = numpy.full(len(numbers), self.own[place], dtype=numpy.int64)
@@ -191,33 +191,33 @@ class Selections:
             total += net * self.prices(number, numbers)
         return total
 
-    def loses(self, place, numbers):
+    def are_losing(self, place, numbers):
         """Whether a block loses, together with its accepted descendants, in each of these selections, which accept it."""
-        gain = self.surplus(place, numbers)
+        gain = self.surpluses(place, numbers)
         for other in self.problem.rescuers[place]:
-            gain += self.surplus(other, numbers) * self.accepted_of(numbers, other)
+            gain += self.surpluses(other, numbers) * self.are_accepted(numbers, other)
         return gain < 0
 
-    def all_losing(self, numbers):
+    def are_all_losing(self, numbers):
         """For each block, whether it is accepted and loses in each of these selections: by families, from the last block to the
         first."""
         prices = numpy.array([self.prices(number, numbers) for number in self.periods])
         gains = numpy.einsum("bp,ps->bs", self.volumes, prices) + numpy.array(self.own, dtype=numpy.int64)[:, None]
         for place in reversed(range(self.count)):
-            gains[place] *= self.accepted_of(numbers, place)
+            gains[place] *= self.are_accepted(numbers, place)
             parent = self.problem.parents[place]
             if parent is not None:
                 gains[parent] += gains[place]
         return gains < 0
 
-    def bit(self, place):
+    def bit_of(self, place):
         return 1 << (self.count - 1 - place)
 
-    def number(self, accepted):
-        return sum(self.bit(place) for place in accepted)
+    def number_of(self, accepted):
+        return sum(self.bit_of(place) for place in accepted)
 
-    def accepted(self, number):
-        return frozenset(place for place in range(self.count) if number & self.bit(place))
+    def accepted_places(self, number):
+        return frozenset(place for place in range(self.count) if number & self.bit_of(place))
 
 
 def greatest_sum(problem):
@@ -241,7 +241,7 @@ class Rows:
         welfares = self.welfares()
         waiting, held = [], 0
         for row in reversed(range(len(self.highs))):
-            found = self.select_above(row, welfares[row])
+            found = self.count_admitted_and_select_above(row, welfares[row])
             waiting.append(found)
             held += len(found[0])
             if held >= BATCH or row == 0:
@@ -255,7 +255,7 @@ class Rows:
         welfares = every.high_own[rows][:, None] + every.low_own[every.lows][None, :]
         for period in every.periods.values():
             self.add_period_welfare(welfares, period, rows)
-            self.progress.step_or_raise(len(self.highs))
+            self.progress.count_and_show_or_raise(len(self.highs))
         return welfares
 
     def add_period_welfare(self, welfares, period, rows):
@@ -270,7 +270,7 @@ class Rows:
                 worths = table[last:].take(places)
             welfares[row] += worths
 
-    def select_above(self, row, welfares):
+    def count_admitted_and_select_above(self, row, welfares):
         """The numbers and welfares of the selections of a row that rank above the floor."""
         every, high = self.every, int(self.highs[row])
         admitted = every.links.are_admitted_across(every.all_low, every.lows, high)
@@ -285,50 +285,50 @@ class Rows:
         for first in range(0, len(numbers), BATCH):
             part = slice(first, first + BATCH)
             over = self.floor.are_above(welfares[part], numbers[part])
-            gaining = self.drop_losing(numbers[part][over])
+            gaining = self.count_and_drop_losing(numbers[part][over])
             lasting = numpy.isin(numbers[part], gaining)
             self.floor.lift_to_best(welfares[part][lasting], numbers[part][lasting])
 
-    def drop_losing(self, numbers):
+    def count_and_drop_losing(self, numbers):
         """Those of some selections of which no accepted block loses. As long as the block that has lost most often leaves out many,
         it alone is looked at, in the selections that accept it; then all blocks are."""
         self.looked += len(numbers)
         for place in sorted(self.lost, key=lambda place: -self.lost[place]):
             before = len(numbers)
             if before >= FEW:
-                accepting = numpy.flatnonzero(self.every.accepted_of(numbers, place))
-                losing = accepting[self.every.loses(place, numbers[accepting])]
+                accepting = numpy.flatnonzero(self.every.are_accepted(numbers, place))
+                losing = accepting[self.every.are_losing(place, numbers[accepting])]
                 self.lost[place] += len(losing)
                 numbers = numpy.delete(numbers, losing)
-            self.progress.step_or_raise(0)
+            self.progress.count_and_show_or_raise(0)
             if 4 * len(numbers) > 3 * before:
                 break
         gaining = [numbers[:0]]
         for first in range(0, len(numbers), FEW):
             part = numbers[first : first + FEW]
-            losing = self.every.all_losing(part)
+            losing = self.every.are_all_losing(part)
             for place, count in enumerate(losing.sum(axis=1).tolist()):
                 self.lost[place] += count
             gaining.append(part[~losing.any(axis=0)])
         return numpy.concatenate(gaining)
 
 
-def find_better(problem, accepted, welfare, progress, jobs=1, low_bits=LOW_BITS):
+def find_better_and_how(problem, accepted, welfare, progress, jobs=1, low_bits=LOW_BITS):
     """The best selection, if it ranks above this eligible one, else None; and how that was found."""
     every = Selections(problem, low_bits)
-    published = Floor(welfare, every.number(accepted))
+    published = Floor(welfare, every.number_of(accepted))
     shares = [Rows(every, highs, published, progress) for highs in numpy.array_split(every.highs, jobs) if len(highs)]
     progress.add_expected_steps(len(every.highs) * len(every.periods))
     with ThreadPoolExecutor(jobs) as threads:
         try:
             floors = [running.result() for running in [threads.submit(share.find_best) for share in shares]]
         finally:
-            progress.end()
+            progress.stop_and_erase()
     best = max(floors, key=lambda floor: (floor.welfare, floor.number))
     how = tried_words(len(problem.blocks), sum(share.admitted for share in shares), sum(share.looked for share in shares))
     if best.number == published.number:
         return None, how
-    found = Selection(every.accepted(best.number), best.welfare)
-    if selection.eligible_welfare(problem, found.accepted) != found.welfare:
+    found = Selection(every.accepted_places(best.number), best.welfare)
+    if selection.eligible_welfare_or_none(problem, found.accepted) != found.welfare:
         raise AssertionError(f"the selection {sorted(found.accepted)} is not eligible with the welfare that the tables gave it")
     return found, how

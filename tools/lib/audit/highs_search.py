@@ -16,7 +16,7 @@ from scipy import optimize, sparse
 
 from ..base import rules
 from ..results import selection
-from . import best
+from . import recursive_enumeration
 
 EUR, MW = 100, 10  # cents and tenths: the program is reckoned in EUR per MWh and MW, for moderate numbers
 
@@ -54,14 +54,14 @@ class Program:
         self.costs, self.lower, self.upper, self.whole = [], [], [], []
         self.at, self.rows = [], []
 
-    def add_column(self, cost=0.0, lower=0.0, upper=numpy.inf, whole=False):
+    def add_and_return_column(self, cost=0.0, lower=0.0, upper=numpy.inf, whole=False):
         self.costs.append(cost)
         self.lower.append(lower)
         self.upper.append(upper)
         self.whole.append(whole)
         return len(self.costs) - 1
 
-    def add_row(self, terms, lower=-numpy.inf, upper=numpy.inf):
+    def add_and_return_row(self, terms, lower=-numpy.inf, upper=numpy.inf):
         """Terms are pairs of a column and a factor. Answers the row's number."""
         self.at += [(len(self.rows), column, factor) for column, factor in terms]
         self.rows.append((lower, upper))
@@ -91,23 +91,23 @@ class Model:
     def __init__(self, problem):
         self.problem = problem
         self.program = Program()
-        curves = best.welfare_curves(problem)
-        self.accepted = [self.program.add_column(whole=True, upper=1) for _ in problem.blocks]
+        curves = recursive_enumeration.curves_by_period(problem)
+        self.accepted = [self.program.add_and_return_column(whole=True, upper=1) for _ in problem.blocks]
         self.welfare, self.duality, self.value = [], [], 0
         self.size = 1.0  # of the greatest sum, by which the slack goes
-        self.prices = {number: self.add_period(number, curve) for number, curve in curves.items()}
-        gains = [self.add_gain(place, block.order) for place, block in enumerate(problem.blocks)]
+        self.prices = {number: self.add_period_and_return_price_column(number, curve) for number, curve in curves.items()}
+        gains = [self.add_gain_and_return_column(place, block.order) for place, block in enumerate(problem.blocks)]
         for place, gain in enumerate(gains):
             gains_of_rescuers = [(gains[other], 1) for other in problem.rescuers[place]]
-            self.program.add_row([(gain, 1), *gains_of_rescuers], lower=0)
+            self.program.add_and_return_row([(gain, 1), *gains_of_rescuers], lower=0)
         self.add_links_and_groups()
         self.slack = max(HALF, ROUNDING * self.size)
-        self.program.add_row(self.duality, upper=ROOM * self.slack)
-        self.least = self.program.add_row(self.welfare)
+        self.program.add_and_return_row(self.duality, upper=ROOM * self.slack)
+        self.least = self.program.add_and_return_row(self.welfare)
         for column, factor in self.welfare:
             self.program.costs[column] -= factor
 
-    def add_period(self, number, curve):
+    def add_period_and_return_price_column(self, number, curve):
         """The rows of a period; its price's column."""
         nets = [
             (place, volume)
@@ -117,26 +117,26 @@ class Model:
         ]
         least = max(sum(min(volume, 0) for _, volume in nets), curve.least)
         most = min(sum(max(volume, 0) for _, volume in nets), curve.most)
-        lower, upper = price_ends(curve, least, most)
+        lower, upper = least_and_greatest_price(curve, least, most)
         lower, upper = lower / EUR, upper / EUR
-        price = self.program.add_column(lower=lower, upper=upper)
+        price = self.program.add_and_return_column(lower=lower, upper=upper)
         taken = []
         for limit, volume in zip(curve.limits, curve.volumes):
             limit, volume = limit / EUR, volume / MW
-            take = self.program.add_column(upper=volume)
-            gain = self.program.add_column()
-            self.program.add_row([(gain, 1), (price, -volume)], lower=-limit * volume)
+            take = self.program.add_and_return_column(upper=volume)
+            gain = self.program.add_and_return_column()
+            self.program.add_and_return_row([(gain, 1), (price, -volume)], lower=-limit * volume)
             self.welfare.append((take, -limit))
             self.duality += [(take, limit), (gain, 1)]
             self.size += abs(limit * volume)
             taken.append((take, 1))
         balance = [(self.accepted[place], volume / MW) for place, volume in nets]
-        self.program.add_row(taken + balance, lower=curve.most / MW, upper=curve.most / MW)
+        self.program.add_and_return_row(taken + balance, lower=curve.most / MW, upper=curve.most / MW)
         self.duality.append((price, -curve.most / MW))
         self.value += curve.value / (EUR * MW)
         return price
 
-    def add_gain(self, place, order):
+    def add_gain_and_return_column(self, place, order):
         """The column of a block's gain: its surplus if it is accepted, else 0."""
         accepted, limit = self.accepted[place], order.price / EUR
         volumes = [(number, volume / MW) for number, volume in selection.net_volumes(order)]
@@ -145,13 +145,13 @@ class Model:
             for number, net in volumes
         ]
         least, most = min(0, sum(map(min, ends))), max(0, sum(map(max, ends)))
-        gain = self.program.add_column(lower=least, upper=most)
-        self.program.add_row([(gain, 1), (accepted, -most)], upper=0)
-        self.program.add_row([(gain, 1), (accepted, -least)], lower=0)
+        gain = self.program.add_and_return_column(lower=least, upper=most)
+        self.program.add_and_return_row([(gain, 1), (accepted, -most)], upper=0)
+        self.program.add_and_return_row([(gain, 1), (accepted, -least)], lower=0)
         surplus = [(self.prices[number], -net) for number, net in volumes]
         total = sum(net for _, net in volumes)
         # At least the surplus at the price, if it is accepted.
-        self.program.add_row([(gain, 1), *surplus, (accepted, -most)], lower=-limit * total - most)
+        self.program.add_and_return_row([(gain, 1), *surplus, (accepted, -most)], lower=-limit * total - most)
         self.welfare.append((accepted, -limit * total))
         self.duality += [(gain, 1), (accepted, limit * total)]
         self.size += max(abs(limit * total), most, -least)
@@ -160,11 +160,11 @@ class Model:
     def add_links_and_groups(self):
         for place, parent in enumerate(self.problem.parents):
             if parent is not None:
-                self.program.add_row([(self.accepted[place], -1), (self.accepted[parent], 1)], lower=0)
+                self.program.add_and_return_row([(self.accepted[place], -1), (self.accepted[parent], 1)], lower=0)
         for members in self.problem.groups().values():
-            self.program.add_row([(self.accepted[place], 1) for place in members], upper=rules.MOST_OF_GROUP)
-        for one, other in equal_blocks(self.problem):
-            self.program.add_row([(self.accepted[one], 1), (self.accepted[other], -1)], lower=0)
+            self.program.add_and_return_row([(self.accepted[place], 1) for place in members], upper=rules.MOST_OF_GROUP)
+        for one, other in pairs_of_equal_blocks(self.problem):
+            self.program.add_and_return_row([(self.accepted[one], 1), (self.accepted[other], -1)], lower=0)
 
     def restrict(self, welfare, fixed, room):
         """From now on solutions have at least a welfare, and accept or reject the blocks at the first places as in a list."""
@@ -175,9 +175,9 @@ class Model:
 
     def forbid(self, accepted):
         terms = [(column, -1 if place in accepted else 1) for place, column in enumerate(self.accepted)]
-        self.program.add_row(terms, lower=1 - len(accepted))
+        self.program.add_and_return_row(terms, lower=1 - len(accepted))
 
-    def solve_next(self, seconds):
+    def solve_for_selection_or_none(self, seconds):
         """A selection that isn't forbidden; None if there is none. Fails if HiGHS doesn't say.
 
         For books with equal prices HiGHS sometimes says wrongly that there is none, with its presolve or without; if it is
@@ -193,15 +193,15 @@ class Model:
         return None
 
 
-def price_ends(curve, least, most):
+def least_and_greatest_price(curve, least, most):
     """Between which prices the rule's price lies, for the net volumes from `least` to `most`: between supporting prices, and
     never beyond the limits of all orders but where no order or every one is taken."""
-    edges = [rules.price_between(*curve.supporting_prices(net))[0] for net in (curve.least, curve.most)]
+    edges = [rules.price_and_case(*curve.supporting_prices(net))[0] for net in (curve.least, curve.most)]
     lower, upper = min(curve.limits[:1] + edges), max(curve.limits[-1:] + edges)
     return max(lower, curve.supporting_prices(most)[0]), min(upper, curve.supporting_prices(least)[1])
 
 
-def equal_blocks(problem):
+def pairs_of_equal_blocks(problem):
     """Pairs of blocks that differ in name alone, without links and groups: the best selection doesn't accept the later one
     alone, since the earlier one in its place would rank above."""
     named = {place for place, parent in enumerate(problem.parents) if parent is not None}
@@ -225,7 +225,7 @@ def questions_to_highs(accepted, welfare, blocks):
             yield welfare, flags[:place] + [1]
 
 
-def find_better(problem, accepted, welfare, progress, tell=lambda words: None):
+def find_better_and_how(problem, accepted, welfare, progress, tell=lambda words: None):
     """A selection that ranks above this eligible one, or None if HiGHS has none; and how that was found. `tell` gets in words how far
     the search is."""
     model = Model(problem)
@@ -235,14 +235,14 @@ def find_better(problem, accepted, welfare, progress, tell=lambda words: None):
     for least, fixed in questions_to_highs(accepted, welfare, len(problem.blocks)):
         for count in itertools.count():
             model.restrict(least, fixed, ROOM if count < TOO_MANY else 1)
-            other = solve_or_time_out(model, progress, looked)
+            other = solve_for_selection_or_time_out(model, progress, looked)
             if other is None:
                 break
             looked += 1
             tell(progress_words(looked))
-            value = selection.eligible_welfare(problem, other)
+            value = selection.eligible_welfare_or_none(problem, other)
             if value is not None and selection.ranks_above(len(problem.blocks), value, other, welfare, accepted):
-                return best.Selection(other, value), "found by HiGHS"
+                return recursive_enumeration.Selection(other, value), "found by HiGHS"
             model.forbid(other)
     kind = "which breaks a rule or ranks below" if looked == 1 else "which break a rule or rank below"
     return None, f"HiGHS offers {looked} other{'s' * (looked > 1)}, {kind}" if looked else "HiGHS found none better"
@@ -254,12 +254,12 @@ def progress_words(looked):
     return f"HiGHS is still searching{found}"
 
 
-def solve_or_time_out(model, progress, looked):
+def solve_for_selection_or_time_out(model, progress, looked):
     """The next selection that HiGHS offers, or None. Fails if no time is left."""
     left = progress.seconds_left()
     try:
         if left > 0:
-            return model.solve_next(left)
+            return model.solve_for_selection_or_none(left)
     except TimeoutError:
         pass
     raise TimeoutError(progress.timeout_message(progress_words(looked)))

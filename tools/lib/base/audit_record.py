@@ -15,7 +15,7 @@ def unread_record(verdict, status, message, files=()):
     """The record of a day of which nothing is known. Of its files, each with its role, none was read."""
     inputs = [{"role": role, "file": file, "bytes": None, "sha256": None} for role, file in files]
     said = {"verdict": verdict, "status": status, "message": message, "version": VERSION, "seconds": 0.0, "inputs": inputs}
-    return {**said, "checked": [], "day": None, "search": None, "notes": [], "faults": []}
+    return {**said, "checked": [], "day": None, "search": None, "sent": None, "notes": [], "faults": []}
 
 
 def verdict_counts(records):

@@ -14,7 +14,7 @@ pub record IsWalkedPiece (problem : ProblemState) (depth nodes : ℕ) (a : Piece
   pub sound : IsSoundAnswer problem depth a
   pub spent : nodes < node_count (length problem.blocks - depth)
       → IsSpent problem (choice depth a.piece) (length problem.blocks - depth) 0 nodes
-      a.visited a.read a.done
+      a.visited a.incumbent_read a.done
   pub done : node_count (length problem.blocks - depth) ≤ nodes → a.done ≡ true
 
 -- a seat for this number of pieces, which drew and offered nothing
@@ -31,5 +31,5 @@ pub record AreAnswersOf (problem : ProblemState) (depth nodes besides : ℕ) (v 
     (answers : List PieceAnswer) : Type 0 where
   pub pieces : map (λ (a : PieceAnswer). a.piece) answers ≡ v.drawn
   pub walked : All (λ (a : PieceAnswer). IsWalkedPiece problem depth nodes a) answers
-  pub greatest_read : All (λ (a : PieceAnswer). a.read ≤ v.greatest_read) answers
+  pub greatest_read : All (λ (a : PieceAnswer). a.incumbent_read ≤ v.greatest_read) answers
   pub offered : v.greatest_offer ≡ max besides (greatest_found answers)

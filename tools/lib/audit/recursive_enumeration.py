@@ -41,7 +41,7 @@ class Curve:
         # The net volumes at which an execution balances.
         self.least = self.most - self.ends[-1]
 
-    def welfare(self, net):
+    def welfare_or_none(self, net):
         """None if no execution balances."""
         taken = self.most - net
         if not 0 <= taken <= self.ends[-1]:
@@ -58,7 +58,7 @@ class Curve:
         return low, high
 
 
-def welfare_curves(problem):
+def curves_by_period(problem):
     return {number: Curve(orders) for number, orders in problem.orders.items()}
 
 
@@ -67,7 +67,7 @@ class Search:
 
     def __init__(self, problem, progress=None):
         self.problem, self.progress = problem, progress
-        self.curves = welfare_curves(problem)
+        self.curves = curves_by_period(problem)
         self.group_of = {place: key for key, members in problem.groups().items() for place in members}
         self.best = None
         self.tried = 0
@@ -75,7 +75,7 @@ class Search:
     def find_best(self):
         """The best selection."""
         net = dict.fromkeys(self.curves, 0)
-        self.try_selections(0, frozenset(), {}, net, {number: curve.welfare(0) for number, curve in self.curves.items()}, 0)
+        self.try_selections(0, frozenset(), {}, net, {number: curve.welfare_or_none(0) for number, curve in self.curves.items()}, 0)
         return self.best
 
     def try_selections(self, place, accepted, taken, net, worth, value):
@@ -96,7 +96,7 @@ class Search:
         net, worth = dict(net), dict(worth)
         for number, volume in selection.net_volumes(order):
             net[number] += volume
-            worth[number] = self.curves[number].welfare(net[number])
+            worth[number] = self.curves[number].welfare_or_none(net[number])
             value -= order.price * volume
         return net, worth, value
 
@@ -104,25 +104,25 @@ class Search:
         """Keeps a selection if it is eligible and of greater welfare than those before."""
         self.tried += 1
         if self.progress and self.tried % STEP == 1:
-            self.progress.step_or_raise(STEP)
+            self.progress.count_and_show_or_raise(STEP)
         if None in worth.values():
             return
         welfare = sum(worth.values()) + value
         if self.best is not None and welfare <= self.best.welfare:
             return
-        prices = {number: rules.price_between(*curve.supporting_prices(net[number]))[0] for number, curve in self.curves.items()}
-        surpluses = [selection.surplus(block.order, prices) for block in self.problem.blocks]
+        prices = {number: rules.price_and_case(*curve.supporting_prices(net[number]))[0] for number, curve in self.curves.items()}
+        surpluses = [selection.surplus_or_none(block.order, prices) for block in self.problem.blocks]
         if not selection.losses_of(self.problem, accepted, surpluses):
             self.best = Selection(accepted, welfare)
 
 
-def enumerate_all(problem, progress=None):
+def find_best_and_how(problem, progress=None):
     """The best selection, and how it was found."""
     search = Search(problem, progress)
     if progress:
         progress.add_expected_steps(2 ** len(problem.blocks))
     best = search.find_best()
-    if selection.eligible_welfare(problem, best.accepted) != best.welfare:
+    if selection.eligible_welfare_or_none(problem, best.accepted) != best.welfare:
         raise AssertionError(f"the selection {sorted(best.accepted)} is not eligible with the welfare that the search gave it")
     return best, tried_words(len(problem.blocks), search.tried)
 

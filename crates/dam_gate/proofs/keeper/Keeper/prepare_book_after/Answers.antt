@@ -3,7 +3,7 @@ use Rattle.std.proofs.Common.{◌≡◌, sym, ap, ◌∙◌}
 use Rattle.std.proofs.lemmas.Result.{IfOk-weaker}
 use Rattle.dam_gate.specs.Keeper.{KeeperState}
 use Rattle.dam_gate.proofs.Histories.{refused_stays}
-use Rattle.dam_gate.proofs.keeper.Keeper.book_after.Goals as goal
+use Rattle.dam_gate.proofs.keeper.Keeper.prepare_book_after.Goals as goal
 
 pub returns-in-Some-clause-book : goal.returns-in-Some-clause-book
 returns-in-Some-clause-book g c =

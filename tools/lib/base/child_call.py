@@ -25,23 +25,23 @@ def blocking_interrupts():
         signal.pthread_sigmask(signal.SIG_SETMASK, before)
 
 
-def run_aside(call, progress, words):
+def run_in_child(call, progress, words):
     """The result of a call, in a process of its own. The words say how far it is; the call gets a function that reports others."""
     context = multiprocessing.get_context("fork")
     ours, theirs = context.Pipe(duplex=False)
-    process = context.Process(target=send_result, args=(call, theirs), daemon=True)
+    process = context.Process(target=call_and_send_result, args=(call, theirs), daemon=True)
     with blocking_interrupts():
         process.start()
     theirs.close()
     try:
-        return receive_result(ours, progress, words)
+        return receive_result_or_raise(ours, progress, words)
     finally:
         process.kill()
         process.join()
-        progress.end()
+        progress.stop_and_erase()
 
 
-def send_result(call, pipe):
+def call_and_send_result(call, pipe):
     """Sends the call's reports, and then its result or its failure. What code in C says before it aborts isn't shown: the process that
     waits says that this one died."""
     if hasattr(system := ctypes.CDLL(None), "prctl"):
@@ -53,7 +53,7 @@ def send_result(call, pipe):
         pipe.send(("fault", fault))
 
 
-def receive_result(pipe, progress, words):
+def receive_result_or_raise(pipe, progress, words):
     """The answer that comes; the reports before it are shown."""
     while True:
         if not pipe.poll(PAUSE):

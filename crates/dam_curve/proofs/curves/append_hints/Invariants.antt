@@ -1,6 +1,6 @@
 -- The place is of a segment.
 use Rattle.std.proofs.Common.{◌-◌, ◌<◌, length}
-use Rattle.dam_curve.proofs.curves.write_hints.Given as goal
+use Rattle.dam_curve.proofs.curves.append_hints.Given as goal
 
 abbrev pub invariant-loop-place : goal.invariant-loop-place
 invariant-loop-place g l = l.place < length l.segments
