@@ -9,7 +9,8 @@ use Rattle.dam_search.specs.Piece.{Rises, welfare_found, IsSound}
 
 -- a sound answer about its piece of a cutting of this depth
 abbrev pub IsSoundAnswer : ProblemState → ℕ → PieceAnswer → Type 0
-IsSoundAnswer problem depth a = IsSound problem (choice depth a.piece) a.best a.incumbent_read a.done
+IsSoundAnswer problem depth a =
+    IsSound problem (choice depth a.piece) a.best a.incumbent_read a.done
 
 -- sound answers, all of them done, and one about each piece of a cutting of this depth
 pub record AreAnswered (problem : ProblemState) (depth : ℕ) (answers : List PieceAnswer)

@@ -17,7 +17,8 @@ pub record IsFinished (problem : ProblemState) (depth nodes piece : ℕ) : Type 
   pub visited : ℕ
   pub sound : IsSound problem (choice depth piece) best incumbent_read true
   pub reached : IsReached problem incumbent_read
-  pub spent : IsSpent problem (choice depth piece) (length problem.blocks - depth) 0 nodes visited incumbent_read true
+  pub spent :
+      IsSpent problem (choice depth piece) (length problem.blocks - depth) 0 nodes visited incumbent_read true
 
 -- the least piece of the cutting that isn't finished: it visited as many nodes as it may, which is less than either
 -- bound on those that it can need
@@ -41,7 +42,9 @@ LimitHasNeeded problem depth nodes welfare = (piece : ℕ) → piece < 2 ^ depth
 -- or repeated
 abbrev pub IsSearched : ProblemState → ℕ → ℕ → Result Solution SearchFault → Type 0
 IsSearched problem depth nodes (Ok best) =
-    IsResult problem best.selection (pos best.welfare) × LimitHasNeeded problem depth nodes best.welfare
-IsSearched problem depth nodes (Err (Unfinished piece visited)) = IsUnfinished problem depth nodes piece visited
+    IsResult problem best.selection (pos best.welfare)
+    × LimitHasNeeded problem depth nodes best.welfare
+IsSearched problem depth nodes (Err (Unfinished piece visited)) =
+    IsUnfinished problem depth nodes piece visited
 IsSearched problem depth nodes (Err Memory) = Unit {0}
 IsSearched problem depth nodes (Err (AnswerMissingOrRepeated piece)) = ⊥

@@ -45,7 +45,8 @@ pub fn conclusive_answers_give_result()
         → AreConclusive problem depth answers }
     ensures offered { (problem : ProblemState) (depth first : ℕ) (answers : List PieceAnswer)
         → IsProblem problem → depth ≤ length problem.blocks → AreAnswered problem depth answers
-        → IsReached problem first → All (λ a. a.incumbent_read ≤ max first (greatest_found answers)) answers
+        → IsReached problem first
+        → All (λ a. a.incumbent_read ≤ max first (greatest_found answers)) answers
         → AreConclusive problem depth answers }
 {
     dam_blocks::laws::empty_is_eligible();

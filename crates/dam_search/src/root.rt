@@ -65,7 +65,8 @@ pub(crate) fn slack_of_piece(limits: &NetLimits, accepted: Selection, depth: usi
         → AgreesUnder depth accepted selection
         → HasSlack limits.now.limits selection (λ place. not (nat_lt place depth)) slack.slacks) }
     ensures left { IfSome result (λ slack. (k : ℕ) (d : ℤ) → k < most_limits
-        → slice_index_or slack.slacks k d ≡ slack_left (limit_in limits.now.limits k) accepted depth) }
+        → slice_index_or slack.slacks k d
+        ≡ slack_left (limit_in limits.now.limits k) accepted depth) }
 {
     let mut slack = limits.slack();
     for at in 0..depth {

@@ -44,7 +44,8 @@ pub record IsSlack (problem : ProblemState) (limits : List NetLimit) (accepted :
 abbrev pub slack_left : NetLimit → List Bool → ℕ → ℤ
 slack_left limit accepted zero = limit.slack
 slack_left limit accepted (suc n) =
-    slack_left limit accepted n -ℤ slack_taken (accepts accepted n) (slice_index_or limit.nets n (pos 0))
+    slack_left limit accepted n
+    -ℤ slack_taken (accepts accepted n) (slice_index_or limit.nets n (pos 0))
 
 -- the selection decides on the first places as the other one does
 abbrev pub AgreesUnder : ℕ → List Bool → List Bool → Type 0

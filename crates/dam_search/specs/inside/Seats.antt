@@ -43,4 +43,5 @@ pub record AreAllAnswers (problem : ProblemState) (depth nodes first : ℕ) (ans
   pub each : (x : ℕ)
       → times x (map (λ (a : PieceAnswer). a.piece) answers) ≡ once_below x (2 ^ depth)
   pub walked : All (λ (a : PieceAnswer). IsWalkedPiece problem depth nodes a) answers
-  pub greatest_read : All (λ (a : PieceAnswer). a.incumbent_read ≤ max first (greatest_found answers)) answers
+  pub greatest_read :
+      All (λ (a : PieceAnswer). a.incumbent_read ≤ max first (greatest_found answers)) answers
