@@ -74,6 +74,8 @@ async def check_two_tabs(page, counts):
     counts.check("to which no is an answer", (await read_cells(page, "commands-table"))[0][6] == "9.00")
     await click(page, "#enter")
     await page.wait_until("byId('sure').open")
+    await page.evaluate("byId('no').click(); byId('enter').click()")  # before the dialog has told that it was closed
+    await page.wait_until("byId('sure').open")
     await click(page, "#yes")
     await wait_for_message(page, "ONCE amended")
     counts.check("and so is yes", await read_text(page, "overtaken") == "")

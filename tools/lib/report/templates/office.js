@@ -15,6 +15,7 @@ const NOBODY = {
 const OWN = ["orders-table", "commands-table", "statement", "prices", "position", "totals", "figures", "groups", "unsent"]; // what is shown of it
 const state = {
   ...NOBODY, token: sessionStorage.getItem("token") ?? "", day: null, known: null, demo: false, visit: 0, looks: null, told: 0, about: "",
+  sure: null,
 };
 
 {% include "office_parts.js" %}
@@ -72,15 +73,18 @@ const isOpen = () => state.known.state === "open";
 // What a day without a time left says of itself.
 const ENDS = { closing: "closed, results are coming", closed: "closed, results are coming", stopped: "stopped: ask the operator" };
 
-// Whether the participant is sure.
-function sure(words, yes) {
+// Whether the participant is sure. A question that follows at once waits for the answer to the one before: a dialog tells late that it was
+// closed, which would answer both.
+async function sure(words, yes) {
+  await state.sure;
   const dialog = byId("sure");
   byId("sure-words").textContent = words;
   byId("yes").textContent = yes;
   dialog.returnValue = "";
   dialog.showModal();
   byId("no").focus();
-  return new Promise((done) => dialog.addEventListener("close", () => done(dialog.returnValue === "yes"), { once: true }));
+  state.sure = new Promise((done) => dialog.addEventListener("close", () => done(dialog.returnValue === "yes"), { once: true }));
+  return state.sure;
 }
 
 // --- signing in
