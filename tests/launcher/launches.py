@@ -127,6 +127,17 @@ class LaunchTests(DamCase):
         error = f"dam: {why}: './dam prove' proves and builds the program\n"
         self.assertEqual(self.at.run_dam("--proved", "x"), (70, "", error))
 
+    def test_an_edit_of_the_handles(self):
+        """The proofs of all crates depend on the file HANDLES."""
+        self.at.write("HANDLES", "Handles allowed: Threads.\n")
+        self.prove_program_and_assert()
+        self.assertEqual(self.at.run_dam("x"), (0, "words: x\n", ""))
+        self.at.write("HANDLES", "Handles allowed: Threads, Wait.\n")
+        self.at.touch_newer("HANDLES")
+        self.run_and_assert_stale("dam_cli", "high", "left", "low", "right")
+        self.at.write("HANDLES", "Handles allowed: Threads.\n")
+        self.assertEqual(self.at.run_dam("x"), (0, "words: x\n", ""))
+
     def test_a_removed_source(self):
         self.at.write("crates/low/src/more.rt", "")
         self.prove_program_and_assert()
@@ -239,11 +250,23 @@ class LaunchTests(DamCase):
             self.assertEqual((status, out), (0, "words: x\ntext"))
         self.assertEqual(len(self.list_kept()), 1)
 
+    def test_from_a_folder_on_the_path_of_cd(self):
+        """There `cd` prints the folder that it goes to."""
+        above, name = os.path.split(self.at.top)
+        environment = {**self.at.environment, "CDPATH": above}
+        for before in (False, True):
+            for cwd, way in ((above, f"{name}/dam"), (above, f"./{name}/dam"), (self.at.top, "./dam")):
+                ran = self.at.run(way, "x", given="text", cwd=cwd, env=environment)
+                self.assertEqual(ran, (0, "words: x\ntext", "" if before else self.line_of_unproved()), way)
+            if not before:
+                self.prove_program_and_assert()
+
     def test_version(self):
         self.assertEqual(self.at.run_dam("--version", env=self.at.make_environment_without("rt")), (0, "dam 1.2.3\n", ""))
         self.assertEqual(self.at.read_calls(), [])
-        # it is no word of the program
-        self.assertEqual(self.at.run_dam("clear", "--version")[:2], (0, "words: clear --version\n"))
+        # with other words it is one of the program's
+        for words in (["clear", "--version"], ["--version", "x"], ["--version", ""], ["--version", "--version"]):
+            self.assertEqual(self.at.run_dam(*words)[:2], (0, f"words: {' '.join(words)}\n"))
 
     def test_signals(self):
         """While it compiles and while the program runs, to the whole group and to the launcher alone."""
