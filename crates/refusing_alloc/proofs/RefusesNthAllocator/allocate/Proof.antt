@@ -36,14 +36,14 @@ use Rattle.std.proofs.alloc.Calls.{Al, seen, token, Answer, answer_val, Answer-t
 use Rattle.std.proofs.alloc.Calls.{takes_key, Takes, at_takes, Answered, Takes-goes, Takes-gives, answers}
 use Rattle.std.proofs.alloc.Shapes.{after}
 use Rattle.std.proofs.raw_atomic.Walks.{proved}
-use Rattle.limited_alloc.proofs.Handle.{number, IsLayout, args, handle, inner_at, left_at}
-use Rattle.limited_alloc.proofs.Due.{Due, at_due, Due-goes, Due-gives}
-use Rattle.limited_alloc.proofs.count_down_to_refusal.Symbol as due_symbol
-use Rattle.limited_alloc.proofs.count_down_to_refusal.Met.{met as due_met}
-use Rattle.limited_alloc.specs.contracts.RefusesNth.{the_row}
-use Rattle.limited_alloc.specs.contracts.RefusesNthAllocator.allocate as f
-use Rattle.limited_alloc.proofs.RefusesNthAllocator.allocate.Statement.{statement}
-use Rattle.limited_alloc.proofs.RefusesNthAllocator.allocate.Code as code
+use Rattle.refusing_alloc.proofs.Handle.{number, IsLayout, args, handle, inner_at, left_at}
+use Rattle.refusing_alloc.proofs.Due.{Due, at_due, Due-goes, Due-gives}
+use Rattle.refusing_alloc.proofs.count_down_to_refusal.Symbol as due_symbol
+use Rattle.refusing_alloc.proofs.count_down_to_refusal.Met.{met as due_met}
+use Rattle.refusing_alloc.specs.contracts.RefusesNth.{the_row}
+use Rattle.refusing_alloc.specs.contracts.RefusesNthAllocator.allocate as f
+use Rattle.refusing_alloc.proofs.RefusesNthAllocator.allocate.Statement.{statement}
+use Rattle.refusing_alloc.proofs.RefusesNthAllocator.allocate.Code as code
 
 module _ (B : Al) where
   abbrev here : Fn
@@ -166,4 +166,4 @@ allocate_spec 𝓤 𝓛 𝓜 𝓡 wired row laws g d drops met _ =
     (λ κs. ((λ r vs s. s.0), (uint_Tells w64, (uint_Tells w64, tt))))
     (λ κs qs bounds a τ are.
     walk B 𝓛 𝓜.mem 𝓡.returns κs.0 κs.1.0 qs.0 qs.1.0 bounds.0 a.0 a.1.0 a.1.1.0 τ 𝓣.C 𝓣.Λ (framed 𝓤 𝓛.H 𝓜 𝓣)
-    (due_met 𝓤 𝓛 𝓜 𝓡 (code.calls-limited_alloc::count_down_to_refusal 𝓡.env wired)) (met.allocate drops) are.1.0.1 are.1.1.0.1)
+    (due_met 𝓤 𝓛 𝓜 𝓡 (code.calls-refusing_alloc::count_down_to_refusal 𝓡.env wired)) (met.allocate drops) are.1.0.1 are.1.1.0.1)

@@ -34,11 +34,11 @@ use denote.Triple.Table.{framed}
 use denote.Triple.Walked.{Stays, stay_dropped, walk_of, ends_at, Goes-dropped}
 use Rattle.std.proofs.alloc.Calls.{Al, seen, token, gives_key, Gives, at_gives, Gives-goes, Gives-Gives}
 use Rattle.std.proofs.raw_atomic.Walks.{proved}
-use Rattle.limited_alloc.proofs.Handle.{number, IsLayout, args, handle, inner_at}
-use Rattle.limited_alloc.specs.contracts.RefusesNth.{the_row}
-use Rattle.limited_alloc.specs.contracts.RefusesNthAllocator.deallocate as f
-use Rattle.limited_alloc.proofs.RefusesNthAllocator.deallocate.Statement.{statement}
-use Rattle.limited_alloc.proofs.RefusesNthAllocator.deallocate.Code as code
+use Rattle.refusing_alloc.proofs.Handle.{number, IsLayout, args, handle, inner_at}
+use Rattle.refusing_alloc.specs.contracts.RefusesNth.{the_row}
+use Rattle.refusing_alloc.specs.contracts.RefusesNthAllocator.deallocate as f
+use Rattle.refusing_alloc.proofs.RefusesNthAllocator.deallocate.Statement.{statement}
+use Rattle.refusing_alloc.proofs.RefusesNthAllocator.deallocate.Code as code
 
 abbrev block : Slot 2
 block = plain (λ _. RawPtr)

@@ -16,7 +16,7 @@ use denote.Steps.{nothing, only}
 use denote.Triple.Spec.{triple_of}
 use denote.Triple.Statement.{Contract}
 use Rattle.std.specs.contracts.cell.Cell.{the_row}
-use Rattle.limited_alloc.specs.contracts.count_down_to_refusal as f
+use Rattle.refusing_alloc.specs.contracts.count_down_to_refusal as f
 
 module _ {M : Type 1} {𝓤 : Ura M} (𝓛 : Logic 𝓤) (at_mem : Memory → SProp 𝓤) (run : Routine → Fun 𝓤) where
   open 𝓛 use {H, A}

@@ -7,7 +7,7 @@ use denote.Builtin.{usize, RefOf}
 use denote.Param.{bounded, param}
 use denote.Signature.{Slot, plain}
 use Rattle.std.proofs.alloc.Calls.{Al, α}
-use Rattle.limited_alloc.specs.contracts.RefusesNth.{the_row}
+use Rattle.refusing_alloc.specs.contracts.RefusesNth.{the_row}
 
 -- a size or an alignment
 abbrev pub number : Slot 2
