@@ -73,21 +73,21 @@ class TimedBook:
         return run_in_turns_or_exit(words, self.path, TURNS, SECONDS, ONCE, inputs={"alone": self.alone}, limit=limit)
 
     def run_and_note_seconds_or_exit(self, more, twin=None):
-        """Notes the seconds of `dam clear` and other programs, by turns; `more` has the words of further ones, and `twin` those of the twin,
-        which must find the same welfare."""
+        """Notes the seconds of `dam clear` and other programs, by turns; `more` has the words of further ones, and `twin` those of the
+        twin, which must find the same welfare."""
         runs = self.run_programs_in_turns_or_exit({"before": BEFORE and [BEFORE, "clear"], THE_TWIN: twin, **more})
         if twin and runs["dam"] and any(int(each.text.split()[1]) != welfare_of(runs["dam"][0]) for each in runs[THE_TWIN]):
             sys.exit(f"{self.name}: {THE_TWIN} finds another welfare")
         self.walls = wall_seconds_of(runs)
 
-    def median_seconds(self, name):
+    def median_seconds_or_none(self, name):
         """None if the program didn't end, or wasn't run."""
         return statistics.median(self.walls[name]) if self.walls.get(name) else None
 
     def record_clear(self, figures, most, others):
         """Prints the seconds of `dam clear`, which may be `most`, and how many times as long as other programs it takes; `others` has how
         many times that may be."""
-        median, target = self.median_seconds("dam"), f"at most {seconds_text(most)}"
+        median, target = self.median_seconds_or_none("dam"), f"at most {seconds_text(most)}"
         if median is None:
             figures.record(self.label, f"> {LIMIT:g} s", target, False)
             return
@@ -130,7 +130,7 @@ class BooksTogether:
         self.name, self.books = f"{name} together", books
 
     def seconds_of(self, books, name):
-        return [LIMIT if book.median_seconds(name) is None else book.median_seconds(name) for book in books]
+        return [LIMIT if book.median_seconds_or_none(name) is None else book.median_seconds_or_none(name) for book in books]
 
     def record_sums(self, figures, most, others):
         """Prints the sum of the seconds of `dam clear` and the slowest book, which may take `most`, and compares the sum with those of
@@ -145,7 +145,7 @@ class BooksTogether:
             run_on = self.books_with(name)
             if run_on:
                 ours, theirs = (sum(self.seconds_of(run_on, each)) for each in ("dam", name))
-                late = sum(book.median_seconds(name) is None for book in run_on)
+                late = sum(book.median_seconds_or_none(name) is None for book in run_on)
                 note = f"{late} of {len(run_on)} didn't end in {LIMIT:g} s" if late else ""
                 what = f"{self.name}: dam clear compared with {OTHERS.get(name, name)}"
                 figures.record_ratio(what, [ours], [theirs], most_times, note=note)

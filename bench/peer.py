@@ -103,7 +103,7 @@ def run_solver_for_welfare(solve, model, problem, limit):
     return "gave up", limit
 
 
-def find_missing_package(peer):
+def find_missing_package_or_none(peer):
     """The package that is missing, if one is. The program of both is written with scipy."""
     if not modules.has_module("scipy"):
         return PACKAGES["highs"]
@@ -113,7 +113,7 @@ def find_missing_package(peer):
 def main():
     modules.exec_with_modules("scipy")
     peer, path, limit = sys.argv[1:]
-    if lacking := find_missing_package(peer):
+    if lacking := find_missing_package_or_none(peer):
         print(f"missing: {lacking}")
         return
     from lib.audit import highs_search

@@ -112,7 +112,7 @@ def measure_peak_mebibytes(words, given):
         return int(used.read()) / 1024
 
 
-def write_results_and_return_command(path):
+def make_audit_command_or_none(path):
     """The command that tries all selections of a book by `tools/audit`, with four threads, and fails if the results of `dam` aren't right
     and best; None if numpy is missing, or `dam` takes too long."""
     cleared = run_or_exit([DAM, "clear"], path) if modules.has_module("numpy") or modules.run_and_see_if_debian_has("numpy") else None

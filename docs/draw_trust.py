@@ -75,7 +75,7 @@ def counted(day):
     greatest = sum(other == welfare for other, _ in search.eligible)
     above = sorted((found for found in search.losing if found[0] > welfare), reverse=True, key=lambda found: found[0])
     above = [(differences(day, accepted, chosen), other - welfare) for other, chosen in above]
-    with_block = [other for other, chosen in search.eligible if day.place(*BLOCK) in chosen]
+    with_block = [other for other, chosen in search.eligible if day.place_of_block_or_none(*BLOCK) in chosen]
     balanced = len(search.eligible) + len(search.losing)
     counts = Counts(len(day.blocks), search.tried, balanced, len(search.eligible), greatest, above, welfare - max(with_block))
     return counts, accepted
@@ -88,7 +88,7 @@ def differences(day, accepted, chosen):
 
 
 def effect(day, accepted):
-    place = day.place(*BLOCK)
+    place = day.place_of_block_or_none(*BLOCK)
     order = day.blocks[place].order
     periods, volumes = map(list, zip(*order.volumes))
     found = [selection.outcome(day, chosen) for chosen in (accepted, accepted | {place})]

@@ -10,7 +10,7 @@ from typing import NamedTuple
 import images
 import journals
 from device import DESK, FOLDER, OPEN, OUTPUT, SYNC
-from images import HEAD, DiskMoment, is_at_rest, parse_marked_lines
+from images import HEAD, DiskMoment, is_at_rest, parse_marked_lines_or_none
 
 SHOWN = 5
 CHOSEN = 4_000  # files that are opened side by side, or of which the journal is printed
@@ -69,7 +69,7 @@ class Crashes:
 
     def count_of_records_or_none(self, image):
         """How many records of the journal the file holds; None if it holds others, or isn't a journal."""
-        marked = parse_marked_lines(image)
+        marked = parse_marked_lines_or_none(image)
         if marked is None:
             return None
         count = marked.count(b"\n")
@@ -157,7 +157,7 @@ class Crashes:
             ran = self.desk.run(file, rest)
             if (ran.status, ran.stdout, ran.stderr) != (0, self.journal.printed_text(len(self.journal)), b""):
                 self.note_fault(case, f"the rest of the input: status {ran.status}, {ran.stderr[:80]!r}, {ran.stdout[-TAIL:]!r}")
-            elif parse_marked_lines(file.read_bytes()) != self.journal.marked_text(len(self.journal)):
+            elif parse_marked_lines_or_none(file.read_bytes()) != self.journal.marked_text(len(self.journal)):
                 self.note_fault(case, "the rest of the input isn't in the file as given")
 
     def try_moments(self, sample=None):

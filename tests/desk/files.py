@@ -16,7 +16,7 @@ import journals
 import kills
 import streams
 from device import DESK, EVERY, INPUT, OUTPUT, SECONDS, STREAM, SYNC, WRITE, RefusedFileCalls
-from images import HEAD, MOST, is_at_rest, parse_marked_lines
+from images import HEAD, MOST, is_at_rest, parse_marked_lines_or_none
 from journals import CLOSE, rules
 from shared.preload import HostileProgram
 from shared.printed import Printed
@@ -276,7 +276,7 @@ class FileTests:
         """A file of the greatest length, most of which doesn't count."""
         file = write_desk_file(self.desk.make_folder(), file_of_records(DAY).ljust(MOST))
         self.check_run("a file of the greatest length", self.run_on_text([file]), 0, b"day,24\n1,done\n", b"")
-        held = parse_marked_lines(file.read_bytes())
+        held = parse_marked_lines_or_none(file.read_bytes())
         self.counts.check("a file of the greatest length holds both lines", held == b"+" + DAY + b"+" + CLOSE)
         file.write_bytes((file_of_records(DAY) + b"\n" * 9).ljust(MOST, b"+"))
         self.check_run("a file with line ends after its mark", self.run_on_text([file]), 0, b"day,24\n1,done\n", b"")
@@ -291,7 +291,7 @@ class FileTests:
             right = b"".join(reader.capture_output_of_dam(self.dam))
             self.check_run(f"an input of {length} bytes", self.run_on_text([file], text[:length]), 0, right, b"")
             marked = b"".join(b"+" + record for record in reader.records)
-            self.counts.check(f"the file after {length} bytes", parse_marked_lines(file.read_bytes()) == marked)
+            self.counts.check(f"the file after {length} bytes", parse_marked_lines_or_none(file.read_bytes()) == marked)
 
     def check_closed_pipe(self):
         """Nobody reads the answers."""
@@ -306,7 +306,7 @@ class FileTests:
             file = self.desk.make_folder() / "day.desk"
             words = ["sh", "-c", f'exec "$0" "$@" {stream}', *self.desk.words, str(file)]
             subprocess.run(words, input=DAY + CLOSE, stdout=subprocess.PIPE, stderr=subprocess.PIPE)
-            marked = parse_marked_lines(file.read_bytes())
+            marked = parse_marked_lines_or_none(file.read_bytes())
             self.counts.check(f"a closed stream {stream}: {marked}", marked in (b"", b"+" + DAY + b"+" + CLOSE))
 
     def check_own_output(self):
@@ -376,7 +376,8 @@ class FileTests:
         self.counts.check(f"a full journal of {about} stays as it is", before == (file.read_bytes(), file.stat().st_mtime_ns))
         shown = self.run_on_text(["--journal", file])
         self.check_run(f"the journal of {about}", shown, 0, journal.text(len(journal)), b"")
-        self.counts.check(f"the journal of {about} is replayed", self.dam.capture_replay(shown.stdout).stdout == journal.printed_text(len(journal)))
+        is_right = self.dam.capture_replay(shown.stdout).stdout == journal.printed_text(len(journal))
+        self.counts.check(f"the journal of {about} is replayed", is_right)
 
     def check_half_a_line(self):
         """Whole lines are answered while the next one is still to come whole."""

@@ -18,7 +18,7 @@ GARBAGE = b"\n+cancel,A,NEVER,,,,,,\n" * 400
 ANSWER = re.compile(rb"(?:day|(\d+)),")
 
 
-def parse_marked_lines(file):
+def parse_marked_lines_or_none(file):
     """The lines that a file stands for, each with its mark; None if it isn't a journal."""
     if len(file) > MOST:
         return None
@@ -35,7 +35,7 @@ def is_unmade(file):
 
 def is_at_rest(file):
     """Whether the file is as a desk leaves it: its lines, and then the mark of a line that doesn't count."""
-    marked = parse_marked_lines(file)
+    marked = parse_marked_lines_or_none(file)
     rest = file[len(HEAD) + len(marked or b"") :]
     return marked is not None and file.startswith(HEAD) and rest.startswith(b"-") and b"\n" not in rest
 

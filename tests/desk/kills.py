@@ -13,7 +13,7 @@ from pathlib import Path
 
 import images
 import journals
-from images import parse_marked_lines
+from images import parse_marked_lines_or_none
 
 EARLY = Path(__file__).resolve().parent / "early.py"
 RECORDS, ENOUGH = 9_990, 0.9  # of a journal, and the share of them after which a new file is begun
@@ -44,9 +44,9 @@ class Kills:
         self.acknowledged = self.unanswered = self.files = 0
         self.wrong = []
 
-    def read_held(self):
+    def count_held_or_none(self):
         """How many records the file has; None if they aren't the first ones of the journal."""
-        marked = parse_marked_lines(self.file.read_bytes()) if self.file.exists() else b""
+        marked = parse_marked_lines_or_none(self.file.read_bytes()) if self.file.exists() else b""
         count = None if marked is None else marked.count(b"\n")
         return count if count is not None and marked == self.journal.marked_text(count) else None
 
@@ -83,9 +83,9 @@ class Kills:
     def run_kill_and_check(self, may_be_at_once=True):
         if self.file is None:
             self.file, self.files = self.desk.make_folder() / "day.desk", self.files + 1
-        before = self.read_held() or 0
+        before = self.count_held_or_none() or 0
         text = self.run_and_kill(before, may_be_at_once and self.rng.random() < 0.3)
-        count, safe = self.read_held(), images.count_acknowledged(text[: text.rfind(b"\n") + 1], 0)
+        count, safe = self.count_held_or_none(), images.count_acknowledged(text[: text.rfind(b"\n") + 1], 0)
         whole = self.journal.printed_text(len(self.journal))
         if count is None or count < max(before, safe) or not whole.startswith(text):
             self.wrong.append(f"{before} records, {safe} acknowledged, now {count}; the output ends with {text[-60:]!r}")
@@ -102,7 +102,7 @@ class Kills:
         """The last file is opened and given the rest."""
         if self.file is None:
             return
-        count = self.read_held() or 0
+        count = self.count_held_or_none() or 0
         rest = b"".join(self.journal.records[count:])
         ran = subprocess.run([*self.desk.words, str(self.file)], input=rest, stdout=subprocess.PIPE, stderr=subprocess.PIPE)
         if (ran.returncode, ran.stdout, ran.stderr) != (0, self.journal.printed_text(len(self.journal)), b""):

@@ -23,7 +23,7 @@ SOME = 1_000  # of the names, on other days
 FIXED = RefusedCalls("random", first=3, error=errno.ENOSYS)  # a file draws twice before
 
 
-def run_new_again_and_journal(program, desk, records, refusal, periods=24):
+def iterate_instructions_of_desk(program, desk, records, refusal, periods=24):
     """Yields the instructions of a desk with a new file that takes the records, with that file again, and for the file's journal."""
     file = desk.make_folder() / "day.desk"
     for words, data in [([file], journal_text(records, True, periods)), ([file], b""), (["--journal", file], b"")]:
@@ -37,9 +37,9 @@ def check_names(counts, desk, dam, whole):
     begun = time.monotonic()
     program = HostileProgram(desk.words[0], desk.room)
     others, colliding = submits_of(records.ordinary_names()), submits_of(capture_colliding_names(desk.room))
-    tried = [run_new_again_and_journal(program, desk, others, DRAWN), run_new_again_and_journal(program, desk, colliding, DRAWN)]
+    tried = [iterate_instructions_of_desk(program, desk, others, DRAWN), iterate_instructions_of_desk(program, desk, colliding, DRAWN)]
     with ThreadPoolExecutor() as pool:
-        fixed = pool.submit(next, run_new_again_and_journal(program, desk, colliding, FIXED))
+        fixed = pool.submit(next, iterate_instructions_of_desk(program, desk, colliding, FIXED))
         usual, drawn = pool.map(list, tried)
     for about, taken, by_others in zip(ABOUT, drawn, usual):
         took = f"names that collide {about} take {taken / by_others:.1f} times the instructions of others"
@@ -49,7 +49,7 @@ def check_names(counts, desk, dam, whole):
         check_and_print_millions(counts, f"other names {about} take", taken, millions)
     some = submits_of(capture_colliding_names(desk.room, SOME))
     for periods in set(rules.DAYS) - {24}:
-        each = run_new_again_and_journal(program, desk, some, DRAWN, periods)
+        each = iterate_instructions_of_desk(program, desk, some, DRAWN, periods)
         for about, taken, by_others in zip(ABOUT, each, usual):
             took = f"{SOME:,} names that collide {about}, on {periods} periods, take {taken / by_others:.1f} times the instructions of"
             counts.check(f"{took} {records.ORDERS:,} others", taken < by_others)

@@ -9,7 +9,7 @@ import time
 import kills
 from device import CUT, DESK, INPUT, OUTPUT, READ, SYNC, WRITE
 from files import BATCH, DAY, file_of_records
-from images import AFTER_FIRST, HEAD, MOST, is_at_rest, parse_marked_lines
+from images import AFTER_FIRST, HEAD, MOST, is_at_rest, parse_marked_lines_or_none
 from journals import CLOSE, Journal, longest_records, rules
 
 TORN = [round(1.5**power) for power in range(1, 41)]  # bytes after the lines of a file, up to as many as there may be
@@ -67,13 +67,13 @@ class OpeningTests:
         self.counts.check(f"{about}: status {ran.status}, {ran.stderr[:80]!r}", (ran.status, ran.stderr) == (0, b""))
         self.check_printed_once(about, ran)
         self.counts.check(f"{about} is at rest", is_at_rest(file.read_bytes()))
-        length, marked = file.stat().st_size, parse_marked_lines(file.read_bytes())
+        length, marked = file.stat().st_size, parse_marked_lines_or_none(file.read_bytes())
         ran = self.desk.run(file, [CLOSE])
         self.check_same(f"{about} is opened again by", calls_of_file(ran)[: len(calls_before_repair(length))], calls_before_repair(length))
         asked = {it.asked for it in ran.events if it.kind == INPUT}
         self.counts.check(f"{about}: {asked} bytes are asked for at a time", asked == {BATCH})
         entered = b"+" + CLOSE if marked else b""
-        self.counts.check(f"{about}: the close", parse_marked_lines(file.read_bytes()) == marked + entered)
+        self.counts.check(f"{about}: the close", parse_marked_lines_or_none(file.read_bytes()) == marked + entered)
         self.run_and_check_printed_and_remove(about, file)
 
     def check_same(self, about, found, right):

@@ -59,8 +59,8 @@ class ExpectedDesk:
         line += b"\n"  # which a quote that isn't closed takes in
         if self.day is None:
             return self.enter_day_or_raise(line)
-        if self.periods_in(line):
-            if self.periods_in(line) != self.day:
+        if self.periods_in_line_or_none(line):
+            if self.periods_in_line_or_none(line) != self.day:
                 raise LineFault("OtherDay")
             return 0
         commands = self.parse_or_raise(f"day,{rules.GREATEST_PERIOD},,,,,,,\n".encode() + line).commands
@@ -82,7 +82,7 @@ class ExpectedDesk:
         return 0
 
     @staticmethod
-    def periods_in(line):
+    def periods_in_line_or_none(line):
         """The periods of the day's record, if the line is one."""
         try:
             found = format_of.parse_journal(line)
@@ -184,8 +184,8 @@ class RandomStreams:
         """The differences of the file and its journal from the entered records."""
         marked = b"".join(b"+" + record for record in reader.records)
         bytes_ = file.read_bytes()
-        if images.parse_marked_lines(bytes_) != marked or not images.is_at_rest(bytes_):
-            yield f"the file has {images.parse_marked_lines(bytes_)!r:.300} for {marked!r:.300}"
+        if images.parse_marked_lines_or_none(bytes_) != marked or not images.is_at_rest(bytes_):
+            yield f"the file has {images.parse_marked_lines_or_none(bytes_)!r:.300} for {marked!r:.300}"
         printed = subprocess.run([*self.desk.words, "--journal", str(file)], stdout=subprocess.PIPE, stderr=subprocess.PIPE)
         if (printed.returncode, printed.stdout, printed.stderr) != (0, b"".join(reader.records), b""):
             yield f"--journal: status {printed.returncode}, {printed.stderr[:80]!r}, {printed.stdout[-80:]!r}"

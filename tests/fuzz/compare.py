@@ -90,7 +90,7 @@ def journal_or_fault(data):
         return fault
 
 
-def find_right_output(command, words, data, like=None):
+def capture_right_output_or_none(command, words, data, like=None):
     """The output that a command must print for an input, by another program or else by the rules; None if that takes too long."""
     if like is None:
         return right_output(command, data)
@@ -104,14 +104,14 @@ def right_output(command, data):
     read = journal_or_fault(data)
     if isinstance(read, journal.Fault):
         return refused_output(read)
-    return {"replay": right_replies, "clear": right_results}[command](read)
+    return {"replay": right_replies, "clear": right_results_or_none}[command](read)
 
 
 def right_replies(read):
     return Printed(0, book.replies_text(read).encode(), b"")
 
 
-def right_results(read):
+def right_results_or_none(read):
     closed, _ = book.book_and_refusals(read)
     if not closed.closed:
         return refused_output("input: StillOpen")
@@ -126,7 +126,7 @@ def right_results(read):
     return Printed(0, text, b"")
 
 
-def fault_of_day(read):
+def fault_of_day_or_none(read):
     """The fault of `dam day` on a journal; None if there is none."""
     if len(read.commands) > rules.MOST_DAY_COMMANDS:
         return "input: TooManyCommands"
@@ -147,7 +147,7 @@ def day_differences(data, got):
         return [LATE]
     try:
         given = journal.parse_journal(data)
-        fault = fault_of_day(given)
+        fault = fault_of_day_or_none(given)
     except journal.Fault as found:
         given, fault = None, found
     if fault:
@@ -157,7 +157,7 @@ def day_differences(data, got):
         return ["there is no text of a day"]
     written, published = texts
     wrong, run = faults_of_journal(given, written)
-    right = run and right_results(run)
+    right = run and right_results_or_none(run)
     if right is not None and published != right.stdout:
         wrong.append("its results aren't those of its journal")
     return wrong
@@ -175,7 +175,7 @@ def try_command(program, command, words, data, like=None):
 def try_command_or_raise(program, command, words, data, like):
     if command == "day":
         return day_differences(data, program.capture_output([command, *words], data))
-    right = find_right_output(command, words, data, like)
+    right = capture_right_output_or_none(command, words, data, like)
     if right is None:
         return []
     got = program.capture_output([command, *words], data)

@@ -63,7 +63,7 @@ class Pairs:
             if ran.status == 0 and len(data) < 100_000:
                 return data, ran.stdout
 
-    def capture_results(self, data):
+    def capture_results_or_none(self, data):
         """The results that the program prints for a journal, or None if it refuses it."""
         ran = self.program.capture_output(["clear"], data)
         return ran.stdout if ran.status == 0 else None
@@ -81,7 +81,7 @@ def capture_right_status(pairs, data, text):
     """The status that the audit of a pair must have, by the program."""
     if kinds.kind_or_none(data) not in (None, kinds.JOURNAL) or kinds.kind_or_none(text) not in (None, kinds.RESULTS):
         return UNREAD
-    right = pairs.capture_results(data)
+    right = pairs.capture_results_or_none(data)
     if right is None:
         return WRONG if is_open(data) else UNREAD
     if text == right:
@@ -194,7 +194,7 @@ def decoded_or_none(data):
     return "".join(f"{','.join(row)}\n" for row in rows).encode()
 
 
-def draw_worse_results(rng, data):
+def draw_worse_results_or_none(rng, data):
     """The results of another selection of a day's blocks, eligible or not; None if it has no other whose periods balance."""
     problem = selection.Problem(book.book_and_refusals(journal.parse_journal(data))[0])
     for _ in range(8):
@@ -213,7 +213,7 @@ def draw_changed_pair(rng, pairs, data, text):
     if kind == 1:
         return pairs.other[0], text, "another journal"
     if kind == 2:
-        other = draw_worse_results(rng, data)
+        other = draw_worse_results_or_none(rng, data)
         if other is not None:
             return data, other, "another selection"
     if kind == 3:

@@ -78,7 +78,7 @@ def draw_day(rng, args):
     return days.text_of_lines([*draft.lines, "close,,,,,,,,"])
 
 
-def find_lower_selection(problem, accepted, welfare):
+def find_lower_selection_or_none(problem, accepted, welfare):
     """The best eligible selection below this one, and its welfare, of those that take one block in or out; a block that is out
     takes its descendants along, and one that is in takes its ancestors along and its rivals away. None if there is none."""
     found = []
@@ -118,7 +118,7 @@ def try_day(program, data, jobs):
     if above:
         return f"the selection {sorted(above[0])} is better, with {above[1]}", None
     accepted = frozenset(said.accepted)
-    altered = find_lower_selection(problem, accepted, said.welfare)
+    altered = find_lower_selection_or_none(problem, accepted, said.welfare)
     if altered is None:
         return None, None
     kind = "of less welfare" if altered[1] < said.welfare else "of the same welfare"

@@ -27,15 +27,15 @@ class CheckTests(RepositoryCase):
         shell = [f"trap '' {name}" for name in ignored] + ['exec "$0" --no-install']
         words = ["sh", "-c", "; ".join(shell), f"{self.at.top}/check"]
         with self.at.start(*words) as process:
-            self.wait_for(lambda: self.read_pipe(running) == b"begun\n")
+            self.wait_for(lambda: self.read_pipe_or_none(running) == b"begun\n")
             for number in signals:
                 process.send_signal(number)
             out, error = process.communicate(timeout=60)
         self.assertEqual((process.returncode, out, error), (status, "== edits: tests/wrong-bodies --apply-only\n", ""))
-        self.wait_for(lambda: self.read_pipe(running) == b"")
+        self.wait_for(lambda: self.read_pipe_or_none(running) == b"")
         os.close(running)
 
-    def read_pipe(self, running):
+    def read_pipe_or_none(self, running):
         """The written bytes: nothing (None) as yet, or no bytes if nobody has it open for writing."""
         try:
             return os.read(running, 100)
@@ -89,13 +89,13 @@ class CheckTests(RepositoryCase):
         SourceFileLoader("check", check.__file__).exec_module(check)
         whole = check.Part("all")
         whole.passed, whole.failed = 7, 1
-        before = check.query_clean_commit()
+        before = check.query_clean_commit_or_none()
         self.assertIsNone(before, "no repository")
         self.at.write(".gitignore", "out/\ncrates/*/out/\n")
         names = [word for who in ("user.name", "user.email") for word in ("-c", f"{who}=test")]
         for line in (["init", "--quiet"], ["add", "--all"], [*names, "commit", "--quiet", "-m", "all"]):
             self.assertEqual(self.at.run("git", *line, cwd=self.at.top)[0], 0)
-        commit = check.query_clean_commit()
+        commit = check.query_clean_commit_or_none()
         self.assertEqual(commit, self.at.run("git", "rev-parse", "HEAD", cwd=self.at.top)[1].strip())
         for changed, of in ((None, commit), ("crates/low/src/lib.rt", None)):
             if changed:

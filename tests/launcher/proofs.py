@@ -57,7 +57,7 @@ class ProveTests(RepositoryCase):
         begins, ends = ({it[1]: float(it[at]) for it in said} for at in (3, 4))
         self.assertLess(max(begins["dam_cli"], begins["dam_desk"]), min(ends["dam_cli"], ends["dam_desk"]), "side by side")
         for name in ("dam_cli", "dam_desk"):
-            self.assertIsNone(self.capture_stale_words(name))
+            self.assertIsNone(self.capture_stale_words_or_none(name))
         self.assertTrue(self.at.has_no_copy())
         for wrong in (["dam_cli", "low"], ["low", "dam_cli"]):
             self.assertEqual(self.at.run_prove(*wrong)[:2], (2, ""))
@@ -68,10 +68,10 @@ class ProveTests(RepositoryCase):
             status, _, error = self.at.run_prove("dam_cli", "dam_desk")
             self.assertEqual(status, 1)
             self.assertIn(f"{refused} is not proved", error)
-            self.assertEqual(self.capture_stale_words(refused), f"crates/{refused}/out/{refused} is missing")
+            self.assertEqual(self.capture_stale_words_or_none(refused), f"crates/{refused}/out/{refused} is missing")
             self.at.write(f"crates/{refused}/src/main.rt", PROGRAM)
             self.assertEqual(self.at.run_prove("dam_cli", "dam_desk")[0], 0)
-            self.assertIsNone(self.capture_stale_words(refused))
+            self.assertIsNone(self.capture_stale_words_or_none(refused))
             shutil.rmtree(f"{self.at.top}/crates/{other}/out")
 
     def test_the_files_of_a_programs_run(self):
@@ -94,7 +94,7 @@ class ProveTests(RepositoryCase):
             process.communicate(timeout=60)
         self.assertEqual(process.returncode, 0)
         self.assertIn("SECONDS 1.5", self.at.read("crates/dam_cli/out/dam_cli"))
-        self.assertIsNone(self.capture_stale_words())
+        self.assertIsNone(self.capture_stale_words_or_none())
         self.assertEqual(self.at.read("crates/dam_cli/out/incremental/begun"), "begun\n" * 2)
         self.assertEqual(self.at.read("crates/dam_cli/out/more"), "kept")
         self.assertTrue(self.at.has_no_copy())
@@ -133,7 +133,7 @@ class ProveTests(RepositoryCase):
         self.assertLess(os.path.getmtime(self.at.program), os.path.getmtime(f"{self.at.top}/crates/high/src/lib.rt"))
         self.assertFalse(os.path.exists(f"{self.at.program}.json"))
 
-    def capture_stale_words(self, name="dam_cli"):
+    def capture_stale_words_or_none(self, name="dam_cli"):
         """Returns the answer of tools/lib/crates/sources.py about a program."""
         path = f"{self.at.top}/crates/{name}/out/{name}"
         asked = f"from lib.crates import sources; print(sources.read_stale_words_or_none({path!r}, {name!r}) or '')"
@@ -144,21 +144,21 @@ class ProveTests(RepositoryCase):
 
     def test_the_record_of_the_sources(self):
         name = "crates/dam_cli/out/dam_cli"
-        self.assertEqual(self.capture_stale_words(), f"{name} is missing")
+        self.assertEqual(self.capture_stale_words_or_none(), f"{name} is missing")
         self.at.run_prove("dam_cli")
-        self.assertIsNone(self.capture_stale_words())
+        self.assertIsNone(self.capture_stale_words_or_none())
         self.assertIn('"kit": "no kit logic none"', self.at.read(f"{name}.json"))
         self.at.write("crates/far/src/lib.rt", "of another program")
-        self.assertIsNone(self.capture_stale_words())
+        self.assertIsNone(self.capture_stale_words_or_none())
         self.at.write("crates/low/src/more.rt", "")
         self.at.write("crates/high/proofs/one", "")
-        self.assertEqual(self.capture_stale_words(), f"{name} was built of other sources: high, low changed since")
+        self.assertEqual(self.capture_stale_words_or_none(), f"{name} was built of other sources: high, low changed since")
         self.at.run_prove("dam_cli")
-        self.assertIsNone(self.capture_stale_words())
+        self.assertIsNone(self.capture_stale_words_or_none())
         self.at.write(name, "another")
-        self.assertEqual(self.capture_stale_words(), f"{name} is not the file that was built: another one took its place")
+        self.assertEqual(self.capture_stale_words_or_none(), f"{name} is not the file that was built: another one took its place")
         os.remove(f"{self.at.program}.json")
-        self.assertEqual(self.capture_stale_words(), f"{name} has no record of the sources that it was built of")
+        self.assertEqual(self.capture_stale_words_or_none(), f"{name} has no record of the sources that it was built of")
 
     def test_stopped_while_it_waits(self):
         self.at.write("crates/low/src/lib.rt", "SECONDS 1.5")

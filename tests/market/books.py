@@ -63,7 +63,7 @@ class MarketBook(NamedTuple):
     def draw_with_one_more(self, rng):
         """The book with a block more at its end: like another one, with a limit that may be better or worse."""
         like = rng.choice(self.blocks)
-        limit = rng.choice([draw_better_limit, draw_worse_limit])(rng, like.order)
+        limit = rng.choice([draw_better_limit_or_none, draw_worse_limit_or_none])(rng, like.order)
         more = like._replace(name="MORE", order=like.order._replace(price=like.order.price if limit is None else limit))
         return self._replace(rows=(*self.rows, more))
 
@@ -96,16 +96,16 @@ def draw_book(rng):
     return MarketBook(run.periods, tuple(OrderRow(who, name, order) for (who, name), order in run.rows.items()))
 
 
-def draw_better_limit(rng, order):
+def draw_better_limit_or_none(rng, order):
     """A limit that is better than the order's own: higher for a buy, lower for a sell. None if there is none."""
-    return draw_moved(rng, order, 1 if order.side == "buy" else -1)
+    return draw_moved_limit_or_none(rng, order, 1 if order.side == "buy" else -1)
 
 
-def draw_worse_limit(rng, order):
-    return draw_moved(rng, order, -1 if order.side == "buy" else 1)
+def draw_worse_limit_or_none(rng, order):
+    return draw_moved_limit_or_none(rng, order, -1 if order.side == "buy" else 1)
 
 
-def draw_moved(rng, order, sign):
+def draw_moved_limit_or_none(rng, order, sign):
     """A limit in that direction, often near; None if the order's own is at the end of the range."""
     end = rules.HIGHEST_PRICE if sign > 0 else rules.LOWEST_PRICE
     room = abs(end - order.price)

@@ -141,7 +141,7 @@ def try_that_a_period_is_fair(market, book, _):
 def try_a_better_limit(market, book, rng):
     printed = market.capture_results(book)
     for row in book.blocks:
-        limit = books.draw_better_limit(rng, row.order)
+        limit = books.draw_better_limit_or_none(rng, row.order)
         if printed.accepts(row) and limit is not None:
             if not market.capture_results(book.with_limit(row, limit)).accepts(row):
                 yield f"block {row.name} is accepted, and with the better limit {limit} it isn't"
@@ -152,7 +152,7 @@ def try_that_there_is_a_worst_limit(market, book, rng):
     if not book.blocks:
         return
     row = rng.choice(book.blocks)
-    moves = 3 * (books.draw_better_limit, books.draw_worse_limit)
+    moves = 3 * (books.draw_better_limit_or_none, books.draw_worse_limit_or_none)
     drawn = {limit for move in moves if (limit := move(rng, row.order)) is not None}
     limits = sorted(drawn, key=lambda limit: signed_by_side(row.order, limit))
     accepted = [market.capture_results(other).accepts(book_row(other, row)) for other in (book.with_limit(row, limit) for limit in limits)]
@@ -167,7 +167,7 @@ def book_row(book, row):
 def try_a_worse_limit(market, book, rng):
     printed = market.capture_results(book)
     for row in book.blocks:
-        limit = books.draw_worse_limit(rng, row.order)
+        limit = books.draw_worse_limit_or_none(rng, row.order)
         if not printed.accepts(row) and limit is not None:
             other = market.capture_results(book.with_limit(row, limit))
             if other.accepts(row) or other.lines_but(row.key) != printed.lines_but(row.key):

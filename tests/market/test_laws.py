@@ -155,10 +155,10 @@ class Books(unittest.TestCase):
     def test_limits_move_as_they_should(self):
         for seed in range(100):
             rng = random.Random(seed)
-            self.assertLess(books.draw_better_limit(rng, UNIT.order), 4_000)
-            self.assertGreater(books.draw_worse_limit(rng, UNIT.order), 4_000)
-            self.assertGreater(books.draw_better_limit(rng, TOWN.order), 5_000)
-            self.assertIsNone(books.draw_better_limit(rng, UNIT.order._replace(price=rules.LOWEST_PRICE)))
+            self.assertLess(books.draw_better_limit_or_none(rng, UNIT.order), 4_000)
+            self.assertGreater(books.draw_worse_limit_or_none(rng, UNIT.order), 4_000)
+            self.assertGreater(books.draw_better_limit_or_none(rng, TOWN.order), 5_000)
+            self.assertIsNone(books.draw_better_limit_or_none(rng, UNIT.order._replace(price=rules.LOWEST_PRICE)))
 
     def test_drawn_books_have_what_the_laws_are_about(self):
         drawn = [books.draw_book(random.Random(f"market check {number}")) for number in range(1, 201)]

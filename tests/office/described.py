@@ -25,11 +25,11 @@ def schema_referred_to(described):
     return API[components][kind][name]
 
 
-def fault_of_value(value, schema, at="answer"):
+def fault_of_value_or_none(value, schema, at="answer"):
     """How a value breaks a schema; None if it doesn't."""
     schema = schema_referred_to(schema)
     if "oneOf" in schema:
-        return None if sum(fault_of_value(value, one, at) is None for one in schema["oneOf"]) == 1 else f"{at} is none of several"
+        return None if sum(fault_of_value_or_none(value, one, at) is None for one in schema["oneOf"]) == 1 else f"{at} is none of several"
     kind = schema.get("type")
     if kind and (not isinstance(value, TYPES[kind]) or kind != "boolean" and isinstance(value, bool)):
         return f"{at} should be a {kind}"
@@ -38,7 +38,7 @@ def fault_of_value(value, schema, at="answer"):
     if "pattern" in schema and not re.search(schema["pattern"], value):
         return f"{at} is {value!r}"
     if kind == "array":
-        found = (fault_of_value(one, schema.get("items", {}), f"{at}[{number}]") for number, one in enumerate(value))
+        found = (fault_of_value_or_none(one, schema.get("items", {}), f"{at}[{number}]") for number, one in enumerate(value))
         return next((fault for fault in found if fault), None)
     if kind == "object":
         if missing := [name for name in schema.get("required", ()) if name not in value]:
@@ -46,7 +46,7 @@ def fault_of_value(value, schema, at="answer"):
         properties = schema.get("properties", {})
         if schema.get("additionalProperties") is False and (more := set(value) - set(properties)):
             return f"{at} has {sorted(more)[0]}"
-        found = (fault_of_value(one, properties.get(name, {}), f"{at}.{name}") for name, one in value.items())
+        found = (fault_of_value_or_none(one, properties.get(name, {}), f"{at}.{name}") for name, one in value.items())
         return next((fault for fault in found if fault), None)
     return None
 
@@ -63,7 +63,7 @@ def send_and_check(office, counts, method, template, values, headers=None, body=
     kind = got.get("Content-Type", "").partition(";")[0]
     fault = None if kind in kinds or not kinds else f"the type is {kind}"
     if kind == "application/json" and kind in kinds:
-        fault = fault or fault_of_value(json.loads(data), kinds[kind]["schema"])
+        fault = fault or fault_of_value_or_none(json.loads(data), kinds[kind]["schema"])
     counts.check(f"{about}: {fault}", fault is None)
     return status, data
 
@@ -71,7 +71,7 @@ def send_and_check(office, counts, method, template, values, headers=None, body=
 def check_answer_of_demo(counts, method, template, answer):
     """The answer to a request that only a demo answers is as described."""
     described = DEMO["paths"][template][method]["responses"]["200"]["content"]["application/json"]["schema"]
-    fault = fault_of_value(json.loads(answer), described)
+    fault = fault_of_value_or_none(json.loads(answer), described)
     counts.check(f"{method} {template} in a demo: {fault}", fault is None)
 
 

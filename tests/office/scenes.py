@@ -96,7 +96,7 @@ def check_full_disk(args, counts):
             while (answer := office.send_request(f"{path}{entered + 1}", bearer, "PUT", record % f"B-{entered}"))[0] == 200:
                 entered += 1
             counts.check(f"a full disk is answered by 503, after {entered} commands", answer[0] == 503 and 10 < entered < 200)
-            counts.check("and the ends of the desk are counted", office.read_metric("dam_office_desk_ends_total") > 0)
+            counts.check("and the ends of the desk are counted", office.read_metric_or_none("dam_office_desk_ends_total") > 0)
             full.unlink()
             receipt = office.client_of(who).enter(office.day, record % f"B-{entered}")[0]
             counts.check(
@@ -125,12 +125,12 @@ def check_full_office(args, counts):
         counts.check(f"a full disk is answered by 503: {answer[2]}", answer[0] == 503)
         found = [office.send_request("/healthz")[0] for _ in range(40) if time.sleep(0.1) is None]
         counts.check(f"and the office is unavailable as long as the disk is full: {found}", set(found) == {503})
-        values = [office.read_metric(name) for name in (f'dam_office_ready{{day="{office.day}"}}', "dam_office_right")]
+        values = [office.read_metric_or_none(name) for name in (f'dam_office_ready{{day="{office.day}"}}', "dam_office_right")]
         counts.check(f"and says so in its counts: {values}", values == [0, 0])
         set_file_limit(office, resource.RLIM_INFINITY)
         office.kill("desk")  # which has the limit
         counts.check("with room it is available again, without a command", wait_until(office.is_ready))
-        counts.check("and its counts say so", wait_until(lambda: office.read_metric("dam_office_right") == 1))
+        counts.check("and its counts say so", wait_until(lambda: office.read_metric_or_none("dam_office_right") == 1))
         set_file_limit(office, 4_096)
         said = office.folder.parent / "said"
         with said.open("wb") as stream:
@@ -288,12 +288,12 @@ def check_whole_day(args, counts):
         check_published(args, counts, office)
         office.kill("office", "desk")
         office.start_process()
-        wrong = list(start_and_read_answers(office, len(records) + 1))
+        wrong = list(iterate_wrong_answers_of_start(office, len(records) + 1))
         counts.check(f"a closed day that is read again gives no other answers: {wrong[:3]}", not wrong)
         counts.check("another's share isn't touched", office.client_of(office.who[0]).next(office.day) <= most + 1)
 
 
-def start_and_read_answers(office, size):
+def iterate_wrong_answers_of_start(office, size):
     """The answers of an office that starts, until it is ready, which aren't those of a closed day with this number of entries."""
     who, is_ready = office.who[0], False
     while not is_ready:
@@ -443,7 +443,7 @@ def check_alerts(office, counts):
 
 
 def check_page(args, counts):
-    if browser.find_browser() is None:
+    if browser.find_browser_or_none() is None:
         counts.leave_out("the page: chromium is missing")
         return
     import scene_of_page

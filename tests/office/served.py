@@ -108,7 +108,7 @@ class ServedOffice:
         finally:
             connection.close()
 
-    def read_metric(self, name):
+    def read_metric_or_none(self, name):
         """A value of /metrics by its name, with its labels if it has any; None without it."""
         found = re.search(rf"^{re.escape(name)} (\S+)$", self.send_request("/metrics")[2].decode(), re.MULTILINE)
         return float(found[1]) if found else None

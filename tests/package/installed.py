@@ -78,7 +78,7 @@ class MinimalSystem:
         return found
 
 
-def capture_release():
+def capture_release_or_none():
     """The name of this machine's release of Debian, and where it has its packages from; None if that isn't known."""
     with open("/etc/os-release", encoding="utf-8") as text:
         told = dict(line.rstrip().split("=", 1) for line in text if "=" in line)
@@ -164,7 +164,7 @@ def check_in_c(counts, system, caller):
 def check_installed(counts, package, archive, caller):
     """Every test of the installed package."""
     missing = [name for name in ("debootstrap", "unshare", "chroot", "apt-get") if not shutil.which(name)]
-    found = None if missing else capture_release()
+    found = None if missing else capture_release_or_none()
     if missing or os.geteuid() or not found:
         why = f"{', '.join(missing)} missing" if missing else "not root" if os.geteuid() else "this machine's release of Debian isn't known"
         counts.leave_out(f"the package in a fresh system: {why}")

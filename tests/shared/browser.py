@@ -16,7 +16,7 @@ NAMES = ("chromium", "chromium-browser", "google-chrome")
 START_SECONDS, WAIT_SECONDS, STEP = 60, 60, 0.05
 
 
-def find_browser():
+def find_browser_or_none():
     return next((path for path in map(shutil.which, NAMES) if path), None)
 
 
@@ -96,7 +96,7 @@ async def running_browser_tab(url):
     """A tab with a page."""
     with tempfile.TemporaryDirectory(ignore_cleanup_errors=True) as room:
         words = [
-            find_browser(),
+            find_browser_or_none(),
             "--headless=new",
             "--no-sandbox",
             "--disable-gpu",

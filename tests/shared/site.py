@@ -69,7 +69,7 @@ class Site:
     def relative_name(self, path):
         return path.relative_to(self.folder).as_posix()
 
-    def fault_of_link(self, page, url):
+    def fault_of_link_or_none(self, page, url):
         """Why a link of a page leads nowhere in the site, if it doesn't."""
         parts = urlsplit(url)
         if parts.scheme or parts.netloc:
@@ -87,7 +87,7 @@ class Site:
         """Each link, fetched file and place of the site that is wrong, with its page."""
         for page in self.pages.values():
             for url in [*page.links, *page.fetches]:
-                if wrong := self.fault_of_link(page, url):
+                if wrong := self.fault_of_link_or_none(page, url):
                     yield f"{self.relative_name(page.path)}: {url}: {wrong}"
             yield from (f"{self.relative_name(page.path)}: two places are named {name}" for name in page.twice)
         for path in sorted(self.folder.rglob("*.css")):

@@ -78,7 +78,7 @@ class CheckReport:
                 found.setdefault(folder.replace("/", "::"), str(it))
         return found
 
-    def error_of_reading(self):
+    def error_of_reading_or_none(self):
         """Returns an error by which the check could not read a text of src/ or specs/, or None."""
         return next((it for it in self.errors if it.path.startswith(("src/", "specs/")) and UNREAD.search(it.text)), None)
 

@@ -82,8 +82,8 @@ class Reports(unittest.TestCase):
         self.assertEqual(len(CheckReport(REFUSED).errors), 4)
 
     def test_a_text_that_the_check_cannot_read(self):
-        self.assertIsNone(CheckReport(REFUSED).error_of_reading())
-        error = CheckReport("specs/Hour.antt:3:9: error: `steps` is not in scope\nlogic=not-proved\n").error_of_reading()
+        self.assertIsNone(CheckReport(REFUSED).error_of_reading_or_none())
+        error = CheckReport("specs/Hour.antt:3:9: error: `steps` is not in scope\nlogic=not-proved\n").error_of_reading_or_none()
         self.assertEqual(str(error), "specs/Hour.antt:3: `steps` is not in scope")
 
     def test_a_closure_belongs_to_its_function(self):

@@ -125,8 +125,8 @@ class Trial:
         if not report.is_refused:
             why = report.errors[0] if report.errors else "\n".join(report.lines[-6:])
             return False, f"BAD EDIT: the check ended before any proof: {why}"
-        if report.error_of_reading():
-            return False, f"BAD EDIT: the check cannot read the edited text: {report.error_of_reading()}"
+        if report.error_of_reading_or_none():
+            return False, f"BAD EDIT: the check cannot read the edited text: {report.error_of_reading_or_none()}"
         for why in report.refusals().values():
             return True, f"refused: {why}"
         return False, "BAD EDIT: it is refused only because a proof names what it took away: change the meaning and keep the names"

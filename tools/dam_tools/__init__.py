@@ -58,7 +58,7 @@ from .lib.sheets import order_table, shapes, tables
 from .lib.tool import command, modules
 from .lib.tool.day_files import Day
 from .lib.runs.errors import Fault, TimedOut
-from .lib.runs.which import where
+from .lib.runs.which import find_engine_or_none as where
 from .lib.journal.journal import Journal
 from .lib.base.rules import VERSION as __version__
 
@@ -137,7 +137,7 @@ def clear(
     and DAM_LIBRARY the library, which comes first."""
     by_program.refuse_wrong_timeout(timeout)
     read = read_or_return_journal(source)
-    path = which.find_library() if (program, workers, cut, nodes, timeout) == (None,) * 5 else None
+    path = which.find_library_or_none() if (program, workers, cut, nodes, timeout) == (None,) * 5 else None
     if path:
         return read_results(read, by_library.call_and_return_output(path, journal.journal_text(read).encode()))
     options = [f"--{name}={value}" for name, value in (("workers", workers), ("cut", cut), ("nodes", nodes)) if value is not None]

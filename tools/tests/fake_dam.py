@@ -31,14 +31,14 @@ def commands_in_drawn_order(commands):
 def answer_to_day(data):
     try:
         given = journal.parse_journal(data)
-        fault = compare.fault_of_day(given)
+        fault = compare.fault_of_day_or_none(given)
     except journal.Fault as found:
         fault = found
     if fault:
         return compare.refused_output(fault)
     run = journal.Journal(given.periods, [*commands_in_drawn_order(given.commands), journal.Close()])
     text = journal.journal_text(run).encode() + b"results\n"
-    return Printed(0, text + compare.right_results(run).stdout, b"")
+    return Printed(0, text + compare.right_results_or_none(run).stdout, b"")
 
 
 def text_of_lower_results(data):

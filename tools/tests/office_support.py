@@ -54,7 +54,7 @@ class DeskInMemory:
     def reply(self, record):
         return sealing.reply_of(self.book.apply_or_return_refusal(heads.command_of_record_or_none(record)))
 
-    async def enter_and_return_replies(self, records):
+    async def iterate_replies(self, records):
         await asyncio.sleep(0)
         kept, answered = self.disk.ends.pop(0) if self.disk.ends else (None, None)
         replies = []
@@ -88,7 +88,7 @@ def patch_of_opening(disk):
     return mock.patch.object(Desk, "start_and_read_records", opened)
 
 
-async def write_and_return_troubles(given):
+async def iterate_untroubled_publishing(given):
     """In place of the programs after a close."""
     given.files.path_of(folder.RESULTS).write_bytes(b"")
     yield None
@@ -108,8 +108,8 @@ class Office(unittest.IsolatedAsyncioTestCase):
             patch = mock.patch.object(day_writer, name, 0.001)
             patch.start()
             self.addCleanup(patch.stop)
-        self.publish = publishing.write_missing_and_return_troubles
-        patch = mock.patch.object(publishing, "write_missing_and_return_troubles", write_and_return_troubles)
+        self.publish = publishing.iterate_publishing_troubles
+        patch = mock.patch.object(publishing, "iterate_publishing_troubles", iterate_untroubled_publishing)
         patch.start()
         self.addCleanup(patch.stop)
 

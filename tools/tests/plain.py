@@ -31,7 +31,7 @@ class Plain:
                 net[number] += volume if order.side == "sell" else -volume
         return net
 
-    def welfare(self, accepted):
+    def welfare_or_none(self, accepted):
         """None if a period doesn't balance."""
         total = 0
         for number, net in self.net(accepted).items():
@@ -75,7 +75,7 @@ class Plain:
         found = None
         for flags in itertools.product([True, False], repeat=len(self.blocks)):
             accepted = frozenset(itertools.compress(self.places, flags))
-            welfare = self.welfare(accepted) if self.admits(accepted) else None
+            welfare = self.welfare_or_none(accepted) if self.admits(accepted) else None
             if welfare is None or found and welfare <= found[0]:
                 continue
             if not self.losers(accepted, self.surpluses(accepted)):

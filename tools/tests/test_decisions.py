@@ -305,7 +305,7 @@ class Random(unittest.TestCase):
         for data, plain, best in drawn(2_000):
             day = problem_of(data)
             outcome = selection.outcome(day, best)
-            self.assertEqual(outcome.welfare, plain.welfare(best), data)
+            self.assertEqual(outcome.welfare, plain.welfare_or_none(best), data)
             for place, decision in enumerate(decisions.decisions(day, best, outcome)):
                 if place not in best:
                     with self.subTest(data=data, place=place, why=decision.why):
@@ -324,7 +324,7 @@ class Random(unittest.TestCase):
         family = decision.family.members
         self.assertEqual(ranks[family], max(ranks.values()))
         self.assertEqual((decision.other.accepted, decision.family.gain()), (choices[family], ranks[family][1]))
-        without, welfare = plain.welfare(best), plain.welfare(choices[family])
+        without, welfare = plain.welfare_or_none(best), plain.welfare_or_none(choices[family])
         self.assertEqual(decision.other.welfare, welfare)
         lost = best - choices[family]
         is_paradox = not lost and ranks[family][0] and ranks[family][1] > 0 and plain.gain(place, family, surpluses) > 0

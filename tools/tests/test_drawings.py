@@ -80,7 +80,7 @@ class Desk(unittest.TestCase):
         """The blue lines are those that the reader of a desk's file finds."""
         for file in draw_desk.STATES:
             blue = "".join(f"{text}\n" for text, counts in draw_desk.rows(file) if counts)
-            self.assertEqual(blue.encode(), draw_desk.HEAD + images.parse_marked_lines(file))
+            self.assertEqual(blue.encode(), draw_desk.HEAD + images.parse_marked_lines_or_none(file))
             self.assertTrue(file.endswith(b"\n-"))
 
     def test_the_steps_of_a_batch(self):
@@ -89,8 +89,8 @@ class Desk(unittest.TestCase):
         place = len(before) - 1
         self.assertEqual((between[: place + 1], between[:place] + b"+" + between[place + 1 :]), (before, after))
         for old, change in [(before, images.UnsyncedChange(place + 1, between[place + 1 :])), (between, images.UnsyncedChange(place, b"+"))]:
-            found = {images.parse_marked_lines(image) for image in images.draw_torn_files(old, change, random.Random(1))}
-            self.assertEqual(found, {draw_desk.HELD} | ({images.parse_marked_lines(after)} if change.bytes == b"+" else set()))
+            found = {images.parse_marked_lines_or_none(image) for image in images.draw_torn_files(old, change, random.Random(1))}
+            self.assertEqual(found, {draw_desk.HELD} | ({images.parse_marked_lines_or_none(after)} if change.bytes == b"+" else set()))
 
 
 class Bound(unittest.TestCase):

@@ -31,7 +31,7 @@ if modules.has_module("aiohttp"):
 
 MISSING = site.missing_packages()
 NEEDS_MKDOCS = unittest.skipIf(MISSING, f"{' and '.join(MISSING)} missing")
-NO_BROWSER = "python3-aiohttp is missing" if not modules.has_module("aiohttp") else None if browser.find_browser() else "chromium is missing"
+NO_BROWSER = "python3-aiohttp is missing" if not modules.has_module("aiohttp") else None if browser.find_browser_or_none() else "chromium is missing"
 SECONDS = 60  # that the index of the search may take
 WIDTHS = {1_280: "dark", 390: "light"}
 SCHEMES = {"dark": "slate", "light": "default"}

@@ -184,8 +184,8 @@ class Many(unittest.TestCase):
             dam_tools.clear("")
 
     def test_neither_library_nor_program(self):
-        with unittest.mock.patch.multiple(which, where=lambda: None, find_program=lambda: None):
-            with unittest.mock.patch.object(dam_tools, "where", which.where), unittest.mock.patch.dict(os.environ, {"DAM": ""}):
+        with unittest.mock.patch.multiple(which, find_engine_or_none=lambda: None, find_program_or_none=lambda: None):
+            with unittest.mock.patch.object(dam_tools, "where", which.find_engine_or_none), unittest.mock.patch.dict(os.environ, {"DAM": ""}):
                 with self.assertRaisesRegex(dam_tools.Fault, "^no program was found: "):
                     dam_tools.clear_many([AUCTION, AUCTION])
 

@@ -330,7 +330,7 @@ class Opening(unittest.IsolatedAsyncioTestCase):
         pipes = dict.fromkeys(("stdin", "stdout", "stderr"), asyncio.subprocess.PIPE)
         with self.assertNoLogs("asyncio", "ERROR"):
             desk = Desk(await asyncio.create_subprocess_exec("sleep", "3600", **pipes), 0)
-            entered = desk.enter_and_return_replies(["x" * 2**20])
+            entered = desk.iterate_replies(["x" * 2**20])
             asyncio.get_running_loop().call_later(0.1, desk.process.kill)
             with self.assertRaisesRegex(Ended, "^the desk was ended by signal 9: no fault line$"):
                 await entered.__anext__()

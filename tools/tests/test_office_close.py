@@ -199,7 +199,7 @@ class Closing(Office):
             rights.append(given.is_healthy)
 
         rights, log = [], io.StringIO()
-        with patch_of_opening(Disk()), mock.patch.object(publishing, "write_missing_and_return_troubles", self.publish), mock.patch.multiple(
+        with patch_of_opening(Disk()), mock.patch.object(publishing, "iterate_publishing_troubles", self.publish), mock.patch.multiple(
             publishing, FIRST_PAUSE=0.001, write_journal_and_head=sign, write_results=made, write_statement=made
         ):
             given = self.day_writer_of(log=observed.Log(log))
@@ -234,7 +234,7 @@ class Closing(Office):
             with mock.patch.object(operate, "capture_records", mock.Mock()), records:
                 return given.state, operate.capture_day_record_or_stop(given.files, "dam-desk")["state"]
 
-        with patch_of_opening(disk), mock.patch.object(publishing, "write_missing_and_return_troubles", self.held):
+        with patch_of_opening(disk), mock.patch.object(publishing, "iterate_publishing_troubles", self.held):
             given = self.day_writer_of()
             task = asyncio.create_task(given.write_until_published())
             await given.is_ready.wait()

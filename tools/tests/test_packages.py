@@ -39,6 +39,25 @@ def later():
 
     return results.stale_16, lambda: results.stale_17, text.stale_18
 """
+# Functions, of which the first three have names that the table of tools/NOTES.md has for others.
+MISNAMED = """
+def add_and_return_lines(): yield 1
+def find_file(path): return path if path else None
+def answer(key):
+    for found in key:
+        return found
+    return None
+def kept_or_none(): return None if late else 1
+def try_file(): return None if late else "late"
+def parse_or_note_fault(): return None if late else 1
+def end(): return None
+@contextlib.contextmanager
+def opening_and_return(): yield 1
+"""
+NONE = re.compile("_or_none$|^try_|_or_note_faults?$")  # the names of functions that may return None
+# What may be None with another name: a string of a table by its number, as of a dictionary; a part of a workbook, or a fault if it has
+# two; a value of JSON, of which null is one.
+ALSO_NONE = {"get", "only_part_or_refuse", "typed_value"}
 MAY = re.compile(r"^It may import: (.*)\.$", re.MULTILINE)
 
 
@@ -85,6 +104,40 @@ def hidden_names(tree):
             yield from (name for name, count in collections.Counter(names).items() if count > 1)
 
 
+def own_nodes(function):
+    """The nodes of a function without those of functions within it."""
+    left = list(function.body)
+    while left:
+        node = left.pop()
+        yield node
+        if not isinstance(node, (ast.FunctionDef, ast.AsyncFunctionDef, ast.ClassDef, ast.Lambda)):
+            left.extend(ast.iter_child_nodes(node))
+
+
+def may_be_none(value):
+    """Whether a returned expression may be None, as far as it shows that."""
+    if isinstance(value, ast.IfExp):
+        return may_be_none(value.body) or may_be_none(value.orelse)
+    return value is None or isinstance(value, ast.Constant) and value.value is None
+
+
+def misnamed_functions(tree):
+    """The generators that are named as functions with a returned value, and the functions that may return None or a value and don't say
+    so by their names."""
+    for function in ast.walk(tree):
+        if not isinstance(function, (ast.FunctionDef, ast.AsyncFunctionDef)):
+            continue
+        nodes = list(own_nodes(function))
+        returned = [node.value for node in nodes if isinstance(node, ast.Return)]
+        if any(isinstance(node, (ast.Yield, ast.YieldFrom)) for node in nodes):
+            is_context = any("contextmanager" in ast.unparse(each) for each in function.decorator_list)
+            if re.search("_and_(return|yield|read)", function.name) and not is_context:
+                yield function.name
+        elif any(map(may_be_none, returned)) and not all(isinstance(one, ast.Constant) or one is None for one in returned):
+            if not NONE.search(function.name) and function.name not in ALSO_NONE:
+                yield function.name
+
+
 class Packages(unittest.TestCase):
     def test_every_module_is_in_a_package(self):
         self.assertEqual([path.name for path in LIB.glob("*.py")], ["__init__.py"])
@@ -113,6 +166,14 @@ class Packages(unittest.TestCase):
         for path in MODULES:
             with self.subTest(path=str(path.relative_to(TOP))):
                 self.assertEqual(list(hidden_names(ast.parse(path.read_text()))), [])
+
+    def test_names_tell_generators_and_none(self):
+        planted = ["add_and_return_lines", "find_file", "answer"]
+        self.assertEqual(list(misnamed_functions(ast.parse(MISNAMED))), planted)
+        for path in files_in_python():
+            if path.is_relative_to(TOP / "tools") and not path.is_relative_to(TOP / "tools" / "tests"):
+                with self.subTest(path=str(path.relative_to(TOP))):
+                    self.assertEqual(list(misnamed_functions(ast.parse(path.read_text()))), [])
 
     def test_names_asked_of_modules_are_theirs(self):
         """Among others, in this file: the scan finds each stale name of STALE."""

@@ -43,7 +43,7 @@ def search(*lines, key, periods=24):
 
 def best(text):
     """The places that the rules accept, by trying each selection."""
-    out = compare.right_results(journal.parse_journal(text)).stdout
+    out = compare.right_results_or_none(journal.parse_journal(text)).stdout
     words = [line.split(",")[3] for line in out.decode().splitlines() if line.startswith("block,")]
     return {place for place, word in enumerate(words) if word == "accepted"}
 

@@ -15,7 +15,8 @@ def find_better_and_how_or_stop(problem, published, method, progress, jobs):
     """A selection that ranks above the one of right results, or None; and how it was looked for. Ends the tool if the time is over, or
     if the search fails."""
     try:
-        return {ENUMERATION: find_better_and_how_by_enumeration, HIGHS: find_better_and_how_by_highs}[method](problem, published, progress, jobs)
+        find = {ENUMERATION: find_better_and_how_by_enumeration, HIGHS: find_better_and_how_by_highs}[method]
+        return find(problem, published, progress, jobs)
     except (TimeoutError, child_call.Died) as fault:
         status = command.UNDECIDED if isinstance(fault, TimeoutError) else command.FAILED
         raise command.Stop(f"the results obey the other rules, but {fault}", status) from None

@@ -57,8 +57,8 @@ def stem_and_suffix(name):
 
 def find_pair(name, journal, published):
     if os.path.lexists(published):
-        return Pair(name, journal, published, file_io.find_unread_reason(journal) or file_io.find_unread_reason(published), None)
-    return Pair(name, journal, None, file_io.find_unread_reason(journal), f"{command.shown(published)} is missing")
+        return Pair(name, journal, published, file_io.unread_reason_or_none(journal) or file_io.unread_reason_or_none(published), None)
+    return Pair(name, journal, None, file_io.unread_reason_or_none(journal), f"{command.shown(published)} is missing")
 
 
 def require_listed_pairs(path, notes):
@@ -125,8 +125,8 @@ def find_listed_pair(folder, cells, extra):
     journal, published = (folder / cells.get(name, "") for name in COLUMNS)
     has_results = bool(cells.get("results"))
     missing = None if has_results else f"its row names no results, and {command.shown(journal)} has no line 'results'"
-    unread = extra or unread_row_words_or_none(cells) or file_io.find_unread_reason(journal)
-    unread = unread or (file_io.find_unread_reason(published) if has_results else None)
+    unread = extra or unread_row_words_or_none(cells) or file_io.unread_reason_or_none(journal)
+    unread = unread or (file_io.unread_reason_or_none(published) if has_results else None)
     return Pair(cells.get(NAME) or journal.stem, journal, published if has_results else None, unread, missing)
 
 

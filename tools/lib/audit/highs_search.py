@@ -235,7 +235,7 @@ def find_better_and_how(problem, accepted, welfare, progress, tell=lambda words:
     for least, fixed in questions_to_highs(accepted, welfare, len(problem.blocks)):
         for count in itertools.count():
             model.restrict(least, fixed, ROOM if count < TOO_MANY else 1)
-            other = solve_for_selection_or_time_out(model, progress, looked)
+            other = solve_in_time_or_none(model, progress, looked)
             if other is None:
                 break
             looked += 1
@@ -254,7 +254,7 @@ def progress_words(looked):
     return f"HiGHS is still searching{found}"
 
 
-def solve_for_selection_or_time_out(model, progress, looked):
+def solve_in_time_or_none(model, progress, looked):
     """The next selection that HiGHS offers, or None. Fails if no time is left."""
     left = progress.seconds_left()
     try:

@@ -92,7 +92,7 @@ class Audit:
         return command.ENCODING if self.odd else command.DONE
 
     @property
-    def message(self):
+    def message_or_none(self):
         """Why there is no verdict, though the audit ended; None if there is one."""
         return f"{self.uncompared_words()}: not the operator's, or of another day" if self.status == command.NO_INPUT else None
 

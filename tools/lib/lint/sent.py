@@ -98,7 +98,8 @@ def parse_commands_notes_and_others(data, periods, who):
     try:
         table = order_table.parse_cells(data)
         if command_table.is_command_table(table):
-            raise BadSentText(f"it is a table of commands, with the column {command_table.WHAT}: give records of a journal, or a table of orders")
+            words = f"it is a table of commands, with the column {command_table.WHAT}"
+            raise BadSentText(f"{words}: give records of a journal, or a table of orders")
         orders = order_table.parse_tables([("", table)], periods, who)
     except order_table.BadOrders as fault:
         is_table = kinds.kind_or_none(data) == kinds.ORDERS

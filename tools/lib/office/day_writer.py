@@ -90,7 +90,7 @@ class DayWriter:
         commands, begin = [command for command, _ in self.queue.batch], self.ledger.size
         records = list(map(command_record_text, commands))
         entries = zip(commands, records)
-        async for reply in self.desk.enter_and_return_replies(records):
+        async for reply in self.desk.iterate_replies(records):
             self.ledger.enter_or_raise(*next(entries), reply)
             self.counts.add("entries_total")
         self.counts.add("batches_total")
@@ -122,7 +122,7 @@ class DayWriter:
             else:
                 await self.run_desk_until_closed()
                 await self.end_desk()
-                async for trouble in publishing.write_missing_and_return_troubles(self):
+                async for trouble in publishing.iterate_publishing_troubles(self):
                     self.trouble = trouble
             self.is_ready.set()
         except Contradiction as fault:

@@ -44,7 +44,7 @@ def fault_line(err):
 
 
 class Desk:
-    """A running desk. `enter_and_return_replies` gives it records; only one call runs at a time."""
+    """A running desk. `iterate_replies` gives it records; only one call runs at a time."""
 
     def __init__(self, process, size):
         self.process, self.size = process, size
@@ -108,7 +108,7 @@ class Desk:
         self.size += 1
         return found[2]
 
-    async def enter_and_return_replies(self, records):
+    async def iterate_replies(self, records):
         """Enters records, and yields the reply to each, which comes once it is on the disk."""
         self.process.stdin.write("".join(f"{record}\n" for record in records).encode())
         async with async_timeout.timeout(ANSWER_SECONDS):

@@ -45,15 +45,16 @@ def require_runnable(path, name, option):
 def require_dam(named=None, may_compile=False):
     """The program dam: the one that is named, or else the package's, the clone's or the system's; or, if it may be compiled, the clone's
     without proofs."""
-    found = which.find_program()
-    path = named or os.environ.get("DAM") or (found.path if found else None) or (compile_unproved_or_none("dam_cli") if may_compile else None)
+    found = which.find_program_or_none()
+    path = named or os.environ.get("DAM") or (found.path if found else None)
+    path = path or (compile_unproved_or_none("dam_cli") if may_compile else None)
     return require_runnable(path, "dam", "--dam")
 
 
 def require_desk(named=None, may_compile=False):
     """The program dam-desk, found the same way."""
     here = DESK_BUILT if os.access(DESK_BUILT, os.X_OK) else None
-    path = named or os.environ.get("DAM_DESK") or which.find_packaged("bin", "dam-desk") or here or shutil.which("dam-desk")
+    path = named or os.environ.get("DAM_DESK") or which.find_packaged_or_none("bin", "dam-desk") or here or shutil.which("dam-desk")
     return require_runnable(path or (compile_unproved_or_none("dam_desk") if may_compile else None), "dam-desk", "--desk")
 
 

@@ -14,8 +14,8 @@ from .published import sha256_hex
 FIRST_PAUSE, LONGEST_PAUSE = 1.0, 60.0  # seconds before a step that failed is tried again
 
 
-async def write_missing_and_return_troubles(writer):
-    """Makes the files of a closed day, each once; a step that fails is tried again. After each try, yields why its file wasn't made, or
+async def iterate_publishing_troubles(writer):
+    """Makes the files of a closed day, each once; a step that fails is tried again. After each try, it yields why its file wasn't made, or
     None if it was."""
     for step, name in ((write_journal_and_head, folder.HEAD), (write_results, folder.RESULTS), (write_statement, folder.STATEMENT)):
         pause = FIRST_PAUSE

@@ -238,18 +238,18 @@ def impossible_reply_words_or_none(receipt):
     return None
 
 
-def add_file_and_return_findings(path, head, key, links, who=None):
-    """The findings on the receipts of a file, one in each line, which are added to the links. A line that is none is named, and so is a file that can't be read. If a
-    participant is named, all are its own."""
+def iterate_findings_of_file(path, head, key, links, who=None):
+    """Adds the receipts of a file, one in each line, to the links, and yields the finding on each. A line that is none is named, and so is
+    a file that can't be read. If a participant is named, all are its own."""
     try:
         data = file_io.read_bytes(path)
     except command.Stop as fault:
         yield unread_finding_or_raise(path, fault)
         return
-    yield from add_lines_and_return_findings(path, data, head, key, links, who)
+    yield from iterate_findings_of_lines(path, data, head, key, links, who)
 
 
-def add_lines_and_return_findings(path, data, head, key, links, who=None):
+def iterate_findings_of_lines(path, data, head, key, links, who=None):
     """The same from the bytes of the file."""
     try:
         lines = heads.require_lines(data)

@@ -164,7 +164,7 @@ def require_receipt_files(folder):
     for path in paths:
         if path.suffix != ".jsonl":
             raise command.Stop(f"{command.shown(folder)} has {text.quoted(path.name)}, which isn't a file of receipts, NAME.jsonl")
-        if fault := file_io.find_unread_reason(path):
+        if fault := file_io.unread_reason_or_none(path):
             raise command.Stop(fault)
     if not paths:
         raise command.Stop(f"{command.shown(folder)} has no file of receipts, NAME.jsonl")
@@ -176,7 +176,7 @@ def read_findings_of_folder(folder, key, read=file_io.read_bytes):
     receipts."""
     links, findings = receipts.Links([], key, []), []
     for path in require_receipt_files(folder):
-        for finding in receipts.add_lines_and_return_findings(str(path), read(path), None, key, links):
+        for finding in receipts.iterate_findings_of_lines(str(path), read(path), None, key, links):
             if finding.verdict == receipts.UNREAD:
                 raise command.Stop(str(finding))
             findings.append(finding)

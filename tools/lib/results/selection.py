@@ -32,11 +32,11 @@ class Problem:
             number: tuple((row.order.side, row.order.price, row.order.volumes[0][1]) for row in rows)
             for number, rows in self.hourly.items()
         }
-        self.parents = [self.place(block.who, block.order.parent) for block in self.blocks]
+        self.parents = [self.place_of_block_or_none(block.who, block.order.parent) for block in self.blocks]
         self.rescuers = [descendants(place, self.blocks) for place in range(len(self.blocks))]
 
-    def place(self, who, name):
-        """The place of the block with this name among the blocks; None if there is none."""
+    def place_of_block_or_none(self, who, name):
+        """The place among the blocks of the one with this name; None if there is none."""
         named = [at for at, block in enumerate(self.blocks) if (block.who, block.name) == (who, name)]
         return named[0] if named else None
 

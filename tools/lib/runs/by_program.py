@@ -34,7 +34,7 @@ def require_program(program=None):
     if program == "":
         raise Unstarted("a program with an empty name can't be run")
     named = program or os.environ.get("DAM")
-    found = None if named else which.find_program()
+    found = None if named else which.find_program_or_none()
     if not named and not found:
         raise Unstarted("no program was found: build it, or name it as `program` or in the environment variable DAM")
     return os.fspath(named or found.path)

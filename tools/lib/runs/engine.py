@@ -90,7 +90,7 @@ def run_clear(text, program=None, running=None, nodes=MOST_NODES, timeout=None):
     program is named, or a timeout, which only a run of the program can have. The pair has no type of this package, so that any executor
     can send it."""
     try:
-        path = None if program is not None or timeout is not None else which.find_library()
+        path = None if program is not None or timeout is not None else which.find_library_or_none()
         if path:
             status, out = by_library.call_library(path, text, nodes)
             error_output = out
@@ -129,14 +129,14 @@ def run_clears(texts, jobs=None, executor=None, program=None, call=run_clear):
     if jobs is not None and jobs < 1:
         raise ValueError("jobs should be 1 or more")
     if executor is not None:
-        yield from submit_and_yield_results(texts, lambda text: executor.submit(call, text, program), jobs or MOST_AHEAD)
+        yield from iterate_submitted_results(texts, lambda text: executor.submit(call, text, program), jobs or MOST_AHEAD)
         return
     jobs = jobs or count_processors()
     with running_team(jobs) as (team, running):
-        yield from submit_and_yield_results(texts, lambda text: team.submit(call, text, program, running), AHEAD * jobs)
+        yield from iterate_submitted_results(texts, lambda text: team.submit(call, text, program, running), AHEAD * jobs)
 
 
-def submit_and_yield_results(texts, submit, most):
+def iterate_submitted_results(texts, submit, most):
     """The results of the jobs submitted for the texts, in order. At most `most` of them wait."""
     waiting = collections.deque()
     try:

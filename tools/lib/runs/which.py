@@ -35,7 +35,7 @@ def had_library_at_first_look():
     return has_library()
 
 
-class Where(NamedTuple):
+class FoundEngine(NamedTuple):
     """The engine for a journal: the library or the program; of the package, the wheel or the clone that this module is part of, of the
     system, or named by the environment; and its path, or a name that the system finds."""
 
@@ -44,42 +44,42 @@ class Where(NamedTuple):
     path: str
 
 
-def find_packaged(*parts):
+def find_packaged_or_none(*parts):
     """The path of a file of the package that this module is part of; None if there is none."""
     path = PREFIX and PREFIX.joinpath(*parts)
     return path if path and path.exists() else None
 
 
-def where():
+def find_engine_or_none():
     """The engine of a journal if neither an option nor a program is named; None if there is neither library nor program. The library and
     the program that belong to this module come before those that the system finds."""
     for what, name in ("library", "DAM_LIBRARY"), ("program", "DAM"):
         if path := os.environ.get(name):
-            return Where(what, "environment", path)
+            return FoundEngine(what, "environment", path)
     for of, path in (
-        ("package", find_packaged("lib", "x86_64-linux-gnu", LIBRARY.name)),
+        ("package", find_packaged_or_none("lib", "x86_64-linux-gnu", LIBRARY.name)),
         ("wheel", WHEELS if WHEELS.exists() else None),
         ("clone", LIBRARY if had_library_at_first_look() else None),
     ):
         if path:
-            return Where("library", of, os.fspath(path))
+            return FoundEngine("library", of, os.fspath(path))
     if not os.access(BUILT, os.X_OK) and can_load(LIBRARY.name):
-        return Where("library", "system", LIBRARY.name)
-    return find_program()
+        return FoundEngine("library", "system", LIBRARY.name)
+    return find_program_or_none()
 
 
-def find_program():
+def find_program_or_none():
     """The program that belongs to this module, or that the system finds; None if there is none."""
     cloned = BUILT if os.access(BUILT, os.X_OK) else None
-    for of, path in ("package", find_packaged("bin", "dam")), ("clone", cloned), ("system", shutil.which("dam")):
+    for of, path in ("package", find_packaged_or_none("bin", "dam")), ("clone", cloned), ("system", shutil.which("dam")):
         if path:
-            return Where("program", of, os.fspath(path))
+            return FoundEngine("program", of, os.fspath(path))
     return None
 
 
-def find_library():
+def find_library_or_none():
     """The path of the library for C, or its name if the system has it; None if there is none, or if a program is to be run instead."""
-    found = where()
+    found = find_engine_or_none()
     return found.path if found and found.what == "library" else None
 
 

@@ -94,7 +94,8 @@ class Extension(NamedTuple):
     path: tuple
 
     def json_value(self):
-        return {"format": EXTENSION, "from": self.old.json_value(), "to": self.new.json_value(), "path": [base64_of(hashed) for hashed in self.path]}
+        path = [base64_of(hashed) for hashed in self.path]
+        return {"format": EXTENSION, "from": self.old.json_value(), "to": self.new.json_value(), "path": path}
 
     def is_valid(self):
         """Whether the proof shows that the new head's tree begins with the old head's, of the same day."""

@@ -116,7 +116,7 @@ def never_accepted_words(search, worst):
     """Why a block is rejected with the best limit of the range."""
     read = journal.parse_journal(search.bytes_with(worst.past_limit))
     day = day_files.Day.of_text(read, search.printed[worst.past_limit])
-    place = day.problem.place(*search.key)
+    place = day.problem.place_of_block_or_none(*search.key)
     why = decisions.decisions(day.problem, day.published.accepted, day.outcome)[place].why
     return why if why.startswith("with ") else f"it {why}"  # 'with' its family, 'it' would gain
 

@@ -42,11 +42,12 @@ def status_of(fault):
 
 def require_and_set_program(args):
     """Ends the tool if there is neither the library nor a program."""
-    if args.program or not which.find_library():
+    if args.program or not which.find_library_or_none():
         try:
             args.program = by_program.require_program(args.program)
         except errors.Fault:
-            made = "the package dam has it" if place.IS_INSTALLED else "./dam prove builds it, and --program ./dam takes one that isn't proved"
+            unproved = "./dam prove builds it, and --program ./dam takes one that isn't proved"
+            made = "the package dam has it" if place.IS_INSTALLED else unproved
             words = f"no program was found: {made}; or name it by --program or the environment variable DAM"
             raise command.Stop(words, command.FAILED) from None
 
