@@ -24,6 +24,7 @@ COMMANDS = dict(zip(rules.DAYS, (1_050, 1_600, 2_400, 3_600, 5_400, 8_100)))  # 
 LINES, IN_ALL = (12_000, 30_000, LONGEST, 100_000, 16_000_000), 2_000_000  # the lengths of long lines, and their bytes in all, or one line
 TORN = (20_000, 500_000, 10_000_000)  # bytes after the end of a file's lines
 DAY = b"day,24,,,,,,,\n"
+DAYS_AGAIN = 10_000  # how often the record of a day comes again
 
 
 def named_journals():
@@ -97,6 +98,13 @@ def measure_costs_of_lines(program, desk, length):
     yield f"new, lines of {length:,} bytes", measure_cost(program, [file], data, [copy])
 
 
+def measure_costs_of_days(program, desk, about, records):
+    """Yields what the record of a day costs that comes again and again, each time with the same answer."""
+    file, copy = (desk.make_folder() / "day.desk" for _ in range(2))
+    data = journal_text(records, False) + DAY * DAYS_AGAIN
+    yield f"new, the same day {DAYS_AGAIN:,} times {about}", measure_cost(program, [file], data, [copy])
+
+
 def measure_costs_of_small_reads(program, desk):
     """Yields the runs of a desk that gets a few lines at a time, with a book of many orders after a cancel: it draws its own seeds."""
     shape = shapes.SHORT
@@ -113,6 +121,7 @@ def measure_costs(desk):
     tried += [(measure_costs_of_longer, it) for it in named_longer_journals()]
     tried += [(measure_costs_of_torn, [count]) for count in TORN]
     tried += [(measure_costs_of_lines, [length]) for length in LINES]
+    tried += [(measure_costs_of_days, it) for it in (("without orders", []), ("after a book", shapes.SHORT.submits_of_book()))]
     tried.append((measure_costs_of_small_reads, []))
     with ThreadPoolExecutor() as pool:
         found = pool.map(lambda it: list(it[0](program, desk, *it[1])), tried)

@@ -23,7 +23,7 @@ from judge import UNFINISHED
 from shared.cost_tables import Cost
 from shared.instructions import FIXED, measure_counts
 from shared.preload import HostileProgram, RefusedCalls  # by which `lib` is found
-from shared.records import journal_text, volumes_text
+from shared.records import capture_colliding_names, journal_text, volumes_text
 from shared.shapes import COMMANDS, LONG, OTHERS, SHORT, SIDES, named_commands
 from lib.base import rules
 
@@ -36,6 +36,7 @@ SEARCHED = full.Size(480, 14, 1_000)
 WHOLE = full.Size(rules.MOST_HOURLY, rules.MOST_BLOCKS, rules.MOST_RECORDS)
 LONG_TEXT = 2 << 20
 THIN = 240  # hourly orders of a thin market
+COLLIDING, CHANGES = 700, 1_500  # orders whose names collide, and the commands that change them
 MOST_WORKERS = 8  # of a plan
 KINDS = ["base", "peaks", "shaped", "odd", "random", "mixed", "wide"]
 FAMILIES = ["market", "paradox", "spread", "nearties", "links", "groups", "ties"]
@@ -89,6 +90,8 @@ def runs_of_full_books():
         if about != "hourly orders":
             records = [*first, SHORT.cancel_of(SHORT.name_of(1)), *itertools.islice(records, FULL_COMMANDS)]
             yield f"replay of a full book: {about}", Run(REPLAY, journal_text(records))
+    records = [*first, *itertools.islice(dict(named_commands(SHORT))["blocks submitted and cancelled"], FULL_COMMANDS)]
+    yield "day of a full book: blocks submitted and cancelled", Run(DAY, journal_text(records, False))
     *_, (about, records) = named_commands(SHORT)
     records = [*first, SHORT.cancel_of(SHORT.name_of(1)), *itertools.islice(records, rules.MOST_DAY_COMMANDS - len(first) - 1)]
     yield f"day of a full journal of one participant: {about}", Run(DAY, journal_text(records, False))
@@ -106,6 +109,18 @@ def runs_of_participants():
     hours = [SHORT._replace(who=name).submit_of_hour(number) for number, name in enumerate(itertools.islice(names, rules.MOST_HOURLY))]
     for run in (Run(REPLAY, journal_text(hours)), Run(CLEAR, journal_text(hours))):
         yield f"{run.words[0]} of {rules.MOST_HOURLY:,} participants", run
+
+
+def runs_of_colliding_names(room):
+    """Yields the runs on orders whose names collide. Most of their instructions are those of look-ups, so they show one more for each
+    command: a command that is decided again, or an order that isn't found at the place of its outcome."""
+    names = capture_colliding_names(room, COLLIDING)
+    submits = [SHORT.submit_of_hour(number, name=name) for number, name in enumerate(names)]
+    amends = (SHORT.amend_of(names[at % COLLIDING], at, f"{1 + at % SHORT.periods}:7") for at in itertools.count())
+    again = (line for submit, name in zip(submits, names) for line in (SHORT.cancel_of(name), submit))
+    for about, records in [("amended", amends), ("cancelled and submitted", itertools.cycle(again))]:
+        for run in runs_of_engines(SHORT, [*submits, *itertools.islice(records, CHANGES)]):
+            yield f"{run.words[0]} of names that collide: hourly orders {about}", run
 
 
 def generate_runs_by_workers():
@@ -262,9 +277,9 @@ def runs_of_texts():
         yield f"{words[0]} {shape.periods}: a fault", Run(words, text[:-1] + b",\n", (1,))
 
 
-def generate_runs_of_every_kind():
+def generate_runs_of_every_kind(room):
     books = [runs_of_commands(), runs_of_full_books(), runs_of_participants(), runs_of_small_books(), runs_of_closes(), runs_at_gates()]
-    books.append(runs_of_gaps())
+    books += [runs_of_gaps(), runs_of_colliding_names(room)]
     scripts = [generate_runs_by_workers(), generate_runs_of_blocks(), generate_runs_of_one_sided_books()]
     searches = [runs_of_searches(), *scripts, runs_of_walks()]
     return dict(itertools.chain(*books, *searches, runs_of_texts(), runs_of_long_texts()))
@@ -282,5 +297,5 @@ def measure_cost(program, run):
 
 def measure_costs(runs):
     """Yields the name of each run, and its cost."""
-    tried = generate_runs_of_every_kind()
+    tried = generate_runs_of_every_kind(runs.program.room)
     yield from zip(tried, runs.pool.map(lambda run: measure_cost(runs.program, run), tried.values()))
