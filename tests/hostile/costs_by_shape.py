@@ -111,12 +111,11 @@ def runs_of_participants():
         yield f"{run.words[0]} of {rules.MOST_HOURLY:,} participants", run
 
 
-def runs_of_colliding_names(room):
-    """Yields the runs on orders whose names collide. Most of their instructions are those of look-ups, so they show one more for each
-    command: a command that is decided again, or an order that isn't found at the place of its outcome."""
-    names = capture_colliding_names(room, COLLIDING)
+def runs_of_colliding_names(names):
+    """Yields the runs on orders of these names, which collide. Most of their instructions are those of look-ups, so they show one more for
+    each command: a command that is decided again, or an order that isn't found at the place of its outcome."""
     submits = [SHORT.submit_of_hour(number, name=name) for number, name in enumerate(names)]
-    amends = (SHORT.amend_of(names[at % COLLIDING], at, f"{1 + at % SHORT.periods}:7") for at in itertools.count())
+    amends = (SHORT.amend_of(names[at % len(names)], at, f"{1 + at % SHORT.periods}:7") for at in itertools.count())
     again = (line for submit, name in zip(submits, names) for line in (SHORT.cancel_of(name), submit))
     for about, records in [("amended", amends), ("cancelled and submitted", itertools.cycle(again))]:
         for run in runs_of_engines(SHORT, [*submits, *itertools.islice(records, CHANGES)]):
@@ -279,7 +278,7 @@ def runs_of_texts():
 
 def generate_runs_of_every_kind(room):
     books = [runs_of_commands(), runs_of_full_books(), runs_of_participants(), runs_of_small_books(), runs_of_closes(), runs_at_gates()]
-    books += [runs_of_gaps(), runs_of_colliding_names(room)]
+    books += [runs_of_gaps(), runs_of_colliding_names(capture_colliding_names(room, COLLIDING))]
     scripts = [generate_runs_by_workers(), generate_runs_of_blocks(), generate_runs_of_one_sided_books()]
     searches = [runs_of_searches(), *scripts, runs_of_walks()]
     return dict(itertools.chain(*books, *searches, runs_of_texts(), runs_of_long_texts()))
