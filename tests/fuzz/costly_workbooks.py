@@ -1,7 +1,11 @@
 """Workbooks and texts of at most 5 MB that are made to take memory and time."""
 
+import difflib
+import itertools
+
 from drawn_workbooks import CLOSE, HEADS, MAIN, OFFICE, OPEN, RELATIONS, ROOT, SHARED, STYLES, archive_bytes, workbook_of_sheet
 from lib.sheets import order_table
+from lib.workbooks import first_rows
 
 TEXT = ";".join(order_table.ORDER).encode() + b"\n"
 WIDE = "\U0001f600".encode()
@@ -52,6 +56,14 @@ def rows_of_small_numbers(count):
     """Rows of numbers below 1 of 15 digits, with the first style."""
     cell = b"<c s='0'><v>%d.23456789012345E-%d</v></c>"
     return (b"<row>%s</row>" % b"".join(cell % (at % 9 + 1, row % 15 + 1) for at in range(row, row + 30)) for row in range(0, count, 30))
+
+
+def rows_of_names(count, first=0):
+    """A row of texts that have the letters of a name, each in another order, but aren't like it."""
+    orders = map("".join, itertools.permutations(reversed(order_table.NEEDED[-1])))
+    others = (each for each in orders if not difflib.get_close_matches(each, order_table.NEEDED, 1, first_rows.ALIKE))
+    texts = itertools.islice(others, first, first + count)
+    return [b"<row>", *(b"<c t='str'><v>%s</v></c>" % each.encode() for each in texts), b"</row>"]
 
 
 def spelled_style(at):
@@ -139,6 +151,8 @@ LARGE = {
         b"<row>%s</row>" % b"".join(b"<c s='3'><v>%d.%d</v></c>" % (row, at) for at in range(30)) for row in range(9_990)))),
     "numbers with one format": ("", lambda: table_workbook(rows_of_numbers(lambda at: b"0"), **{STYLES: styles_of_one_format(1)})),
     "fractions": ("", lambda: table_workbook(rows_of_small_numbers(299_000), **{STYLES: b"".join(styles_of_formats(1, FRACTION))})),
+    "texts of first rows": ("in the first rows of its sheets", lambda: workbook_of_sheets([rows_of_names(16_000)] * 40)),
+    "texts like names": (None, lambda: workbook_of_sheets([rows_of_names(16_000, 16_000 * at) for at in range(3)])),
     "fractions in first rows": (None, lambda: workbook_of_sheets(
         [[b"<row>", b"<c s='0'><v>1.23456789012345E-300</v></c>" * 2**14, b"</row>"]] * 45, b"".join(styles_of_formats(1, FRACTION)))),
     "long formulas": ("", lambda: table_workbook(

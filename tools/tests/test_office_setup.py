@@ -246,12 +246,12 @@ class Setup(Office):
         made.save(path)
         words = ["--day", "2099-11-29", "--close", "12:00", "--participants", path, "--json"]
         status, out, err = run_tool("office", "init", self.office.path, *words)
-        self.assertEqual((status, err), (command.DONE, f"office: note: {path}: of 2 sheets, 'Sheet' was read\n"))
+        self.assertEqual((status, err), (command.DONE, f"office: note: {path}: of 2 sheets, 'Sheet' was read, but not 'notes'\n"))
         self.assertEqual(list(json.loads(out)["tokens"]), ["A", "GAS"])
         self.assertEqual(self.office.list_folders_by_day()["2099-11-29"].read_terms().shares, {"A": 100, "GAS": 9_899})
         made["Sheet"].append(["OIL", "=1+1"])
         made.save(path)
-        said = "line 5, column commands: '=1\\+1' is a formula that was saved without its value: .*\n  of 2 sheets, 'Sheet' was read$"
+        said = "line 5, column commands: '=1\\+1' is a formula that was saved without its value: .*\n  of 2 sheets, 'Sheet' was read, but not 'notes'$"
         with self.assertRaisesRegex(command.Stop, said):
             setup.read_shares_and_print_notes(path)
 

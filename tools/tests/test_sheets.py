@@ -329,7 +329,8 @@ class ForSpreadsheets(unittest.TestCase):
             self.assertEqual(len(book.sheetnames), 8)
             self.assertEqual([cell.value for cell in book["periods"][20]][:5], [19, 1.0, 165.0, 730.0, True])
             right = run_tool("table", "--journal", "-", data=run_tool("table", "--rows", "orders", *TEXTS)[1])[1]
-            for name, note in ((path, ""), (every, f"table: {every}: of 8 sheets, 'orders' was read\n")):
+            others = ", ".join(f"'{each}'" for each in book.sheetnames if each != "orders")
+            for name, note in ((path, ""), (every, f"table: {every}: of 8 sheets, 'orders' was read, but not {others}\n")):
                 self.assertEqual(run_tool("table", "--journal", name), (0, right, note))
             data = journal_of("submit,A,-1,hour,buy,100,8:10,,")
             Path(folder, "day").write_bytes(data + b"results\n" + results_of(data, frozenset()))
@@ -421,7 +422,7 @@ class Tolerance(unittest.TestCase):
             self.assertEqual(self.read(data.decode().replace(",", "\t").encode(code)), (lines, said[1:]))
         page = " ".join((TOP / "docs" / "TABLES.md").read_text().split())
         self.assertIn("`--journal` reads tables in UTF-8, UTF-16 or, with a note, Windows-1252, ", page)
-        self.assertIn("the sheet `orders`, or else the first that has the columns, ", page)  # of a workbook: the next test
+        self.assertIn("the sheet `orders`, or else the only one with the columns, ", page)  # of a workbook: the next test
 
     def test_a_lost_byte_of_utf_16(self):
         """The bytes after it are those of other characters, also the line ends: all further orders would be in one cell."""
@@ -481,18 +482,18 @@ class Tolerance(unittest.TestCase):
         notes = "notes", [["How to fill this in"], [], ["participant", "your name"]]
         for sheets_of, name, said in (
             ([("x", orders("H"))], "H", []),
-            ([notes, ("x", orders("H"))], "H", ["of 2 sheets, 'x' was read"]),
-            ([("empty", []), notes, ("x", [[], *orders("H")]), ("y", orders("I"))], "H",
-             ["of 4 sheets, 'x' was read; 'y' has the columns of orders too"]),
-            ([("x", orders("H")), ("orders", orders("I"))], "I", ["of 2 sheets, 'orders' was read"]),
+            ([notes, ("x", orders("H"))], "H", ["of 2 sheets, 'x' was read, but not 'notes'"]),
+            ([("empty", []), notes, ("x", [[], *orders("H")]), ("y", [["seen by", "A"]])], "H",
+             ["of 4 sheets, 'x' was read, but not 'notes', 'y'"]),
+            ([("x", orders("H")), ("orders", orders("I"))], "I", ["of 2 sheets, 'orders' was read, but not 'x'"]),
         ):
             self.assertEqual(self.read(saved(*sheets_of)), ([f"submit,A,{name},hour,buy,100,8:50,,"], said))
         status, _, err = run_tool("table", "--journal", "-", data=saved(notes, ("more", [["x"]])))
         self.assertEqual((status, "line 1: there is no column participant, order, kind" in err), (command.NO_INPUT, True), err)
-        self.assertIn("table: standard input: of 2 sheets, 'notes' was read\n", err)
+        self.assertIn("table: standard input: of 2 sheets, 'notes' was read, but not 'more'\n", err)
         err = run_tool("table", "--journal", "-", data=saved(notes, ("x", [*orders("H"), ["A", "I", "hour", "buy", 1, "99", 5]])))[2]
         said = ["line 3, column periods: the day has periods 1 to 24, so there is no period 99 (PeriodOutOfDay)"]
-        said += ["of 2 sheets, 'x' was read"]
+        said += ["of 2 sheets, 'x' was read, but not 'notes'"]
         self.assertEqual(err.splitlines(), [f"table: standard input: {words}" for words in said])
 
     @WITH_EXCEL
@@ -517,7 +518,7 @@ class Tolerance(unittest.TestCase):
             self.assertEqual([column for column in "ABCDEFGHI" if sheet.column_dimensions[column].number_format == "@"], list("ABFHI"))
             status, out, err = run_tool("table", "--journal", "--open", path)
             self.assertEqual((status, out), (0, b"day,24,,,,,,,\n"))
-            self.assertEqual(err.splitlines()[0], f"table: {path}: of 2 sheets, 'orders' was read")
+            self.assertEqual(err.splitlines()[0], f"table: {path}: of 2 sheets, 'orders' was read, but not 'examples'")
             for row in list(examples.iter_rows(min_row=2, values_only=True)):
                 sheet.append(row)
             book.save(path)

@@ -46,7 +46,7 @@ def styles_without_formats():
     return f'<styleSheet xmlns="{made.MAIN[0]}"/>'.encode()
 
 
-READ = "of 2 sheets, 'orders' was read"
+READ = "of 2 sheets, 'orders' was read, but not 'Other'"
 
 
 class Read(unittest.TestCase):
@@ -915,26 +915,81 @@ class Unlike(unittest.TestCase):
         """The parts of a workbook with two sheets of these names and states; the second has the order K2."""
         listed = '<workbook xmlns="{}" xmlns:r="{}"><sheets><sheet name="{}" r:id="r1"{}/><sheet name="{}" r:id="r2"{}/></sheets></workbook>'
         relation = f'<Relationship Id="r{{0}}" Type="{made.OFFICE[0]}/worksheet" Target="worksheets/sheet{{0}}.xml"/>'
+        relations = f'{relation.format(1)}{relation.format(2)}<Relationship Id="s" Type="{made.OFFICE[0]}/sharedStrings" Target="sharedStrings.xml"/>'
         return {
             "xl/workbook.xml": listed.format(made.MAIN[0], made.OFFICE[0], *names).encode(),
-            "xl/_rels/workbook.xml.rels": f'<Relationships xmlns="{made.RELATIONS}">{relation.format(1)}{relation.format(2)}</Relationships>'.encode(),
+            "xl/_rels/workbook.xml.rels": f'<Relationships xmlns="{made.RELATIONS}">{relations}</Relationships>'.encode(),
             "xl/worksheets/sheet2.xml": made.OPEN + order(2, "K2") + made.CLOSE,
         }
 
     def test_hidden_sheets(self):
         """One that is shown comes first; if a hidden one is read, the note says so."""
         hidden, very = ' state="hidden"', ' state="veryHidden"'
-        for names, wanted, note in (
-            (("a", "", "b", ""), "K1", "of 2 sheets, 'a' was read; 'b' has the columns of orders too"),
-            (("a", hidden, "b", ""), "K2", "of 2 sheets, 'b' was read; 'a' has the columns of orders too"),
-            (("orders", very, "b", ""), "K1", "of 2 sheets, 'orders' was read, a hidden one"),
-            (("a", hidden, "b", very), "K1", "of 2 sheets, 'a' was read, a hidden one; 'b' has the columns of orders too"),
+        for names, wanted, said in (
+            (("a", "", "b", ""), None, "'b'"),
+            (("a", hidden, "b", ""), None, "'a'"),
+            (("a", hidden, "b", very), None, "'b'"),
+            (("orders", very, "b", ""), "K1", "of 2 sheets, 'orders' was read, a hidden one, but not 'b'"),
         ):
-            orders = order_table.parse_tables([("", made.workbook_of_sheet(made.OPEN, order(2, "K1"), made.CLOSE, **self.parts_of_two(*names)))], 24)
-            self.assertEqual(([submit.name for _, submit in orders.submits], orders.notes), ([wanted], [note]))
+            data = made.workbook_of_sheet(made.OPEN, order(2, "K1"), made.CLOSE, **self.parts_of_two(*names))
+            if wanted:
+                orders = order_table.parse_tables([("", data)], 24)
+                self.assertEqual(([submit.name for _, submit in orders.submits], orders.notes), ([wanted], [said]))
+            else:
+                with self.assertRaisesRegex(order_table.BadOrders, f"^sheet {said}, cell A1: 'participant' may be a heading of the table, but"):
+                    order_table.parse_tables([("", data)], 24)
+        headless = {**self.parts_of_two("a", hidden, "b", ""), "xl/worksheets/sheet2.xml": made.ROOT + b"<sheetData/></worksheet>"}
+        orders = order_table.parse_tables([("", made.workbook_of_sheet(made.OPEN, order(2, "K1"), made.CLOSE, **headless))], 24)
+        self.assertEqual((len(orders.submits), orders.notes), (1, ["of 2 sheets, 'a' was read, a hidden one"]))
+
+    def test_a_sheet_that_may_have_orders_isnt_passed_over(self):
+        """One with a heading that is misspelt or missing, or a title above its headings, is a fault; another one is named by a note."""
+        heads = made.OPEN[made.OPEN.index(b"<row") : made.OPEN.index(b"</row>") + 6].replace(b" r=\"1\"", b"")
+        heads = re.sub(rb"<c r='[A-Z]+1'", b"<c", heads)
+        title, gap = b"<row><c t='str'><v>Orders of today</v></c></row>", b"<row/><row><c t='str'><v> </v></c></row>"
+        many = b"<row><c t='str'><v>a</v></c></row>"
+        shared = {made.SHARED: f'<sst xmlns="{made.MAIN[0]}"><si><t>Sides</t></si><si><t>x</t></si></sst>'.encode()}
+        for first, place, words in (
+            (heads.replace(b"price_eur_mwh", b"price_eur_mhw"), "E1", "price_eur_mhw"),
+            (heads.replace(b"<c t='inlineStr'><is><t>side</t></is></c>", b""), "A1", "participant"),
+            (title + heads, "A2", "participant"), (title + gap + many * 8 + heads, "A12", "participant"), (title + many * 9 + heads, None, None),
+            (b"<row><c/><c t='str'><v>kind</v></c><c><v>1</v></c><c t='str'><v> Side </v></c></row>", "B1", "kind"),
+            (b"<row><c t='str'><v>kind</v></c><c t='str'><v>price</v></c></row>", None, None),
+            (b"<row><c t='str'><v>Period</v></c><c t='str'><v>note</v></c></row>", "A1", "period"), (b"<row><c t='str'><v>Orders</v></c></row>", None, None),
+            (b"<row><c t='s'><v>1</v></c><c t='s'><v>0</v></c></row>", "B1", "sides"), (b"<row><c><v>1</v></c></row>" * 20, None, None),
+            (b"<row r='1'><c t='str'><v>a</v></c></row><row r='101'><c t='str'><v>b</v></c></row>" + heads, None, None),
+            (b"<row r='1'><c t='str'><v>a</v></c></row><row r='99'><c t='str'><v>b</v></c></row>" + heads, "A100", "participant"),
+        ):  # fmt: skip
+            for state in ("", ' state="hidden"'):
+                parts = {**self.parts_of_two("first", state, "second", ""), **shared}
+                data = made.workbook_of_sheet(made.ROOT, b"<sheetData>", first, made.CLOSE, **parts)
+                with self.subTest(first, state=state):
+                    if place:
+                        said = f"sheet 'first', cell {place}: '{words}' may be a heading of the table, but the sheet 'second' is read: "
+                        said += "name the one to read 'orders', or remove the other"
+                        with self.assertRaisesRegex(order_table.BadOrders, f"^{re.escape(said)}$"):
+                            order_table.parse_tables([("", data)], 24)
+                    else:
+                        orders = order_table.parse_tables([("", data)], 24)
+                        self.assertEqual([submit.name for _, submit in orders.submits], ["K2"])
+                        self.assertEqual(orders.notes, ["of 2 sheets, 'second' was read, but not 'first'"])
+                    named = {**parts, **self.parts_of_two("first", state, "Orders", "")}
+                    data = made.workbook_of_sheet(made.ROOT, b"<sheetData>", first, made.CLOSE, **named)
+                    self.assertEqual(order_table.parse_tables([("", data)], 24).notes, ["of 2 sheets, 'Orders' was read, but not 'first'"])
+
+    def test_a_note_names_at_most_twenty_sheets(self):
+        others = [[b"<row><c t='str'><v>x</v></c></row>"]] * 24
+        notes = order_table.parse_tables([("", costly.workbook_of_sheets(others))], 24).notes
+        named = ", ".join(f"'S{at}'" for at in range(20))
+        self.assertEqual(notes, [f"of 25 sheets, 'S24' was read, but not {named} and 4 more"])
+
+    def test_a_later_sheet_that_cant_be_read_is_named(self):
+        parts = {**self.parts_of_two("first", "", "second", ""), "xl/worksheets/sheet2.xml": b"<worksheet"}
+        orders = order_table.parse_tables([("", made.workbook_of_sheet(made.OPEN, order(2, "K1"), made.CLOSE, **parts))], 24)
+        self.assertEqual((len(orders.submits), orders.notes), (1, ["of 2 sheets, 'first' was read, but not 'second'"]))
 
     def test_an_earlier_sheet_that_cant_be_read(self):
-        """It may be the table of today: no later sheet is read in its place, except if it is hidden."""
+        """It may be the table of today: no later sheet is read in its place, except if it is hidden and no headings were read."""
         heads, end = b"<c r='A1' t='inlineStr'><is><t>participant</t></is></c>", made.OPEN.index(b"<c t=")
         first = made.ROOT + b"<sheetData><row r='1'>" + heads.replace(b"participant", b"note") + heads.replace(b"A1", b"B1")
         repair = ": repair the sheet 'today', or name the one to read 'orders'"
@@ -955,7 +1010,10 @@ class Unlike(unittest.TestCase):
                 parts = self.parts_of_two("today", ' state="hidden"' * hidden, "old", "")
                 data = made.workbook_of_sheet(*pieces, **parts)
                 with self.subTest(said, hidden=hidden):
-                    if said and not hidden:
+                    if said and hidden and "formula" in said:
+                        with self.assertRaisesRegex(order_table.BadOrders, "^sheet 'today', cell A1: 'participant' may be a heading of the table, "):
+                            order_table.parse_tables([("", data)], 24)
+                    elif said and not hidden:
                         with self.assertRaisesRegex(order_table.BadOrders, f"^{re.escape(said + repair)}$"):
                             order_table.parse_tables([("", data)], 24)
                         with self.assertRaisesRegex(requests.BadRequest, f"^{re.escape(said + repair)}$"):
@@ -983,7 +1041,7 @@ class Unlike(unittest.TestCase):
                 else:
                     notes = []
                     sheets.parse_rows_and_add_notes(data, notes=notes)
-                    self.assertEqual(notes, ["of 2 sheets, 'a' was read"])
+                    self.assertEqual(notes, ["of 2 sheets, 'a' was read, but not 'b'"])
 
     def test_names_of_sheets(self):
         """Excel takes names that differ by capitals alone for one."""

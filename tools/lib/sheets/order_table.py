@@ -9,6 +9,7 @@ from typing import NamedTuple
 from ..base import rules, text
 from ..journal import book, fields, journal
 from ..workbooks.cells import Struck, Styled, Uncomputed
+from ..workbooks.first_rows import ALIKE
 from . import cell_values, kinds, shapes, sheets
 from .cell_values import BadOrders
 from .tables import ORDER, REPLY, RESULT
@@ -23,7 +24,6 @@ COMMANDS_ALONE, OF_ORDERS = ("amend", "cancel", "close"), ("", "submit", "order"
 MOST_ERRORS = 20
 MOST_ROWS = rules.MOST_RECORDS - 1  # after the first one: as many as a journal has commands
 OF_LINKS = {"group": "group", "parent": "parent", "link": "parent"}  # words in headings of the columns that a table may leave out
-ALIKE = 0.75  # a column whose name is at least so similar to one that is missing is probably meant to be that
 
 # Why the book refuses an order that is right in itself.
 FULL = {

@@ -44,7 +44,7 @@ def is_workbook(data):
 
 def parse_rows_and_add_notes(data, needed=(), notes=None, most=None, is_long=False):
     """The rows of a table, each with the number of its first line; and whether a comma may be the decimal point. A text is separated by
-    commas, semicolons or tabs, whichever its header has most of. Of a workbook it is the sheet `orders`, or else the first that has the
+    commas, semicolons or tabs, whichever its header has most of. Of a workbook it is the sheet `orders`, or else the only one that has the
     needed columns. It isn't read further if it has more than `most` rows after its first one. Notes say which sheet was read, and that a
     text isn't in UTF-8. The rows of a workbook are kept packed, and of a text that may be long not at all."""
     notes = [] if notes is None else notes

@@ -6,7 +6,8 @@ from ..base import text
 from .limits import LONGEST_NAME, MOST_HEADS, MOST_SHEETS, BadWorkbook, broken_error, too_many_error
 from .package import Package
 from .part import ANY_OTHERS, Part, truth_word_or_none
-from .sheet import FirstRow, Sheet, Strings, is_calculation_due
+from .first_rows import FirstRows, Names
+from .sheet import Sheet, Strings, is_calculation_due
 from .styles import Styles
 
 PACKAGING = ("http://schemas.openxmlformats.org/package/2006/relationships",)
@@ -16,12 +17,13 @@ RELATION = (
 )
 WORKBOOK, SHEET, STRINGS, STYLES = "officeDocument", "worksheet", "sharedStrings", "styles"
 WITHOUT_CELLS, OF_MACROS = ("chartsheet", "dialogsheet"), ("xlMacrosheet", "xlIntlMacrosheet")  # other kinds of sheets
+MOST_NAMED = 20  # sheets that a note names
 KINDS = {WORKBOOK, SHEET, *WITHOUT_CELLS, *OF_MACROS, STRINGS, STYLES}
 
 
 def parse_rows_and_note(data, preferred, needed=(), most=None):
     """The rows of a workbook's sheet that aren't empty, with their numbers: of the preferred sheet, or else of the first with the needed
-    names in its first row, or else of the first. If there are `most`, more rows after the first are a fault. Also a note on the sheet, if
+    names in its first row, or else of the first. If there are `most`, more rows after the first are a fault. Also a note on the sheets, if
     there are several."""
     package = Package(data)
     book = Workbook(package)
@@ -133,35 +135,45 @@ class Workbook(Part):
         return sheets
 
     def choose_sheet_or_refuse(self, preferred, needed):
-        """The name and the part of the sheet that is read, and a note on it if there are several."""
+        """The name and the part of the sheet that is read, and a note on it if there are several, which names those that aren't read."""
         sheets = self.sheet_parts_or_refuse()
         if len(sheets) == 1:
             return *next(iter(sheets.items())), None
         named = [name for name in sheets if name.lower() == preferred]
         if named and sheets[named[0]] is None:
             raise broken_error(f"the sheet {text.quoted(named[0])} is one of macros: copy its table to another sheet")
-        tables = {name: sheets[name] for name in sorted(sheets, key=self.hidden.__contains__) if sheets[name] is not None}
-        found = named or self.find_sheets_or_refuse(tables, needed, preferred)
-        name = [*found, *tables][0]
-        others = [text.quoted(other) for other in found if other != name]
-        more = f"; {', '.join(others)} {'has' if len(others) == 1 else 'have'} the columns of orders too" if others else ""
-        return name, sheets[name], f"of {len(sheets)} sheets, {text.quoted(name)} was read{', a hidden one' * (name in self.hidden)}{more}"
+        name, empty = (named[0], []) if named else self.find_sheet_and_empty_or_refuse(sheets, needed, preferred)
+        others = [text.quoted(other) for other in sheets if other != name and other not in empty]
+        more = f" and {len(others) - MOST_NAMED:,} more" if len(others) > MOST_NAMED else ""
+        passed = f", but not {', '.join(others[:MOST_NAMED])}{more}" if others else ""
+        return name, sheets[name], f"of {len(sheets)} sheets, {text.quoted(name)} was read{', a hidden one' * (name in self.hidden)}{passed}"
 
-    def find_sheets_or_refuse(self, sheets, needed, preferred):
-        """The sheets with the needed names in their first rows. One that can't be read may have them too: before these it is a fault."""
-        rows, heads = [FirstRow(name, part, self, needed) for name, part in sheets.items()] if needed else [], 0
-        for row in rows:
-            row.parse_and_note_first_row()
-            heads += len(row.needed)
+    def find_sheet_and_empty_or_refuse(self, sheets, needed, preferred):
+        """The first sheet with the needed names in its first row, or else the first one, and those that are empty. One that can't be read may
+        have the names too: before that sheet it is a fault. One that isn't read is a fault if it has headings as these."""
+        tables, names, heads = [name for name in sorted(sheets, key=self.hidden.__contains__) if sheets[name]], Names(needed), 0
+        if not needed:
+            return tables[0], []
+        rows = {name: FirstRows(name, sheets[name], self, names) for name in tables}
+        for row in rows.values():
+            row.parse_and_note_first_rows()
+            heads += row.count()
             if heads > MOST_HEADS:
                 raise too_many_error(MOST_HEADS, "strings in the first rows of its sheets")
-        shared, found = self.parse_strings(set().union(*(row.needed for row in rows))), []
-        for name, row in zip(sheets, rows):
-            if row.find_names_or_note_unread(shared):
-                found.append(name)
-            elif row.unread and not found:
+        shared = self.parse_strings(set().union(*(row.needed for row in rows.values())))
+        for row in rows.values():
+            row.note_headings_or_unread(shared)
+        read = next((name for name, row in rows.items() if row.has_columns()), None)
+        for name, row in rows.items():
+            if name == read:
+                break
+            if row.unread:
                 raise BadWorkbook(f"{row.unread}: repair the sheet {text.quoted(name)}, or name the one to read {preferred!r}")
-        return found
+        read = read or tables[0]
+        for name, row in rows.items():
+            if name != read:
+                row.refuse_headings(read, preferred)
+        return read, [name for name, row in rows.items() if not row.headings and not row.unread]
 
     def parse_strings(self, needed):
         """The shared strings, of which those that are needed are read."""

@@ -1,0 +1,143 @@
+"""The first rows of a sheet, by which a workbook chooses the sheet that is read."""
+
+import difflib
+from typing import NamedTuple
+
+from ..base import text
+from .cells import Uncomputed, column_name
+from .limits import BadWorkbook
+from .sheet import Sheet
+
+MOST_ROWS, LAST_ROW = 10, 100  # how many rows are looked at, and how far the last one may be from the first
+MOST_COLUMNS = 256  # that are looked at in rows after the first
+ALIKE = 0.75  # a text at least so similar to the name of a column may be meant for it
+OTHER = "-"  # in place of the cells that are no heading
+
+
+class Names:
+    """The names of the needed columns, and the texts that are like one."""
+
+    def __init__(self, names):
+        self.names, self.alike = set(names), {}
+        self.fewest = min(2, len(self.names))  # how many of them are a row of headings
+        self.longest = max(map(len, names), default=0) * (2 / ALIKE - 1)  # the length of a text like the longest one
+
+    def may_name(self, words):
+        """Whether a text isn't too long for a heading."""
+        return 0 < len(words.strip()) <= self.longest
+
+    def is_like_one(self, words):
+        """Whether a text isn't a name, but like one."""
+        if words not in self.alike:
+            self.alike[words] = words not in self.names and bool(difflib.get_close_matches(words, self.names, 1, ALIKE))
+        return self.alike[words]
+
+
+class Headings(NamedTuple):
+    """The texts of a row that may be headings, each with its column."""
+
+    row: int
+    columns: dict
+
+    def place_and_words_or_none(self, names):
+        """The place and the text of a heading, if the row has headings: two of the names, or a text like one that doesn't stand alone."""
+        named = [words for words in self.columns if words in names.names]
+        alike = [words for words in self.columns if names.is_like_one(words)] if len(self.columns) > 1 else []
+        if not alike and len(named) < names.fewest:
+            return None
+        words = (alike or named)[0]
+        return f"{column_name(self.columns[words])}{self.row}", words
+
+
+class Enough(Exception):
+    """The first rows of a sheet were read."""
+
+
+class FirstRows(Sheet):
+    """The first rows of a sheet that aren't empty. If it can't be read, or its first row has formulas without their values that may be the
+    names, it is `unread`: the fault."""
+
+    def __init__(self, name, part, book, names):
+        super().__init__(name, part, book, None)
+        self.names, self.found, self.unread = names, [], None
+        self.uncomputed = 0  # how many cells of the first row are formulas without their values
+        self.headings = []  # of each row, once the shared strings are known
+
+    def content_or_refuse(self):
+        """The content of a cell, or a word in its place if it is no heading."""
+        words = super().content_or_refuse()
+        if isinstance(words, int) or not words:
+            return words
+        if isinstance(words, Uncomputed):
+            self.uncomputed += not self.found
+        elif self.kind != "n" and not words.strip():
+            return ""
+        elif self.kind != "n" and self.names.may_name(words):
+            return words
+        return OTHER
+
+    def formatted_text(self, shown, value):
+        """A number, without the time that its format would take: no name is a number."""
+        return value
+
+    def close_row(self):
+        """Keeps of a row the cells that may be headings: the first place of each."""
+        if self.cells:
+            places = {}
+            for at, cell in enumerate(self.cells[: MOST_COLUMNS if self.found else None], 1):
+                if cell != "":
+                    places.setdefault(cell, at)
+            self.found.append((self.row, places))
+        self.column, self.cells = 0, None
+        if len(self.found) == MOST_ROWS or self.found and self.row - self.found[0][0] >= LAST_ROW:
+            raise Enough
+
+    def parse_and_note_first_rows(self):
+        """Parses the sheet until they were read. A fault after the first one is left to a reader of the whole sheet."""
+        try:
+            self.book.package.parse_into_or_refuse(self.part, self)
+        except Enough:
+            pass
+        except BadWorkbook as fault:
+            self.note_unread(fault)
+        self.needed = {cell for _, cells in self.found for cell in cells if isinstance(cell, int)}
+
+    def note_unread(self, fault):
+        """Notes a fault without its frames, which would hold the parser, if the first row wasn't read."""
+        self.unread = None if self.found else BadWorkbook(str(fault))
+
+    def count(self):
+        """How many cells are kept."""
+        return sum(len(cells) for _, cells in self.found)
+
+    def note_headings_or_unread(self, shared):
+        """Finds the headings by the shared strings."""
+        for row, cells in self.found:
+            columns = {}
+            for cell, column in cells.items():
+                words = shared.texts.get(cell) if isinstance(cell, int) else cell
+                if words is None and not self.headings:
+                    self.unread = BadWorkbook(f"{self.place}, cell {column_name(column)}{row}: it has no string '{cell}'")
+                    return
+                if words and words.strip():
+                    columns.setdefault(words.strip().lower(), column)
+            if columns:
+                self.headings.append(Headings(row, columns))
+        lacking = self.names.names - set(self.headings[0].columns if self.headings else ())
+        if not self.headings and not self.found and not self.has_data and not self.unread:
+            self.unread = self.error_of("it has no table of cells")
+        if 0 < len(lacking) <= self.uncomputed:
+            self.unread = BadWorkbook(f"{self.place}: a formula of its first row was saved without its value")
+
+    def has_columns(self):
+        """Whether the first row has all names."""
+        return not self.unread and bool(self.headings) and self.names.names <= set(self.headings[0].columns)
+
+    def refuse_headings(self, read, preferred):
+        """Refuses a sheet that isn't read, but may be a table as the one that is read."""
+        for headings in self.headings:
+            if found := headings.place_and_words_or_none(self.names):
+                place, words = found
+                said = f"{text.quoted(words)} may be a heading of the table, but the sheet {text.quoted(read)} is read"
+                advice = f"name the one to read {preferred!r}, or remove the other"
+                raise BadWorkbook(f"{self.place}, cell {place}: {said}: {advice}")
