@@ -44,7 +44,7 @@ pub enum BatchFault {
 /// Why a store wasn't opened, or lines weren't appended.
 #[derive(Debug, Drop, Error)]
 pub enum StoreFault {
-    /// The file holds bytes that no journal begins with.
+    /// The file holds bytes that no journal begins with. The text names the program that the format was made for.
     #[error("the file isn't a desk's journal")]
     NotAStore,
     /// The file is longer than a journal may be.

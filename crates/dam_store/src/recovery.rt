@@ -12,7 +12,7 @@ use crate::fault::StoreFault;
 use sqlite_disk::Disk;
 use std::alloc::AllocError;
 
-/// The first line of each file that was made whole: the name of the format.
+/// The first line of each file that was made whole: the name of the format, after the program that it was made for.
 pub(crate) const HEAD_LINE: [u8; 12] = *b"+dam-desk 1\n";
 
 const AFTER_FIRST: [u8; 12] = *b"dam-desk 1\n-";
