@@ -3,7 +3,7 @@
 import difflib
 import itertools
 
-from drawn_workbooks import CLOSE, HEADS, MAIN, OFFICE, OPEN, RELATIONS, ROOT, SHARED, STYLES, archive_bytes, workbook_of_sheet
+from drawn_workbooks import BOOK, CLOSE, HEADS, MAIN, OFFICE, OPEN, RELATIONS, ROOT, SHARED, STYLES, archive_bytes, workbook_of_sheet
 from lib.sheets import order_table
 from lib.workbooks import first_rows
 
@@ -69,6 +69,14 @@ def rows_of_names(count, first=0):
 def spelled_style(at):
     """The number of one of 30,000 formats, with zeros before it: no two are alike."""
     return b"%s%05d" % (b"0" * (at // 30_000), at % 30_000)
+
+
+def workbook_of_names(count):
+    """The list of sheets, with names of formulas, each of which has the name of the next one, and the last one a volatile function."""
+    names = "".join(f'<definedName name="n{at}">{f"n{at + 1}+" * 9}1</definedName>' for at in range(count - 1))
+    names += f'<definedName name="n{count - 1}">RAND()</definedName>'
+    sheets = '<sheets><sheet name="orders" r:id="r1"/></sheets>'
+    return f'<workbook xmlns="{MAIN[0]}" xmlns:r="{OFFICE[0]}">{sheets}<definedNames>{names}</definedNames></workbook>'.encode()
 
 
 def namespace_declarations(count):
@@ -157,6 +165,10 @@ LARGE = {
         [[b"<row>", b"<c s='0'><v>1.23456789012345E-300</v></c>" * 2**14, b"</row>"]] * 45, b"".join(styles_of_formats(1, FRACTION)))),
     "long formulas": ("", lambda: table_workbook(
         (b"<row><c><f>%s</f><v>1</v></c></row>" % part * 3_000 for part in (b'"",' * 10_000, b"RAND " * 200)))),
+    "long formulas with texts": ("", lambda: table_workbook(
+        (b"<row><c><f>%s</f><v>1</v></c></row>" % (b'"",' * 10_000 + b'"RAND()"') for _ in range(1_000)))),
+    "names of formulas": ("", lambda: table_workbook(
+        (b"<row><c><f>%s</f><v>1</v></c></row>" % (b"a," * 16_000) for _ in range(1_000)), **{BOOK: workbook_of_names(20_000)})),
     "formats in many spellings": ("", lambda: table_workbook(rows_of_numbers(spelled_style), **{STYLES: styles_of_one_format(30_000)})),
     "these, and many parts": ("", lambda: table_workbook(
         rows_of_numbers(spelled_style), **{STYLES: styles_of_one_format(30_000), **{str(at): b"" for at in range(1_980)}})),

@@ -52,7 +52,7 @@ EMPTY = [("", ""), ('s="3"', ""), ('t="s"', ""), ("", "<v/>"), ('t="str"', "<f>A
 HEADS = "".join(f"<c t='inlineStr'><is><t>{name}</t></is></c>" for name in order_table.ORDER).encode()
 ROOT = f'<worksheet xmlns="{MAIN[0]}">'.encode()
 OPEN, CLOSE = ROOT + b"<sheetData><row>" + HEADS + b"</row>", b"</sheetData></worksheet>"
-SHEET, SHARED, STYLES = "xl/worksheets/sheet1.xml", "xl/sharedStrings.xml", "xl/styles.xml"
+BOOK, SHEET, SHARED, STYLES = "xl/workbook.xml", "xl/worksheets/sheet1.xml", "xl/sharedStrings.xml", "xl/styles.xml"
 
 
 class Cell(NamedTuple):
@@ -147,7 +147,7 @@ class RandomWorkbook:
             "[Content_Types].xml": f'<Types xmlns="{TYPES}"/>',
             "_rels/.rels": f'<Relationships xmlns="{RELATIONS}"><Relationship Id="a" Type="{office}/officeDocument" '
             'Target="xl/workbook.xml"/></Relationships>',
-            "xl/workbook.xml": f'<workbook xmlns="{main}" xmlns:r="{office}"><sheets>{named}</sheets></workbook>',
+            BOOK: f'<workbook xmlns="{main}" xmlns:r="{office}"><sheets>{named}</sheets></workbook>',
             "xl/_rels/workbook.xml.rels": f'<Relationships xmlns="{RELATIONS}">{told}</Relationships>',
             STYLES: STYLE_SHEET.format(main),
             SHARED: self.qualified_part(f"<sst>{''.join(self.strings)}</sst>"),

@@ -401,7 +401,9 @@ class Unlike(unittest.TestCase):
             ("NOW()", "", True), ("2*today ()", "", True), ("-RAND()", "", True), ("ROUND(RANDBETWEEN(1,9),2)", "", True), ("OFFSET(A1,1,1)", "", True),
             ("'a'!B1+INDIRECT('b'!A1)", "", True), ("_xlfn.RANDARRAY(1)", "", True), ('IF(CELL("row")=2,1,2)', "", True), ("A1+INFO(B1)", "", True),
             ("'NOW()'!A1", "", False), ('LEN("RAND()")', "", False), ("MYNOW()", "", False), ("TODAYS(1)", "", False), ("NOW+RAND", "", False),
-            ("ROUND(A1,2)", "", False),
+            ("ROUND(A1,2)", "", False), ("RTD(A1,,B1)", "", True), ("'a\"b'!A1+NOW()+'c\"d'!A1", "", True), ("'a\"b'!A1=\"NOW()\"", "", False),
+            ("'it''s'!A1+NOW()", "", True), ("'NOW()''s \"'!A1", "", False), ("T[O'#1]+RAND()+'a'!A1", "", True), ("T[[#All],[NOW()]]", "", False),
+            ("\"it's\"=NOW()=\"it's\"", "", True), ("\"a\"\"NOW()\"='b'!A1", "", False), ("[1]a!B1*NOW()", "", True), ("T['[]+NOW()", "", True),
         ):  # fmt: skip
             for cell in (f"<c><f{attributes}>{formula}</f><v>12</v></c>", f'<c t="str"><f{attributes}>{formula}</f><v>12</v></c>'):
                 found, fault = self.read(E=cell)
@@ -409,6 +411,33 @@ class Unlike(unittest.TestCase):
                 self.assertIsNone(self.read(J=cell)[1])
         found, _ = self.read(self.computed('calcId="1"'), E="<c><f>10+2</f><v>12</v></c>")
         self.assertEqual(found.order.price, 1_200)
+
+    def defined(self, **formulas):
+        """The list of sheets, with names of formulas."""
+        names = "".join(f'<definedName name="{name.rstrip("_")}">{formula}</definedName>' for name, formula in formulas.items())
+        return {"xl/workbook.xml": self.computed("")["xl/workbook.xml"].replace(b"<calcPr", f"<definedNames>{names}</definedNames><calcPr".encode())}
+
+    def test_names_of_volatile_formulas(self):
+        """A formula may have the name of a volatile one, also by other names."""
+        names = self.defined(Now="NOW()", of="A1*2", by="2*then", then="of+nOw", local="A1", local_="RAND()", it="it+1", quoted='"NOW"')
+        for formula, is_volatile in (
+            ("Now", True), ("2*NOW", True), ("by+1", True), ("THEN", True), ("a!then", True), ("local", True), ("of", False), ("it", False),
+            ('"now"', False), ("'now'!A1", False), ("T[now]", False), ("now2+a.now", False), ("quoted", False),
+        ):  # fmt: skip
+            said = f"line 2, column price_eur_mwh: '={formula}' is a formula whose value changes whenever Excel opens the workbook"
+            found, fault = self.read(names, E=f"<c><f>{formula}</f><v>12</v></c>")
+            with self.subTest(formula):
+                self.assertEqual(((fault or "").split(": write")[0], found is None), (said.replace("'='", "'=\\'"), True) if is_volatile else ("", False))
+        for count, length, said in ((20_001, 1, "20,000 names of formulas"), (70, 30_000, "2,097,152 characters in its names of formulas")):
+            names = self.defined(**{f"n{at}": "1" * length for at in range(count)})
+            self.assertEqual(self.read(names)[1], f"line 1: the Excel workbook can't be read: it has more than {said}")
+        chain = self.defined(**{f"n{at}": f"n{at + 1}" for at in range(9_999)}, n9999="RAND()")
+        self.assertIn("is a formula whose value changes", self.read(chain, E="<c><f>n0</f><v>12</v></c>")[1])
+
+    def test_formulas_are_limited(self):
+        cells = b"<row>" + b"<c><f>%s</f><v>1</v></c>" % (b"1+" * 16_000) * 100 + b"</row>"
+        with self.assertRaisesRegex(sheets.BadTable, "^sheet 'orders', cell Y7: the sheet has more than 16,777,216 characters in its formulas up to"):
+            sheets.parse_rows_and_add_notes(made.workbook_of_sheet(made.OPEN, *[cells] * 11, made.CLOSE))
 
     def test_volatile_formulas_that_cells_share(self):
         """Only the first of them, here in a column that isn't used, has the text."""

@@ -3,10 +3,11 @@
 import posixpath
 
 from ..base import text
-from .limits import LONGEST_NAME, MOST_HEADS, MOST_SHEETS, BadWorkbook, broken_error, too_many_error
+from .first_rows import FirstRows, Names
+from .formulas import volatile_names
+from .limits import LONGEST_NAME, MOST_DEFINED, MOST_HEADS, MOST_OF_DEFINED, MOST_SHEETS, BadWorkbook, broken_error, too_many_error
 from .package import Package
 from .part import ANY_OTHERS, Part, truth_word_or_none
-from .first_rows import FirstRows, Names
 from .sheet import Sheet, Strings, is_calculation_due
 from .styles import Styles
 
@@ -73,9 +74,9 @@ class Workbook(Part):
     """The sheets of a workbook, and the parts that they share."""
 
     ROOT = "workbook"
-    PLACES = {"": ROOT, ROOT: "workbookPr sheets calcPr extLst", "sheets": "sheet*"}
+    PLACES = {"": ROOT, ROOT: "workbookPr sheets definedNames calcPr extLst", "sheets": "sheet*", "definedNames": "definedName*"}
     BETWEEN = {ROOT: {ANY_OTHERS, *(
-        "fileVersion fileSharing workbookProtection bookViews functionGroups externalReferences definedNames oleSize customWorkbookViews"
+        "fileVersion fileSharing workbookProtection bookViews functionGroups externalReferences oleSize customWorkbookViews"
         " pivotCaches smartTagPr smartTagTypes webPublishing fileRecoveryPr webPublishObjects").split()}}  # fmt: skip
 
     def __init__(self, package):
@@ -86,8 +87,9 @@ class Workbook(Part):
         part = self.parse_relations("").only_part_or_refuse(WORKBOOK)
         if part is None:
             raise broken_error("it has no sheets")
-        self.relations = self.parse_relations(part)
+        self.relations, self.defined, self.size_of_defined = self.parse_relations(part), {}, 0
         package.parse_into_or_refuse(part, self)
+        self.volatile_names = volatile_names(self.defined)
         styles = Styles()
         if part := self.relations.only_part_or_refuse(STYLES):
             package.parse_into_or_refuse(part, styles)
@@ -102,6 +104,23 @@ class Workbook(Part):
 
     def open_workbookPr(self, attributes):
         self.from_1904 = truth_word_or_none(attributes, "date1904") == "TRUE"
+
+    def open_definedName(self, attributes):
+        self.name = attributes.get("name", "").upper()
+        self.keep_text()
+
+    def close_definedName(self):
+        """Keeps the formula of a name: all formulas, if sheets have their own."""
+        self.allow_no_text()
+        formula = self.pop_text()
+        self.defined[self.name] = f"{self.defined[self.name]} {formula}" if self.name in self.defined else formula
+        self.size_of_defined += len(self.name) + len(formula)
+        for count, most, things in (
+            (len(self.defined), MOST_DEFINED, "names of formulas"),
+            (self.size_of_defined, MOST_OF_DEFINED, "characters in its names of formulas"),
+        ):
+            if count > most:
+                raise too_many_error(most, things)
 
     def open_calcPr(self, attributes):
         """A program that doesn't compute formulas stores any values, and lets Excel compute them once it opens the workbook."""

@@ -7,7 +7,9 @@ import re
 from ..base import text
 from .cells import Date, Hidden, Kept, Numbers, Reversed, ReversedString, Rows, Struck, StruckString, Styled, StyledString, Truth
 from .cells import Uncomputed, Volatile, changes_from_right, column_name, column_number, trimmed, unescaped
-from .limits import LAST_COLUMN, LAST_ROW, MOST_CELLS, MOST_ELEMENTS, MOST_TEXT, BadWorkbook, broken_error, memory_size, too_many_error
+from .formulas import has_name, has_volatile_function
+from .limits import LAST_COLUMN, LAST_ROW, MOST_CELLS, MOST_ELEMENTS, MOST_OF_FORMULAS, MOST_TEXT, BadWorkbook
+from .limits import broken_error, memory_size, too_many_error
 from .part import ANY_OTHERS, EXTENSIONS, FONT, OF_FONTS, TRUTHS, Texts, strikes_out, truth_word_or_none, unsigned_number_or_none
 from .styles import A_NUMBER_FORMAT, A_STRIKING_FONT, digits_text, general_text
 
@@ -15,8 +17,6 @@ NUMBER = re.compile(r"[+-]?(?:[0-9]+(?:\.[0-9]*)?|\.[0-9]+)(?:[eE][+-]?[0-9]{1,3
 WHOLE = re.compile(r"-?[0-9]{1,15}")
 PLACE = re.compile(r"[1-9][0-9]{0,6}")
 RANGE = re.compile(r"\$?([A-Z]{1,3})\$?([1-9][0-9]{0,6})(?::\$?([A-Z]{1,3})\$?([1-9][0-9]{0,6}))?")
-# The functions that Excel computes again once it opens a workbook.
-VOLATILE = re.compile(r"\b(?:NOW|TODAY|RAND(?:BETWEEN|ARRAY)?|OFFSET|INDIRECT|CELL|INFO)\s*\(")
 DATE = re.compile(r"([0-9]{4}-[0-9]{2}-[0-9]{2})(?:T[0-9:.]*Z?)?")
 CLOCK = re.compile(r"T?([0-9]{2}:[0-9]{2})(?::[0-9.]*)?Z?")
 
@@ -24,13 +24,6 @@ CLOCK = re.compile(r"T?([0-9]{2}:[0-9]{2})(?::[0-9.]*)?Z?")
 def is_calculation_due(attributes):
     """Whether Excel computes all formulas once it opens the workbook."""
     return truth_word_or_none(attributes, "fullCalcOnLoad") == "TRUE"
-
-
-def has_volatile_function(formula):
-    """Whether a formula has one of these functions, besides its texts and the names of sheets."""
-    for quote in "\"'":
-        formula = "".join(formula.split(quote)[::2])
-    return bool(VOLATILE.search(formula.upper()))
 
 
 HIDING = "that hides numbers"
@@ -108,7 +101,7 @@ class Sheet(Texts):
         self.place, self.part, self.book = f"sheet {text.quoted(name)}", part, book
         self.last = None if most is None else most + 1  # how many rows it may have
         self.rows, self.needed = Rows(), Numbers()
-        self.row = self.column = self.count_of_cells = self.size = 0
+        self.row = self.column = self.count_of_cells = self.size = self.size_of_formulas = 0
         self.cells = None  # of a row; None outside
         self.first_formula = None  # its row and its column
         self.shared_volatile = Numbers()  # of the formulas that cells share, those that are volatile
@@ -195,6 +188,9 @@ class Sheet(Texts):
     def close_f(self):
         self.allow_no_text()
         self.formula = self.pop_text()
+        self.size_of_formulas += len(self.formula)
+        if self.size_of_formulas > MOST_OF_FORMULAS:
+            raise self.error_of(f"the sheet has more than {MOST_OF_FORMULAS:,} characters in its formulas up to this cell")
         self.note_volatile()
         self.first_formula = self.first_formula or (self.row, self.column)
 
@@ -202,7 +198,8 @@ class Sheet(Texts):
         """Notes whether the cell's formula is volatile. Of those that cells share, the first one has the text."""
         number = unsigned_number_or_none(self.shared or "")
         is_known = number is not None and number < MOST_ELEMENTS
-        self.is_volatile = self.is_volatile or has_volatile_function(self.formula) or is_known and number in self.shared_volatile
+        has_volatile = has_volatile_function(self.formula) or has_name(self.formula, self.book.volatile_names)
+        self.is_volatile = self.is_volatile or has_volatile or is_known and number in self.shared_volatile
         if self.is_volatile and is_known:
             self.shared_volatile.add(number)
 

@@ -1,0 +1,50 @@
+"""The formulas of a workbook: which ones Excel computes again once it opens the workbook."""
+
+import re
+
+# The functions that Excel computes again once it opens a workbook.
+VOLATILE = re.compile(r"\b(?:NOW|TODAY|RAND(?:BETWEEN|ARRAY)?|OFFSET|INDIRECT|CELL|INFO|RTD)\s*\(")
+# What in a formula names no function: a text, a quoted name of a sheet, and the brackets of a table or a file, in which ' marks one.
+QUOTED = re.compile(r'''"[^"]*"|'[^']*'|\[(?:[^\[\]']|'.|\[(?:[^\[\]']|'.)*\])*\]''', re.DOTALL)
+NAME = re.compile(r"[\w.\\?]+")
+
+
+def unquoted(formula):
+    """A formula in capitals, with a mark in place of each such part."""
+    return QUOTED.sub("'", formula.upper())
+
+
+def has_volatile_function(formula):
+    """Whether a formula has one of these functions."""
+    return bool(VOLATILE.search(formula.upper()) and VOLATILE.search(unquoted(formula)))
+
+
+def has_name(formula, names):
+    """Whether a formula has one of these names, which are in capitals."""
+    return bool(names) and any(found[0] in names for found in NAME.finditer(unquoted(formula)))
+
+
+def volatile_names(formulas):
+    """Of formulas by their names, in capitals, the names of those that have a volatile function, or such a name. None names itself, also
+    by others: Excel allows no circle."""
+    codes = {name: unquoted(formula) for name, formula in formulas.items()}
+    volatile = {name for name, code in codes.items() if VOLATILE.search(code)}
+    seen = set(volatile)
+    for first in codes:
+        path, places = [] if first in seen else [first], [0]  # each one has the next one's name, before this place
+        seen.add(first)
+        while path:
+            found = NAME.search(codes[path[-1]], places[-1])
+            if not found:
+                path.pop()
+                places.pop()
+            elif found[0] in volatile:
+                volatile.update(path)
+                break
+            else:
+                places[-1] = found.end()
+                if found[0] in codes and found[0] not in seen:
+                    seen.add(found[0])
+                    path.append(found[0])
+                    places.append(0)
+    return volatile
