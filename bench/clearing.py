@@ -15,7 +15,8 @@ from running import BEFORE, DAM, LIMIT, PEER_LIMIT, run_in_turns_or_exit, run_to
 
 MOST_OF_DEEP = 0.15  # seconds
 MOST_OF_BEFORE = 2  # times as long as the program before
-TURNS, SECONDS, ONCE = 5, 6.0, 1.0  # at most, for a book; a program that takes longer than ONCE isn't run again
+TURNS, SECONDS = 5, 6.0  # at most, for a book
+LONGEST_OF_REPEATED = 1.0  # seconds; a program that takes longer isn't run again
 PEERS = {"highs": "HiGHS", "cbc": "CBC"}
 SPARE = 15.0  # seconds that the program of a peer may take to be written
 LEAST_OF_PEER = 20  # times as long as `dam clear`
@@ -70,7 +71,7 @@ class TimedBook:
         """The runs of `dam clear`, of itself on the book without its blocks, and of more programs that there are."""
         clear = [DAM, "clear"]
         words = {"dam": clear, "alone": clear, **{name: given for name, given in more.items() if given}}
-        return run_in_turns_or_exit(words, self.path, TURNS, SECONDS, ONCE, inputs={"alone": self.alone}, limit=limit)
+        return run_in_turns_or_exit(words, self.path, TURNS, SECONDS, LONGEST_OF_REPEATED, inputs={"alone": self.alone}, limit=limit)
 
     def run_and_note_seconds_or_exit(self, more, twin=None):
         """Notes the seconds of `dam clear` and other programs, by turns; `more` has the words of further ones, and `twin` those of the

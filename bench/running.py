@@ -72,10 +72,10 @@ def run_to_file_or_exit(path, *words):
     return path
 
 
-def call_in_turns(functions, most=31, seconds=5.0, once=math.inf):
+def call_in_turns(functions, most=31, seconds=5.0, longest_of_repeated=math.inf):
     """Calls functions in turns, with the number of the turn. Returns for each name its results: at most `most`, and no further one after
-    `seconds`. A function isn't called again if it returned None, or if it took longer than `once`; that call doesn't count among the
-    seconds."""
+    `seconds`. A function isn't called again if it returned None, or if it took longer than `longest_of_repeated`; that call doesn't count
+    among the seconds."""
     found, left, again = {name: [] for name in functions}, seconds, dict(functions)
     for turn in range(most):
         for name, function in list(again.items()):
@@ -84,15 +84,15 @@ def call_in_turns(functions, most=31, seconds=5.0, once=math.inf):
             taken = time.perf_counter() - begun
             if result is not None:
                 found[name].append(result)
-            if result is None or taken > once:
+            if result is None or taken > longest_of_repeated:
                 del again[name]
-            left -= taken if taken <= once else 0
+            left -= taken if taken <= longest_of_repeated else 0
         if left < 0:
             break
     return found
 
 
-def run_in_turns_or_exit(programs, given=os.devnull, most=31, seconds=5.0, once=math.inf, inputs=None, limit=LIMIT):
+def run_in_turns_or_exit(programs, given=os.devnull, most=31, seconds=5.0, longest_of_repeated=math.inf, inputs=None, limit=LIMIT):
     """Runs programs in turns, and returns the runs of each; a program that doesn't end in time has none. A program reads the file of its
     name among the inputs, or else the given one. Each turn has their stacks at another place, because the time of a walk varies with
     that."""
@@ -101,7 +101,7 @@ def run_in_turns_or_exit(programs, given=os.devnull, most=31, seconds=5.0, once=
         read = (inputs or {}).get(name, given)
         return lambda turn: run_or_exit(words, read, limit=limit, padding=STACKS * (turn % PLACES))
 
-    return call_in_turns({name: runs(name, words) for name, words in programs.items()}, most, seconds, once)
+    return call_in_turns({name: runs(name, words) for name, words in programs.items()}, most, seconds, longest_of_repeated)
 
 
 def measure_peak_mebibytes(words, given):

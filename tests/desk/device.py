@@ -14,7 +14,8 @@ SECONDS = 120
 EVENT, RESULT, LENGTH = struct.Struct("=ccHiQII"), struct.Struct("=iIIII"), struct.Struct("=I")
 PACKET = 4_096  # bytes that a read gets at once, if they were written at once
 ROOM = 1 << 20  # of a pipe
-EVERY = 2**62  # above the number of any call
+ABOVE_ANY_CALL = 2**62  # a number that no call has
+LOCKED_LINE = b"file: another process has it\n"  # the fault line of a desk whose file another one has
 CHUNK = 500  # images that one process opens
 OPEN, LOCK, STAT, READ, WRITE, SYNC, CUT, ADVICE, INPUT, OUTPUT = "PLQRWSTAIO"
 DESK, EXTRA, FOLDER, STREAM = "FXDN"

@@ -15,7 +15,7 @@ import time
 import journals
 import kills
 import streams
-from device import DESK, EVERY, INPUT, OUTPUT, SECONDS, STREAM, SYNC, WRITE, RefusedFileCalls
+from device import ABOVE_ANY_CALL, DESK, INPUT, LOCKED_LINE, OUTPUT, SECONDS, STREAM, SYNC, WRITE, RefusedFileCalls
 from images import HEAD, MOST, is_at_rest, parse_marked_lines_or_none
 from journals import CLOSE, rules
 from shared.preload import HostileProgram
@@ -221,7 +221,7 @@ class FileTests:
         self.check_run("a link's journal", self.run_on_text(["--journal", link]), 0, DAY + CLOSE, b"")
         with subprocess.Popen([*self.desk.words, str(link)], stdin=subprocess.PIPE, stdout=subprocess.PIPE) as first:
             first.stdout.readline()
-            self.check_run("a second desk by the file's name", self.run_on_text([file]), 4, b"", streams.IN_USE)
+            self.check_run("a second desk by the file's name", self.run_on_text([file]), 4, b"", LOCKED_LINE)
             first.stdin.close()
 
     def check_privileges(self):
@@ -428,7 +428,7 @@ class FileTests:
     def check_many_lines(self):
         """The same for more lines, which are all there at once: each read moves the two bytes of one."""
         file = write_desk_file(self.desk.make_folder(), file_of_records(DAY))
-        refusal = " ".join(map(str, RefusedFileCalls(INPUT, 1, EVERY, most=2)))
+        refusal = " ".join(map(str, RefusedFileCalls(INPUT, 1, ABOVE_ANY_CALL, most=2)))
         got = self.run_on_text([file], b"A\n" * LINES, env=self.desk.environment_for(file, DESK_REFUSE=refusal))
         right = b"day,24\n" + b"".join(b"fault,%d,FieldCount\n" % number for number in range(1, LINES + 1))
         about = f"{LINES:,} lines in as many reads: status {got.status}, {got.stderr[:80]!r}, {got.stdout[-60:]!r}"

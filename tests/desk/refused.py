@@ -17,7 +17,8 @@ import images
 import journals
 from files import HELP
 from shared.preload import RefusedCalls, make_environment, read_counts
-from device import ADVICE, CUT, EVERY, INPUT, LOCK, OPEN, OUTPUT, READ, SECONDS, STAT, SYNC, WRITE, RefusedFileCalls
+from device import (ABOVE_ANY_CALL, ADVICE, CUT, INPUT, LOCK, LOCKED_LINE, OPEN, OUTPUT, READ, SECONDS, STAT, SYNC, WRITE,
+                    RefusedFileCalls)
 
 MODE = "M"
 # The errors of each kind of call.
@@ -30,7 +31,7 @@ ERRORS = {
 LINES = {READ: "file: the file can't be read: {}", WRITE: "file: the file can't be written: {}", INPUT: "device: read",
          OUTPUT: r"device: write after \d+ bytes"}  # fmt: skip
 SYSTEM = "file: {}"
-IN_USE, MEMORY = b"file: another process has it\n", b"memory\n"
+MEMORY = b"memory\n"
 SHORT = [0, 1, 7]  # bytes that a write moves at most
 MACHINE = 4  # the status
 LONGEST = 1 << 20  # bytes of a file, more than a desk's
@@ -47,7 +48,7 @@ def is_length_named(ran):
 def is_fault_line(kind, error, stderr):
     """Whether this is the line of the fault."""
     if kind == LOCK and error in (errno.EAGAIN, errno.EACCES):
-        return stderr == IN_USE
+        return stderr == LOCKED_LINE
     own = rf"{re.escape(os.strerror(error))} \(os error {error}\)"
     ways = [LINES[kind]] if kind in LINES else [SYSTEM]
     ways += ["file: the file can't be synced: {}"] if kind == SYNC else [LINES[READ]] if kind == STAT else []
@@ -147,7 +148,7 @@ class RunsWithRefusals(crashes.Crashes):
                 for number in range(1, made.get(kind, 0) + 1):
                     yield RefusedFileCalls(kind, number, number, 0, most), self.is_short
             for most in SHORT[1:]:
-                yield RefusedFileCalls(kind, 1, EVERY, 0, most), self.is_short
+                yield RefusedFileCalls(kind, 1, ABOVE_ANY_CALL, 0, most), self.is_short
 
     def check_refusals(self):
         """Refuses each call in turn, and returns the faults."""
@@ -185,10 +186,10 @@ class RunsWithoutMemory(RunsWithRefusals):
         return made
 
     def check_refusals(self):
-        made = self.run_and_check_without_memory((EVERY, EVERY))
+        made = self.run_and_check_without_memory((ABOVE_ANY_CALL, ABOVE_ANY_CALL))
         if made < 10:
             self.wrong.append(f"{self.about}: {made} growths are counted")
-        rows = [(first, last) for first in range(1, made + 1) for last in (first, EVERY)]
+        rows = [(first, last) for first in range(1, made + 1) for last in (first, ABOVE_ANY_CALL)]
         with ThreadPoolExecutor(self.desk.jobs) as pool:
             list(pool.map(self.run_and_check_without_memory, rows))
         return self.wrong
@@ -299,7 +300,7 @@ def check_refused_journal(counts, desk, given):
     with ThreadPoolExecutor(desk.jobs) as pool:
         list(pool.map(check_row, rows))
     for number in range(1, made + 1):
-        for last in (number, EVERY):
+        for last in (number, ABOVE_ANY_CALL):
             ran, _ = run_with_refused_calls(desk, file, (), RefusedCalls("memory", number, last), words)
             is_right = (ran.status, ran.stderr, ran.stdout) in [(MACHINE, MEMORY, b""), (0, b"", text)]
             counts.check(f"--journal: growth {number} to {last} refused: {ran}", is_right)
@@ -312,7 +313,7 @@ def check_random_bytes(counts, desk, given):
     for error in (errno.ENOSYS, errno.EPERM, errno.EOPNOTSUPP):
         own = f"{os.strerror(error)} (os error {error})\n".encode()
         for first, last, status, printed, line in [
-            (1, EVERY, MACHINE, b"", b"file: it can't be opened without random bytes: " + own),
+            (1, ABOVE_ANY_CALL, MACHINE, b"", b"file: it can't be opened without random bytes: " + own),
             (2, 2, MACHINE, b"", b"file: " + own),
             (3, 3, 0, whole, b""),
         ]:

@@ -10,11 +10,10 @@ import crashes
 import journals
 import kills
 import refused
-from device import SYNC, DeskProgram, RefusedFileCalls
+from device import LOCKED_LINE, SYNC, DeskProgram, RefusedFileCalls
 
 OPENED = 300  # files of crashes that are opened
 KILLS, MOST_KILLS = 10, 200  # of a desk without a fault, and of one with a fault if none finds it
-IN_USE = b"file: another process has it\n"
 
 
 def try_crashes(desk, given):
@@ -61,7 +60,7 @@ def try_second_desk(desk, given):
             printed = second.communicate(b"")
         first.communicate(b"")
     got = (second.returncode, *printed)
-    return [] if got == (4, b"", IN_USE) else [f"a second desk: {got}"]
+    return [] if got == (4, b"", LOCKED_LINE) else [f"a second desk: {got}"]
 
 
 # Each fault of stand_in.c, and the test that has to find it.

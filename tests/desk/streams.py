@@ -13,12 +13,11 @@ from concurrent.futures import ThreadPoolExecutor
 import device
 import images
 import journals
-from device import INPUT, SYNC
+from device import INPUT, LOCKED_LINE, SYNC
 from journals import CLOSE, rules
 from shared import broken_texts
 from lib.journal import journal as format_of
 
-IN_USE = b"file: another process has it\n"
 LONGEST = 65_536  # bytes of a line
 FEW, MANY = 300, 1_000
 MUTATIONS = [
@@ -250,14 +249,14 @@ def check_second_desk(counts, desk, dam):
             done += 1
         before = file.read_bytes(), file.stat().st_mtime_ns
         other = subprocess.run([*desk.words, str(file)], input=CLOSE, stdout=subprocess.PIPE, stderr=subprocess.PIPE)
-        counts.check(f"together: a second desk: {other}", (other.returncode, other.stdout, other.stderr) == (4, b"", IN_USE))
+        counts.check(f"together: a second desk: {other}", (other.returncode, other.stdout, other.stderr) == (4, b"", LOCKED_LINE))
         shown = subprocess.run([*desk.words, "--journal", str(file)], stdout=subprocess.PIPE, stderr=subprocess.PIPE)
         right = given.journal.text(done)
         counts.check(f"together: the journal of {done} records: {shown}", (shown.returncode, shown.stdout, shown.stderr) == (0, right, b""))
         counts.check("together: nothing was changed", before == (file.read_bytes(), file.stat().st_mtime_ns))
     process.send_signal(signal.SIGSTOP)  # a desk that stands still has its file too
     other = subprocess.run([*desk.words, str(file)], input=CLOSE, stdout=subprocess.PIPE, stderr=subprocess.PIPE)
-    counts.check(f"together: a desk that stands still: {other}", (other.returncode, other.stdout, other.stderr) == (4, b"", IN_USE))
+    counts.check(f"together: a desk that stands still: {other}", (other.returncode, other.stdout, other.stderr) == (4, b"", LOCKED_LINE))
     process.send_signal(signal.SIGCONT)
     process.stdin.close()
     counts.check("together: the first desk ends with 0", process.wait() == 0 and process.stdout.read() == b"")
@@ -300,7 +299,7 @@ def check_many_starts(counts, desk, given):
         time.sleep(0.01)
     printed = [process.communicate(b"".join(given.batches)) for process in started]
     ends = sorted((process.returncode, *texts) for process, texts in zip(started, printed))
-    right = [(0, given.journal.printed_text(len(given.journal)), b""), *[(4, b"", IN_USE)] * 7]
+    right = [(0, given.journal.printed_text(len(given.journal)), b""), *[(4, b"", LOCKED_LINE)] * 7]
     counts.check(f"eight desks at once: statuses {[it[0] for it in ends]}", ends == right)
 
 

@@ -8,7 +8,7 @@ from typing import NamedTuple
 import judge
 from lib.base import rules
 from lib.runs.by_library import MOST_NODES
-from shared.preload import EVERY, HostileProgram, RefusedCalls
+from shared.preload import ABOVE_ANY_CALL, HostileProgram, RefusedCalls
 from shared.printed import Printed
 
 REFUSALS = Path(__file__).resolve().parents[2] / "crates/dam_refusals/out/dam_refusals"
@@ -50,7 +50,7 @@ class RetryingRuns:
 
     def measure_count_of_calls(self, words, data):
         """How many calls for memory it makes."""
-        return self.program.run(words, data, RefusedCalls("memory", EVERY, EVERY))[1]
+        return self.program.run(words, data, RefusedCalls("memory", ABOVE_ANY_CALL, ABOVE_ANY_CALL))[1]
 
     def refused_numbers(self, row, total):
         """The calls for memory that are refused: each, but of a long beginning only some; and one that no run comes to."""

@@ -9,7 +9,7 @@ from typing import NamedTuple
 
 import again
 import judge
-from shared.preload import EVERY, RefusedCalls
+from shared.preload import ABOVE_ANY_CALL, RefusedCalls
 from shared import cases
 from shared.counts import Counts
 
@@ -99,7 +99,7 @@ def rows_of_cases():
 def rows_of_cases_without_memory():
     """All calls for memory refused from one on, in the worked cases."""
     for about, words, data in read_worked_cases():
-        yield row_of_growths(f"{about}, all growths from one on", words, data, last=EVERY, each=0, some=8)
+        yield row_of_growths(f"{about}, all growths from one on", words, data, last=ABOVE_ANY_CALL, each=0, some=8)
 
 
 def rows_of_memory():
@@ -128,7 +128,7 @@ def rows_of_memory():
     for about, words, data, some in inputs:
         each = ANY if some == ANY else FEW
         yield row_of_growths(f"{about}, one growth", words, data, each=each, some=some)
-        yield row_of_growths(f"{about}, all growths from one on", words, data, last=EVERY, each=each, some=some // 2)
+        yield row_of_growths(f"{about}, all growths from one on", words, data, last=ABOVE_ANY_CALL, each=each, some=some // 2)
 
 
 def rows_of_calls(program):
@@ -150,8 +150,9 @@ def rows_of_threads():
     for plan in CUTTINGS:
         for word, data in [("clear", AUCTION), ("day", OPEN_AUCTION)]:
             about, words = f"{word} by {' '.join(plan)}", [word, *plan]
-            yield RowOfRuns(f"{about}, one thread", words, data, "thread", judge.is_unchanged, error=errno.EAGAIN)
-            yield RowOfRuns(f"{about}, all threads from one on", words, data, "thread", judge.is_unchanged, last=EVERY, error=errno.EAGAIN)
+            row = RowOfRuns(f"{about}, one thread", words, data, "thread", judge.is_unchanged, error=errno.EAGAIN)
+            yield row
+            yield row._replace(about=f"{about}, all threads from one on", last=ABOVE_ANY_CALL)
 
 
 def rows_of_random_bytes():
@@ -178,7 +179,7 @@ def rows_of_devices():
     for words, data in [(["replay"], BROKEN), (["clear"], OPEN_AUCTION), (["day"], AUCTION), (["clear", "--cut", "9"], b"")]:
         for error in [errno.EIO, 0]:
             about = f"{' '.join(words)} with a fault, its line with " + (errno.errorcode.get(error) or "0 bytes taken")
-            yield RowOfRuns(about, words, data, "report", judge.is_right_after_report, last=EVERY, error=error, most=1)
+            yield RowOfRuns(about, words, data, "report", judge.is_right_after_report, last=ABOVE_ANY_CALL, error=error, most=1)
 
 
 def is_right_at_end_of_input(answer, refusal, got, calls):
@@ -223,7 +224,7 @@ class RunsOfRows(Counts):
     def run_and_check_row(self, row):
         begun = time.monotonic()
         answer = self.capture_answer(row.words, row.data)
-        _, total = self.program.run(row.words, row.data, row.refused_calls(EVERY))
+        _, total = self.program.run(row.words, row.data, row.refused_calls(ABOVE_ANY_CALL))
         if row.kind == "memory":
             self.check(f"{row.about}: {total} calls are counted", total > 0)
         numbers = self.refused_numbers(row, total)

@@ -52,7 +52,7 @@ async def check_lost_answer(page, counts):
     await check_two_tabs(page, counts)
 
 
-ONCE = "{ what: 'amend', order: 'ONCE', price: %d, volumes: [[1, 10]] }"
+AMEND_AT_PRICE = "{ what: 'amend', order: 'ONCE', price: %d, volumes: [[1, 10]] }"
 
 
 async def check_two_tabs(page, counts):
@@ -60,7 +60,7 @@ async def check_two_tabs(page, counts):
     await click(page, '[aria-label="Amend ONCE"]')
     await page.evaluate("look()")
     counts.check("an order that stays as it is isn't overtaken", await read_text(page, "overtaken") == "")
-    counts.check("another tab amends", await page.evaluate(OTHER % (ONCE % 900)))
+    counts.check("another tab amends", await page.evaluate(OTHER % (AMEND_AT_PRICE % 900)))
     await page.wait_until("byId('overtaken').textContent")
     told = await read_text(page, "overtaken")
     words = "ONCE was changed in the meantime: in the book its limit is 9.00 EUR/MWh, and its volumes by period are 1: 1.0 MW."
@@ -80,10 +80,10 @@ async def check_two_tabs(page, counts):
     await wait_for_message(page, "ONCE amended")
     counts.check("and so is yes", await read_text(page, "overtaken") == "")
     await page.wait_until("byId('commands-table').querySelector('tbody tr').cells[6].textContent === '2.00'")
-    await page.evaluate("state.next = 1; enter([%s])" % (ONCE % 100))  # as if no look had seen a command
+    await page.evaluate("state.next = 1; enter([%s])" % (AMEND_AT_PRICE % 100))  # as if no look had seen a command
     same = "ONCE wasn't amended: another command of yours came first. Look in Your commands, and send it again."
     counts.check(f"commands at the same time: {await read_text(page, 'message')}", await read_text(page, "message") == same)
-    counts.check("and sent again", await page.evaluate("enter([%s])" % (ONCE % 100)))
+    counts.check("and sent again", await page.evaluate("enter([%s])" % (AMEND_AT_PRICE % 100)))
     counts.check("another tab enters", await page.evaluate(OTHER % GONE))
     await page.wait_until("inBook('GONE')")
     await click(page, '[aria-label="Amend GONE"]')
@@ -103,7 +103,7 @@ async def check_silence(page, counts):
     """An office that takes the connection and doesn't answer."""
     await page.evaluate("look()")
     await page.evaluate(HELD)
-    await page.evaluate("enter([%s]); undefined" % (ONCE % 200))
+    await page.evaluate("enter([%s]); undefined" % (AMEND_AT_PRICE % 200))
     await wait_for_message(page, "ONCE is being sent: the office hasn't answered yet.")
     await page.wait_until("state.looks === state.visit")
     await wait_for_message(page, "The office can't be reached.")

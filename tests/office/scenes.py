@@ -21,6 +21,7 @@ from shared.ports import find_free_port
 
 from dam_tools.office import Asked, Office
 from lib.base import rules
+from lib.office import desk
 from lib.seal import heads, signing
 
 KILLS, ALL_KILLS = 3, 30
@@ -156,6 +157,19 @@ def wait_until(holds, seconds=20):
     while not (found := holds()) and time.monotonic() < end:
         time.sleep(0.02)
     return bool(found)
+
+
+def check_words_of_desk(args, counts):
+    """The words by which the office tells that a desk is open, and that another one still has its file."""
+    with tempfile.TemporaryDirectory() as room:
+        words = [args.desk, Path(room, "day.desk")]
+        shown = subprocess.run(words, input=b"day,24,,,,,,,\n" + desk.EMPTY_LINE, capture_output=True, timeout=SECONDS)
+        counts.check(f"an open desk answers an empty line: {shown}", shown.stdout == b"day,24\n" + desk.ANSWER_TO_EMPTY_LINE)
+        with subprocess.Popen(words, stdin=subprocess.PIPE, stdout=subprocess.PIPE) as first:
+            first.stdout.readline()  # its journal, once it has the file
+            second = subprocess.run(words, input=b"", capture_output=True, timeout=SECONDS)
+            first.stdin.close()
+        counts.check(f"a second desk ends: {second}", second.stderr == b"file: %s\n" % desk.LOCKED_WORDS)
 
 
 def check_ended_desk(args, counts):

@@ -10,7 +10,7 @@ from typing import NamedTuple
 from .printed import Printed
 
 SECONDS = 120
-EVERY = 2**63  # above the number of any call
+ABOVE_ANY_CALL = 2**63  # a number that no call has
 NONE = -1
 COUNTS = struct.Struct("@3L")  # what the library counts: calls, writes before each thread was joined, and calls for memory that got a block
 LEFT = b"written before each thread was joined\n"
@@ -21,8 +21,8 @@ class RefusedCalls(NamedTuple):
     bytes every other call moves at most, if that isn't 0."""
 
     kind: str
-    first: int = EVERY
-    last: int = EVERY
+    first: int = ABOVE_ANY_CALL
+    last: int = ABOVE_ANY_CALL
     error: int = 0
     most: int = 0
 

@@ -253,7 +253,7 @@ class Contradictions(InFolder):
         self.run_tool(0, "keys", "new.pem")
         new, keys = signing.parse_private(Path("new.pem").read_bytes()), [*KEYS, "--key", "new.pem.pub"]
         extension, _ = heads.parse_value_and_is_written(Path("B.extension").read_bytes(), heads.parse_extension)
-        mixed = extension._replace(new=signing.signed_head(new, extension.new))
+        mixed = extension._replace(new=signing.head_with_signature(new, extension.new))
         Path("again.head").write_bytes(heads.line_bytes_of(mixed.new))
         Path("mixed.extension").write_bytes(heads.line_bytes_of(mixed))
         said = "two keys signed 2026-11-28: {}, and {} in {}"
@@ -267,7 +267,7 @@ class Contradictions(InFolder):
         links = receipts.Links(["mixed.extension"], signing.Keys({path: receipts.read_key(path) for path in keys[1::2]}), [])
         self.assertFalse(links.has_path(mixed.old, mixed.new))
         self.capture_lines(0, "heads", "A.head", "B.head", "--extension", "B.extension", *keys)
-        mixed = extension._replace(new=signing.signed_head(new, extension.new._replace(day="2026-11-29")))
+        mixed = extension._replace(new=signing.head_with_signature(new, extension.new._replace(day="2026-11-29")))
         Path("mixed.extension").write_bytes(heads.line_bytes_of(mixed))
         lines, _ = self.capture_lines(4, "heads", "A.head", "--extension", "mixed.extension", *keys)
         self.assertEqual(lines[0], refused)
@@ -394,7 +394,7 @@ class Contradictions(InFolder):
 
     def test_why_an_extension_connects_nothing(self):
         extension, _ = heads.parse_value_and_is_written(Path("C.extension").read_bytes(), heads.parse_extension)
-        other, periods = (signing.signed_head(self.key, extension.new._replace(**more)) for more in ({"day": "2026-11-29"}, {"periods": 25}))
+        other, periods = (signing.head_with_signature(self.key, extension.new._replace(**more)) for more in ({"day": "2026-11-29"}, {"periods": 25}))
         for changed, status, said in (
             (extension._replace(old=extension.new, new=extension.old), 4, "the first one has 18 entries, and the second one 6"),
             (extension._replace(new=other), 4, "they are of two days, 2026-11-28 and 2026-11-29"),

@@ -63,7 +63,7 @@ LIMITS = {
     rf"on a day of quarter-hours, in which 1 MW makes 0.25 MWh, {NUMBER} are": (4_000,),
 }
 # Explanations that stand once, each with its page; the others link to it. The header stands alone, and the changelog has each version's.
-ONCE = {
+STATED_ONLY_IN = {
     r"whole cents per MWh": ["RULES.md", "dam.h"],
     r"cents per MWh times tenths of a MW, and are": ["RULES.md"],
     r"0.25 MWh, 4,000 are\b": ["RULES.md"],
@@ -174,7 +174,7 @@ class Facts(unittest.TestCase):
                 self.assertIn(rule, advice)
 
     def test_explanations_stand_once(self):
-        for said, homes in ONCE.items():
+        for said, homes in STATED_ONLY_IN.items():
             with self.subTest(said):
                 self.assertEqual(sorted(page.name for page in PAGES for _ in re.findall(said, plain(page))), homes)
 

@@ -385,7 +385,7 @@ class Receipts(unittest.TestCase):
         def line_of(own, signed):
             own, root = {**entry, **own, "salt": bytes(32)}, {**head, **signed}
             root["root"] = heads.leaf_of(*own.values())
-            return heads.line_bytes_of(heads.Receipt(**own, path=(), head=signing.signed_head(self.key, heads.Head(**root))))
+            return heads.line_bytes_of(heads.Receipt(**own, path=(), head=signing.head_with_signature(self.key, heads.Head(**root))))
 
         self.assertEqual(self.run_openssl(line_of({}, {})), "right: cancel,A,B,,,,,,, done\n")
         own = [{"number": 0}, {"record": "I OWE YOU"}, {"record": "cancel,A,B"}, {"record": "day,24,,,,,,,"}, {"record": "cancel,A,B ,,,,,,"}]
@@ -461,13 +461,13 @@ class Receipts(unittest.TestCase):
         fault of the operator. A head of another key is wrong."""
         seal = sealed_of(AUCTION.read_bytes(), key=self.key)
         last, other = seal.signed_head(), sealed_of(AUCTION.read_bytes())
-        early = signing.signed_head(self.key, heads.Head(DAY, 24, 5, seal.tree.root(5)))
+        early = signing.head_with_signature(self.key, heads.Head(DAY, 24, 5, seal.tree.root(5)))
         right = seal.require_extension(early, last)
         changes = [right._replace(path=(*right.path[:-1], merkle.leaf_hash(b""))), right._replace(path=())]
         for name, value in {"day": "2026-11-29", "periods": 25, "root": merkle.leaf_hash(b""), "size": 6}.items():
-            changes.append(right._replace(old=signing.signed_head(self.key, early._replace(**{name: value}))))
-            changes.append(right._replace(new=signing.signed_head(self.key, last._replace(**{name: value}))))
-        foreign = [right._replace(old=signing.signed_head(other.key, early)), right._replace(new=signing.signed_head(other.key, last))]
+            changes.append(right._replace(old=signing.head_with_signature(self.key, early._replace(**{name: value}))))
+            changes.append(right._replace(new=signing.head_with_signature(self.key, last._replace(**{name: value}))))
+        foreign = [right._replace(old=signing.head_with_signature(other.key, early)), right._replace(new=signing.head_with_signature(other.key, last))]
         with tempfile.TemporaryDirectory() as folder:
             path, findings = Path(folder, "extension.json"), []
             path.write_bytes(heads.line_bytes_of(right))

@@ -91,7 +91,7 @@ class Audit(Audited):
         words = "the first 4 entries of the journal, with the book's replies and these salts, aren't the entries that the operator signed"
         self.assertIn(f"b/head.json: the head of 2026-11-28 with 4 entries: {words}: the operator's fault, proved\n", out)
         key = signing.parse_private(Path("key.pem").read_bytes())
-        Path("c.json").write_bytes(heads.line_bytes_of(signing.signed_head(key, heads.Head(DAY, 96, 4, bytes(heads.HASH_BYTES)))))
+        Path("c.json").write_bytes(heads.line_bytes_of(signing.head_with_signature(key, heads.Head(DAY, 96, 4, bytes(heads.HASH_BYTES)))))
         said = "c.json: the head of 2026-11-28 with 4 entries: the journal's day has 24 periods, and the head's 96"
         self.assertIn(f"{said}: the operator's fault, proved\n", self.audit(1, "day.csv", "--earlier", "c.json"))
         # Of a copy of the journal that isn't the head's, nothing is proved.
@@ -227,17 +227,17 @@ class Audit(Audited):
         head, _ = heads.parse_value_and_is_written(Path("sealed/head.json").read_bytes(), heads.parse_head)
         salts, _ = heads.parse_value_and_is_written(Path("sealed/salts.json").read_bytes(), heads.parse_salts)
         seal = sealed_of(AUCTION.read_bytes(), key=key, salts=salts)
-        shorter = signing.signed_head(key, head._replace(size=head.size - 1, root=seal.tree.root(head.size - 1)))
+        shorter = signing.head_with_signature(key, head._replace(size=head.size - 1, root=seal.tree.root(head.size - 1)))
         for other, said in (
             (shorter, "the journal has 1 entry after the 93 that the operator signed"),
-            (signing.signed_head(key, head._replace(periods=25)), "the journal's day has 24 periods, and the head's 25"),
+            (signing.head_with_signature(key, head._replace(periods=25)), "the journal's day has 24 periods, and the head's 25"),
         ):
             Path("sealed/head.json").write_bytes(heads.line_bytes_of(other))
             self.assertIn(said, self.audit(1))
         Path("sealed/head.json").write_bytes(heads.line_bytes_of(head))
         for earlier, said in (
-            (signing.signed_head(signing.draw_key(), shorter), "it isn't signed by this key"),
-            (signing.signed_head(key, shorter._replace(day="2026-11-29")), "it is of 2026-11-29"),
+            (signing.head_with_signature(signing.draw_key(), shorter), "it isn't signed by this key"),
+            (signing.head_with_signature(key, shorter._replace(day="2026-11-29")), "it is of 2026-11-29"),
         ):
             Path("earlier.json").write_bytes(heads.line_bytes_of(earlier))
             out = self.audit(3, "day.csv", "--earlier", "earlier.json")

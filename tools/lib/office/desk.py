@@ -14,9 +14,11 @@ LOCKED_SECONDS, LOCKED_STEP = 5, 0.05  # how long a desk that is still ending ma
 END_SECONDS = 10  # that a desk may take to end
 ANSWER_SECONDS = 60  # and to answer a batch
 REPLY = re.compile(r"([1-9][0-9]*),(.*)")
-LOCKED = b"another process has it"
+# A desk ends with one status for all faults of its file: only these words of its fault line tell that another one still has the file.
+LOCKED_WORDS = b"another process has it"
 # A desk is given the day, which it may have already, and then an empty line, which enters nothing. It prints the replies to its journal,
-# and then its answers to these two lines. So the answer to the empty line, which is its second one, comes once the desk is open.
+# and then its answers to these two lines. So the answer to the empty line, which is its second one, comes once the desk is open. The
+# part `words` of tests/office compares these words, and those above, with a desk's.
 EMPTY_LINE, ANSWER_TO_EMPTY_LINE = b"\n", b"fault,2,NotOneRecord\n"
 MOST_REPLIES = 1 << 20  # bytes that a desk prints until then: 10,000 replies have fewer
 
@@ -97,7 +99,7 @@ class Desk:
     async def wait_for_fault(self):
         err = await self.process.stderr.read(async_child.MOST_FAULT)
         status = await self.process.wait()
-        kind = Locked if LOCKED in err else Ended
+        kind = Locked if LOCKED_WORDS in err else Ended
         return kind(f"the desk {async_child.end_words(status)}: {fault_line(err)}")
 
     def parse_and_count_reply(self, line):

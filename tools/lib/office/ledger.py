@@ -85,15 +85,15 @@ class Ledger:
         """A participant's orders in the book, in its order, each with its name."""
         return [(name, order) for (owner, name), order in self.book.rows.items() if owner == who]
 
-    def signed_heads(self, heads_found):
-        """Signs heads. It touches nothing else here, and so may run in a thread of its own."""
-        return [signing.signed_head(self.seal.key, head) for head in heads_found]
+    def heads_with_signatures(self, unsigned):
+        """The heads with their signatures. It changes nothing here, and so may run in a thread of its own."""
+        return [signing.head_with_signature(self.seal.key, head) for head in unsigned]
 
     async def sign_and_cache_heads(self, begin, end):
         """Signs the heads of the entries after `begin` up to `end`, while the next ones are entered."""
         seal = self.seal
         unsigned = [heads.Head(seal.day, seal.periods, size, seal.tree.root(size)) for size in range(begin + 1, end + 1)]
-        signed = await asyncio.get_running_loop().run_in_executor(SIGNING, self.signed_heads, unsigned)
+        signed = await asyncio.get_running_loop().run_in_executor(SIGNING, self.heads_with_signatures, unsigned)
         self.heads.update(zip(range(begin + 1, end + 1), signed))
 
     def signed_head(self, size=None):

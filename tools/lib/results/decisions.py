@@ -36,20 +36,19 @@ class Decision(NamedTuple):
     other: object = None  # the selection with that family
 
 
-def decisions(problem, accepted, outcome, euros=None):
-    """The decision on each block, by place. Amounts are written by `euros`, which `text.amount` is by default."""
-    judge = Judge(problem, frozenset(accepted), outcome, euros or text.amount)
+def decisions(problem, accepted, outcome):
+    """The decision on each block, by place."""
+    judge = Judge(problem, frozenset(accepted), outcome)
     return [judge.decision(place) for place in range(len(problem.blocks))]
 
 
 class Judge:
-    def __init__(self, problem, accepted, outcome, euros):
+    def __init__(self, problem, accepted, outcome):
         self.problem, self.accepted, self.outcome = problem, accepted, outcome
         self.surpluses = outcome.surpluses
-        self.write = euros
 
     def eur_words(self, amount):
-        return f"{self.write(amount, self.problem.hours)} EUR"
+        return f"{text.amount(amount, self.problem.hours)} EUR"
 
     def name(self, place):
         return self.problem.blocks[place].name
@@ -63,15 +62,15 @@ class Judge:
             return Decision(ACCEPTED, why, code)
         conflict = families.never_together_or_none(self.problem, place)
         if conflict:
-            return Decision(REJECTED, self.never_why(place, conflict), NEVER)
+            return Decision(REJECTED, self.never_accepted_words(place, conflict), NEVER)
         family = families.best_family_or_none(self.problem, self.accepted, self.surpluses, place)
         if family is None:
-            return Decision(REJECTED, self.unknown_why(place), NO_PRICE)
+            return Decision(REJECTED, self.no_price_words(place), NO_PRICE)
         other = self.selection_with(family)
         paradox = not family.rivals and not family.losers() and family.gains[place] > 0 and family.gain() > 0
         kind, twin = PARADOX if paradox else REJECTED, self.twin_place_or_none(place, family)
         if twin is not None:
-            return Decision(kind, self.twin_why(place, family, twin), TIE, family, other)
+            return Decision(kind, self.twin_words(place, family, twin), TIE, family, other)
         code, why = self.rejected_code_and_words(place, family, other)
         return Decision(kind, why, code, family, other)
 
@@ -88,7 +87,7 @@ class Judge:
                 return other
         return None
 
-    def twin_why(self, place, family, twin):
+    def twin_words(self, place, family, twin):
         other, own = self.problem.blocks[twin], self.problem.blocks[place]
         name = other.name if other.who == own.who else str(other)
         return f"{self.at_the_prices_words(place, family)}, but {name} offers the same and stands earlier in the book"
@@ -107,13 +106,13 @@ class Judge:
                 why += f" by itself, and with {self.names_words(rescuers)} it {does} {self.eur_words(abs(together))}"
         return code, why + (f", and its parent {self.name(parent)} is accepted" if parent is not None else "")
 
-    def never_why(self, place, of_group):
+    def never_accepted_words(self, place, of_group):
         group = self.problem.blocks[of_group[0]].order.group
         above = [self.name(other) for other in of_group if other != place]
         words = f"{listed_words(above)}, from which it descends," + (" and it" if place in of_group else "")
         return f"can never be accepted, because {words} are {'both' if len(of_group) == 2 else 'all'} of the group {group}"
 
-    def unknown_why(self, place):
+    def no_price_words(self, place):
         why = "has a period that doesn't balance, and so has no price"
         if self.surpluses[place] is not None:
             why = "descends from a block with a period that doesn't balance, and so has no price"

@@ -40,7 +40,7 @@ class Seal:
     def signed_head(self, size=None):
         """A head of the first `size` entries, or of all."""
         size = len(self.entries) if size is None else size
-        return signing.signed_head(self.key, Head(self.day, self.periods, size, self.tree.root(size)))
+        return signing.head_with_signature(self.key, Head(self.day, self.periods, size, self.tree.root(size)))
 
     def receipt(self, number, head):
         entry = self.entries[number - 1]

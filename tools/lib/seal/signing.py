@@ -74,7 +74,7 @@ def parse_key(data, load, kind, name):
     return key
 
 
-def signed_head(key, head):
+def head_with_signature(key, head):
     """The head with its signature."""
     return head._replace(signature=key.sign(head.signed_bytes()))
 

@@ -239,30 +239,58 @@ def write_scenarios_and_return_status(args):
         modules.exec_or_require_modules("distributed")
     require_and_set_program(args)
     held = read_closed_book(args)
-    if args.sample is None:
-        data = file_io.read_bytes(args.scenarios)
-        given, notes = scenarios.parse_table_and_notes(command.shown(args.scenarios), data, held)
-        for note in [] if args.quiet else notes:
-            command.print_note("whatif", f"{command.shown(args.scenarios)}: {note}")
-        count = len(given)
-        if args.participant:
-            require_asked_order(args, itertools.chain([held.rows], (scenario.rows() for scenario in given)))
-    else:
-        sds = [3 if args.price_sd is None else args.price_sd, 0.1 if args.volume_sd is None else args.volume_sd]
-        sampler = scenarios.Sampler(held, args.participant, args.seed or "1", sds[0] * 100, sds[1])
-        given, count = sampler.draw_scenarios(args.sample), args.sample
-    over = scenarios.Distribution(held, require_asked_blocks(args, held)) if args.sample and not args.rows else None
-    rows = list(capture_scenario_rows(args, held, given, count, over))
-    if over is None:
-        output.write_table("whatif", args, "scenarios", rows, held.periods)
-    else:
+    given, count = read_scenarios_and_count(args, held) if args.sample is None else draw_scenarios_and_count(args, held)
+    if args.sample and not args.rows:
+        over = scenarios.Distribution(held, require_asked_blocks(args, held))
+        add_scenarios_or_stop(over, args, held, given, count)
         write_distribution(args, held, over)
+    else:
+        output.write_table("whatif", args, "scenarios", capture_scenario_rows(args, held, given, count), held.periods)
     return command.DONE
 
 
-def capture_scenario_rows(args, held, given, count, over):
-    """The rows of the scenarios, or none, and then their results are added to the distribution."""
+def read_scenarios_and_count(args, held):
+    """The scenarios of a table, and their number. Notes on the table are printed."""
+    data = file_io.read_bytes(args.scenarios)
+    given, notes = scenarios.parse_table_and_notes(command.shown(args.scenarios), data, held)
+    for note in [] if args.quiet else notes:
+        command.print_note("whatif", f"{command.shown(args.scenarios)}: {note}")
+    if args.participant:
+        require_asked_order(args, itertools.chain([held.rows], (scenario.rows() for scenario in given)))
+    return given, len(given)
+
+
+def draw_scenarios_and_count(args, held):
+    """Random scenarios, and their number."""
+    sds = [3 if args.price_sd is None else args.price_sd, 0.1 if args.volume_sd is None else args.volume_sd]
+    sampler = scenarios.Sampler(held, args.participant, args.seed or "1", sds[0] * 100, sds[1])
+    return sampler.draw_scenarios(args.sample), args.sample
+
+
+def capture_scenario_rows(args, held, given, count):
+    """The rows of the table of the scenarios, of which the first is the head."""
     make, heads = scenarios.TABLES[args.rows or "welfare"]
+    rows = [["scenario", *heads]]
+    with clearing_scenarios(args, held, given, count) as (before, printed_scenarios):
+        for scenario, printed in printed_scenarios:
+            after = require_day(f"scenario {scenario.name}", scenario.rows(), held.periods, printed)
+            rows.extend(make(scenario.name, before, after, key_test(args)))
+    return rows
+
+
+def add_scenarios_or_stop(over, args, held, given, count):
+    """Adds the results of the scenarios to a distribution. One of `scenarios.EACH` is checked by all rules."""
+    with clearing_scenarios(args, held, given, count) as (_, printed_scenarios):
+        for number, (scenario, printed) in enumerate(printed_scenarios):
+            name = f"scenario {scenario.name}"
+            if number % scenarios.EACH == 0:
+                require_day(name, scenario.rows(), held.periods, printed)
+            over.add_or_raise(name, require_printed(name, printed))
+
+
+@contextlib.contextmanager
+def clearing_scenarios(args, held, given, count):
+    """The cleared day as it was; and each scenario with the output of `dam clear` for it, or its fault, in their order."""
     waiting = collections.deque()
 
     def texts():
@@ -271,22 +299,13 @@ def capture_scenario_rows(args, held, given, count, over):
             waiting.append(scenario)
             yield scenario.text
 
-    if over is None:
-        yield ["scenario", *heads]
     with contextlib.ExitStack() as ends:
         executor, call = ends.enter_context(connecting_executor(args))
         program = args.program if args.cluster is None else None
         answers = ends.enter_context(contextlib.closing(engine.run_clears(texts(), args.jobs, executor, program, call)))
         before = require_day("the day as it was", held.rows, held.periods, next(answers))
-        for number, printed in enumerate(engine.iterate_with_bar(answers, count, "scenario", args.quiet)):
-            scenario = waiting.popleft()
-            name = f"scenario {scenario.name}"
-            if over is None:
-                yield from make(scenario.name, before, require_day(name, scenario.rows(), held.periods, printed), key_test(args))
-                continue
-            if number % scenarios.EACH == 0:
-                require_day(name, scenario.rows(), held.periods, printed)
-            over.add_or_raise(name, require_printed(name, printed))
+        shown = engine.iterate_with_bar(answers, count, "scenario", args.quiet)
+        yield before, ((waiting.popleft(), printed) for printed in shown)
 
 
 def key_test(args):
