@@ -13,6 +13,7 @@ import signal
 import subprocess
 import sys
 import tempfile
+import unittest.mock
 from pathlib import Path
 
 TOP = Path(__file__).resolve().parents[2]
@@ -20,6 +21,7 @@ TOOLS = TOP / "tools"
 sys.path[:0] = [str(TOOLS), str(TOP / "tests" / "fuzz")]
 
 import compare
+from lib.crates import sources
 from lib.journal import book, journal
 from lib.results import results, selection
 from lib.tool import day_files, modules
@@ -31,6 +33,8 @@ AUCTION, QUARTERS, SUNNY = (TOP / "examples" / f"{name}.csv" for name in ("aucti
 AUCTION_RESULTS, QUARTERS_RESULTS, SUNNY_RESULTS = (worked.FOLDER / f"{it.stem}.stdout" for it in (AUCTION, QUARTERS, SUNNY))
 # A journal with orders in periods 8 and 9 alone.
 FIRST = (TOP / "examples" / "first-day.csv").read_bytes()
+# The sources of the library for C in a repository of two crates.
+SOURCES_OF_LIBRARY = ["HANDLES", "crates/dam_c/src/lib.rt", "crates/low/src/lib.rt", *(f"library/{name}" for name in sources.IN_C)]
 
 
 def load_tool(name):
@@ -53,6 +57,18 @@ def make_folder_for_case(case):
     folder = tempfile.TemporaryDirectory()
     case.addCleanup(folder.cleanup)
     return Path(folder.name)
+
+
+def make_recorded_library(top):
+    """A library for C without contents in such a repository, with the record of its sources."""
+    library = Path(top, "library", "out", "libdam.so.1")
+    for path in (library, *(Path(top, name) for name in SOURCES_OF_LIBRARY)):
+        path.parent.mkdir(parents=True, exist_ok=True)
+        path.touch()
+    Path(top, "crates.txt").write_text("low:\ndam_c staticlib: low\n")
+    with unittest.mock.patch.object(sources, "TOP", str(top)):
+        sources.write_or_remove_records(sources.LIBRARY, sources.read_source_sums(sources.LIBRARY), str(library))
+    return library
 
 
 def read_worked_cases(file):

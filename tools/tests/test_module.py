@@ -278,18 +278,22 @@ class Module(unittest.TestCase):
         self.assertEqual(repr(row["value"]), repr(tables.figure_values(day)["traded_periods"]))
 
     def test_an_old_library_is_left_alone(self):
+        """After any change of a source, and after no change, whatever the dates."""
         with tempfile.TemporaryDirectory() as folder:
-            source, heap = Path(folder, "crates", "dam_x", "src", "lib.rt"), Path(folder, "library", "heap.c")
-            library = Path(folder, "library", "out", "libdam.so")
-            for path in (source, heap, library):
-                path.parent.mkdir(parents=True, exist_ok=True)
-                path.write_bytes(b"")
-                os.utime(path, (1_000, 1_000))
-            with unittest.mock.patch.object(which, "LIBRARY", library):
+            library = support.make_recorded_library(folder)
+            with unittest.mock.patch.object(which, "LIBRARY", library), unittest.mock.patch.object(which.sources, "TOP", folder):
                 self.assertTrue(which.has_library())
-                os.utime(source, (2_000, 2_000))
-                self.assertFalse(which.has_library())
-                library.unlink()
+                os.utime(library, (1_000, 1_000))
+                self.assertTrue(which.has_library())
+                for path in (*support.SOURCES_OF_LIBRARY, "library/out/libdam.so.1"):
+                    before = Path(folder, path).read_bytes()
+                    Path(folder, path).write_bytes(b"# another\n" + before)
+                    os.utime(Path(folder, path), (1, 1))
+                    with self.subTest(path=path):
+                        self.assertFalse(which.has_library())
+                    Path(folder, path).write_bytes(before)
+                    self.assertTrue(which.has_library())
+                library.with_name("libdam.so.1.json").unlink()
                 self.assertFalse(which.has_library())
 
     @unittest.skipUnless(which.has_library(), "the library for C isn't built (library/build)")

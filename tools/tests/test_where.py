@@ -11,7 +11,7 @@ import unittest
 import unittest.mock
 from pathlib import Path
 
-from support import AUCTION, TOP
+from support import AUCTION, TOP, make_recorded_library
 
 import dam_tools
 from lib.base import place
@@ -73,13 +73,11 @@ class Where(unittest.TestCase):
         for part in ("dam_tools", "lib"):
             shutil.copytree(TOP / "tools" / part, self.at / "clone" / "tools" / part, ignore=shutil.ignore_patterns("__pycache__"))
         self.write_file("path/dam")
-        for path in ("clone/library/heap.c", "clone/crates/dam_x/src/lib.rt"):
-            self.write_file(path)
         program = self.write_file("clone/crates/dam_cli/out/dam_cli")
         self.assertEqual(self.capture_answer("clone/tools"), f"program clone {program}")
-        library = self.write_file("clone/library/out/libdam.so.1")
+        library = make_recorded_library(self.at / "clone")
         self.assertEqual(self.capture_answer("clone/tools"), f"library clone {library}")
-        os.utime(library, (1, 1))
+        self.write_file("clone/crates/dam_c/src/more.rt")
         self.assertEqual(self.capture_answer("clone/tools"), f"program clone {program}")
 
 

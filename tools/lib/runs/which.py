@@ -8,6 +8,7 @@ from pathlib import Path
 from typing import NamedTuple
 
 from ..base import place
+from ..crates import sources
 
 TOP = Path(__file__).resolve().parents[3]
 # Where the program is built, in the tree that this module is part of.
@@ -22,16 +23,13 @@ WHEELS = place.FOLDER / LIBRARY.name
 
 
 def has_library():
-    """Whether the library for C was built, and no source has changed since."""
-    if not LIBRARY.exists():
-        return False
-    sources = [LIBRARY.parents[1] / "heap.c", *(LIBRARY.parents[2] / "crates").glob("*/src/**/*.rt")]
-    return all(source.stat().st_mtime <= LIBRARY.stat().st_mtime for source in sources)
+    """Whether the library for C was built of the present sources, as the record says that stands next to it."""
+    return sources.read_stale_words_or_none(LIBRARY, sources.LIBRARY) is None
 
 
 @functools.cache
 def had_library_at_first_look():
-    """Whether it was so when this was first asked: to look at all sources takes as long as to clear a small day."""
+    """Whether it was so when this was first asked: to read all sources takes longer than to clear a day."""
     return has_library()
 
 
