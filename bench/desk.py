@@ -10,6 +10,7 @@ process. The syncs of a batch are counted by tests/desk."""
 import contextlib
 import fcntl
 import os
+import select
 import sqlite3
 import subprocess
 import sys
@@ -21,12 +22,9 @@ from pathlib import Path
 from figures import MIB, PER_SECOND, Figures
 from running import DAM, DESK, call_in_turns, measure_peak_mebibytes, run_or_exit, run_to_file_or_exit
 
-sys.path.insert(0, str(Path(__file__).resolve().parent.parent / "tests" / "desk"))
-
-import device
-
 JOURNAL, MEMORY = "out/journal.csv", "/dev/shm"
 BLOCKS = "out/desk-blocks.csv"
+PIPE_BYTES = 1 << 20  # that a pipe to a desk holds
 TURNS, DISK_TURNS = 31, 5
 TARGETS = {1: 0.8, 64: 2, 1_000: 2}  # times as many records as sqlite3, by the records of a batch
 TABLE = "CREATE TABLE journal (number INTEGER PRIMARY KEY, record TEXT NOT NULL)"
@@ -79,9 +77,9 @@ def run_and_record_rates(figures, folder):
 
 def run_and_time_desk_or_exit(folder, batches):
     """The seconds of a desk that gets these batches."""
-    in_packets = max(map(len, batches)) <= device.PACKET
+    in_packets = max(map(len, batches)) <= select.PIPE_BUF
     ours, theirs = os.pipe2(os.O_CLOEXEC | (os.O_DIRECT if in_packets else 0))
-    fcntl.fcntl(theirs, fcntl.F_SETPIPE_SZ, device.ROOM)
+    fcntl.fcntl(theirs, fcntl.F_SETPIPE_SZ, PIPE_BYTES)
     words = [DESK, remove_files_and_return_desk_path(folder)]
     with subprocess.Popen(words, stdin=ours, stdout=subprocess.PIPE) as desk, ThreadPoolExecutor(1) as reader:
         os.close(ours)

@@ -12,14 +12,11 @@ from pathlib import Path
 
 from figures import PER_SECOND, Figures
 from running import DAM, DESK, call_in_turns
+from lib.tool import modules
+from shared.office_load import OfficeLoad
+from shared.served_office import ServedOffice, running_office
 
 HERE = Path(__file__).resolve().parent
-sys.path.insert(0, str(HERE.parent / "tests" / "office"))
-
-import loads
-from lib.tool import modules
-from served import ServedOffice, running_office
-
 CONNECTIONS, TURNS, COMMANDS = 50, 5, 40  # COMMANDS of each connection in a turn
 WHOLE_DAY = 199  # and on the whole day
 
@@ -36,7 +33,7 @@ class ServedPlain(ServedOffice):
 
 def run_load(office, count):
     """The commands a second, and the median seconds of one."""
-    load = loads.OfficeLoad(office)
+    load = OfficeLoad(office)
     took = asyncio.run(load.send_all(count))
     return len(load.seconds) / took, statistics.median(load.seconds)
 

@@ -10,7 +10,8 @@ import time
 from pathlib import Path
 from typing import NamedTuple
 
-sys.path.insert(0, str(Path(__file__).resolve().parent.parent / "tools"))
+# the folders of `lib`, and of `shared`, which the tests use too
+sys.path[:0] = [str(Path(__file__).resolve().parent.parent / name) for name in ("tools", "tests")]
 
 from lib.tool import modules
 

@@ -24,8 +24,8 @@ from page_orders import check_changing, check_entering
 from page_results import check_close_and_results
 from page_signing_in import check_first_sign_in, check_leaving, check_next_sign_in, check_unreached
 from page_tables import check_upload
-from served import TOOL, day_of, running_office
 from shared import browser
+from shared.served_office import TOOL, day_of, running_office
 from shared.ports import find_free_port
 
 from lib.base import clock, rules

@@ -15,8 +15,9 @@ from pathlib import Path
 
 import hostile
 import loads
-from served import TOOL, TOP, OfficeFault, day_of, running_office
 from shared import browser
+from shared.office_load import OfficeLoad
+from shared.served_office import TOOL, TOP, OfficeFault, day_of, running_office
 from shared.ports import find_free_port
 
 from dam_tools.office import Asked, Office
@@ -287,7 +288,7 @@ def check_whole_day(args, counts):
     most = (rules.MOST_RECORDS - 2) // connections  # of each
     with running_office(args.dam, args.desk, count=connections) as office:
         office.start()
-        load = loads.OfficeLoad(office)
+        load = OfficeLoad(office)
         took = asyncio.run(load.send_all(most, 600 if args.all else SECONDS))
         print(f"{connections} connections: {load.summary_text(took)}")
         records = office.capture_journal_of_desk()

@@ -13,12 +13,10 @@ import tempfile
 import time
 from pathlib import Path
 
-TOP = Path(__file__).resolve().parents[2]
-sys.path[:0] = [str(TOP / "tools"), str(TOP / "tests")]
-
+from . import ports  # by which `dam_tools` is found
 from dam_tools.office import AsyncOffice, Office, OfficeFault
-from shared.ports import find_free_port
 
+TOP = Path(__file__).resolve().parents[2]
 DAY, CLOSE = "2099-11-29", "2099-11-28T12:00"
 CLOCKS_CHANGE = {23: "2099-03-29", 92: "2099-03-29", 25: "2099-10-25", 100: "2099-10-25"}
 START_SECONDS, STEP = 60, 0.02
@@ -40,7 +38,7 @@ class ServedOffice:
 
     def __init__(self, dam, desk, count=3, periods=24, words=(), day=DAY):
         self.room = tempfile.TemporaryDirectory(ignore_cleanup_errors=True)
-        self.folder, self.port, self.words, self.day = Path(self.room.name, "office"), find_free_port(), list(words), day
+        self.folder, self.port, self.words, self.day = Path(self.room.name, "office"), ports.find_free_port(), list(words), day
         self.periods = periods
         self.environment = {**os.environ, "DAM": str(dam), "DAM_DESK": str(desk)}
         self.who = names_of_participants(count)
