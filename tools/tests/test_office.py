@@ -210,7 +210,7 @@ class Crashes(Office):
                     await given.submit_or_refuse("GAS", 3, commands_of_records("cancel,GAS,C,,,,,,"))
                 self.assertEqual(caught.exception.fault, refusals.Fault.UNAVAILABLE)
                 self.assertIn("doesn't begin with the 2 entries", given.fault)
-                self.assertEqual(given.state, "stopped")
+                self.assertEqual((await given.read_state()).name, "stopped")
                 self.assertFalse(given.is_ready.is_set())
                 with self.assertRaises(refusals.Refused):
                     given.submit_or_refuse("GAS", 3, commands_of_records("cancel,GAS,C,,,,,,"))

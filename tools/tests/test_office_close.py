@@ -44,7 +44,7 @@ class Closing(Office):
                 given.submit_or_refuse("GAS", 2, commands_of_records("cancel,GAS,B,,,,,,"))
             self.assertEqual(await asyncio.gather(*waiting), [[1], [2], [3]])
             await task
-            self.assertEqual(given.state, "results")
+            self.assertEqual((await given.read_state()).name, "results")
             self.assertEqual(await given.submit_or_refuse("GAS", 1, commands_of_records("cancel,GAS,A,,,,,,")), [2])  # sent again, after the close
         self.assertEqual(disk.records, [*(f"cancel,{who},A,,,,,," for who in NAMES), "close,,,,,,,,"])
         with patch_of_opening(disk):  # and not after a start with a clock that is set back either
@@ -64,7 +64,7 @@ class Closing(Office):
             with self.assertRaises(refusals.Refused):
                 given.submit_or_refuse("GAS", 1, commands_of_records("cancel,GAS,A,,,,,,"))
             await given.write_until_published()
-        self.assertEqual((disk.records, given.state), (["close,,,,,,,,"], "results"))
+        self.assertEqual((disk.records, (await given.read_state()).name), (["close,,,,,,,,"], "results"))
 
     async def closed(self):
         """A closed day with its files."""
@@ -228,28 +228,44 @@ class Closing(Office):
         self.write_office()
         disk = Disk()
 
-        def touch_and_read_states():
+        async def touch_and_read_states():
             given.files.path_of(folder.DESK).touch()
             records = mock.patch.object(operate.asyncio, "run", lambda _: ["day,24,,,,,,,", *disk.records])
             with mock.patch.object(operate, "capture_records", mock.Mock()), records:
-                return given.state, operate.capture_day_record_or_stop(given.files, "dam-desk")["state"]
+                shown = operate.capture_day_record_or_stop(given.files, "dam-desk")["state"]
+            return (await given.read_state()).name, shown
 
         with patch_of_opening(disk), mock.patch.object(publishing, "iterate_publishing_troubles", self.held):
             given = self.day_writer_of()
             task = asyncio.create_task(given.write_until_published())
             await given.is_ready.wait()
-            self.assertEqual(touch_and_read_states(), ("open", "open"))
+            self.assertEqual(await touch_and_read_states(), ("open", "open"))
             operate.write_request(given.files, folder.CLOSE_NOW)
             given.begin_close()
-            self.assertEqual(touch_and_read_states(), ("closing", "closing"))
+            self.assertEqual(await touch_and_read_states(), ("closing", "closing"))
             await self.wait_until(lambda: given.ledger.is_closed)
-            self.assertEqual(touch_and_read_states(), ("closed", "closed"))
+            self.assertEqual(await touch_and_read_states(), ("closed", "closed"))
             given.files.path_of(folder.RESULTS).write_bytes(b"")
-            self.assertEqual(touch_and_read_states(), ("results", "results"))
+            self.assertEqual(await touch_and_read_states(), ("results", "results"))
             operate.write_publish_request_or_stop(DAY, given.files)
-            self.assertEqual(touch_and_read_states(), ("published", "published"))
+            self.assertEqual(await touch_and_read_states(), ("published", "published"))
             task.cancel()
             await asyncio.gather(task, return_exceptions=True)
+
+    async def test_a_slow_disk_holds_up_no_other_request(self):
+        """The files of a day are looked up outside of the thread of the requests."""
+        self.write_office()
+        threads = set()
+
+        def note_thread(files, name):
+            threads.add(threading.get_ident())
+            return name == folder.RESULTS
+
+        given = self.day_writer_of()
+        with mock.patch.object(folder.DayFolder, "has", note_thread):
+            state = await given.read_state()
+        self.assertEqual(state, day_writer.DayState("results", False, False))
+        self.assertFalse(threads & {threading.get_ident()} or not threads)
 
     def test_records_that_are_no_journal_have_no_state(self):
         self.write_office()

@@ -4,6 +4,7 @@ import asyncio
 import contextlib
 import functools
 import time
+from typing import NamedTuple
 
 from ..journal.journal import Close, command_record_text
 from . import folder, newest, published, publishing
@@ -29,6 +30,14 @@ class Clock:
         return self.latest
 
 
+class DayState(NamedTuple):
+    """The name of a day's state, as `folder` has it, and what of the day is published."""
+
+    name: str
+    has_statement: bool
+    has_journal: bool
+
+
 class DayWriter:
     """A day that takes commands. `write_until_published` is its only task that writes."""
 
@@ -47,9 +56,13 @@ class DayWriter:
         self.published = published.Published(files)
         self.newest = newest.Newest(files.path_of(folder.SIGNED), self.log_event)
 
-    @property
-    def state(self):
-        return self.files.read_state(self.fault is not None, self.ledger.is_closed, self.is_open())
+    async def read_state(self):
+        """The state of the day now. Its files are looked up in a thread: a slow disk holds up no other request."""
+        return await asyncio.to_thread(self.look_up_state, self.fault is not None, self.ledger.is_closed, self.is_open())
+
+    def look_up_state(self, is_stopped, is_closed, is_open):
+        name = self.files.read_state(is_stopped, is_closed, is_open)
+        return DayState(name, self.published.is_whole, self.published.has_journal)
 
     @property
     def is_healthy(self):

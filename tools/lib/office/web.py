@@ -234,32 +234,32 @@ class Web:
     async def answer_no_icon(self, request):
         return web.Response(status=204)
 
-    def day_record(self, writer):
-        terms, now = writer.terms, writer.clock.now()
+    async def read_day_record(self, writer):
+        terms, now, size = writer.terms, writer.clock.now(), writer.ledger.size
         closes = terms.closes.timestamp()
-        state = writer.state
+        state = await writer.read_state()
         return {
             "day": terms.day,
             "periods": terms.periods,
             "closes": terms.closes.isoformat(),
             "zone": terms.zone,
-            "seconds_left": round(max(0, closes - now), 3) if state == folder.OPEN else 0,
-            "state": state,
-            "entries": writer.ledger.size,
-            "has_statement": writer.published.is_whole,
-            "has_journal": writer.published.has_journal,
+            "seconds_left": round(max(0, closes - now), 3) if state.name == folder.OPEN else 0,
+            "state": state.name,
+            "entries": size,
+            "has_statement": state.has_statement,
+            "has_journal": state.has_journal,
         }
 
     async def answer_days(self, request):
         self.budgets.charge_days(request, len(self.office.writers))
-        days = [self.day_record(writer) for writer in self.office.writers.values()]
+        days = [await self.read_day_record(writer) for writer in list(self.office.writers.values())]
         return web.json_response({"days": days, "demo": bool(self.demo)})
 
     async def answer_day(self, request):
         writer = self.admission.require_writer(request)
         periods = writer.terms.periods
         begins = [clock.begin_time(periods, number) for number in range(1, periods + 1)]
-        return web.json_response({**self.day_record(writer), "begins": begins})
+        return web.json_response({**await self.read_day_record(writer), "begins": begins})
 
     async def answer_head(self, request):
         """The newest head; with `since` the proof that it goes on from the head of this number of entries."""
@@ -308,10 +308,11 @@ class Web:
     async def answer_metrics(self, request):
         self.budgets.charge_days(request, len(self.office.writers))
         gauges = [("right", int(self.office.is_healthy))]
-        for name, writer in self.office.writers.items():
+        for name, writer in list(self.office.writers.items()):
             label = f'{{day="{name}"}}'
             gauges += [(f"entries{label}", writer.ledger.size), (f"waiting{label}", len(writer.queue.waiting))]
-            gauges += [(f"ready{label}", int(writer.is_healthy)), (f"open{label}", int(writer.state == folder.OPEN))]
+            is_open = (await writer.read_state()).name == folder.OPEN
+            gauges += [(f"ready{label}", int(writer.is_healthy)), (f"open{label}", int(is_open))]
         return web.Response(text=self.counts.prometheus_text(gauges), content_type="text/plain")
 
     # --- the demo
@@ -324,7 +325,7 @@ class Web:
         writer = self.admission.require_writer(request)
         self.admission.refuse_stranger_to_demo(request)
         writer.begin_close()
-        return web.json_response(self.day_record(writer))
+        return web.json_response(await self.read_day_record(writer))
 
 def route_name(request):
     resource = request.match_info.route.resource
