@@ -19,6 +19,8 @@ from lib.runs import errors
 from lib.sheets import cell_values, command_table, order_table, sheets
 from lib.tool import command
 from lib.whatif import changes, scenarios
+from lib.workbooks import first_rows, package, reading
+from lib.workbooks.limits import BadWorkbook
 from lib.journal.book import Book
 from lib.journal.journal import Order, Submit
 from lib.office import requests
@@ -1005,6 +1007,18 @@ class Unlike(unittest.TestCase):
                     named = {**parts, **self.parts_of_two("first", state, "Orders", "")}
                     data = made.workbook_of_sheet(made.ROOT, b"<sheetData>", first, made.CLOSE, **named)
                     self.assertEqual(order_table.parse_tables([("", data)], 24).notes, ["of 2 sheets, 'Orders' was read, but not 'first'"])
+
+    def test_the_fault_of_a_sheet_that_isnt_read_holds_no_frames(self):
+        """They would hold the parser of each such sheet, and all that it has kept."""
+        cut = made.OPEN[: made.OPEN.index(b"<c t=")]
+        for pieces in ([b"no XML"], [cut, b"<c r='A1'/><c r='A1'/>"], [cut, b"<c t='s'><v>9</v></c></row>", made.CLOSE], [made.ROOT, b"</worksheet>"]):
+            workbook = reading.Workbook(package.Package(made.workbook_of_sheet(*pieces)))
+            row = first_rows.FirstRows("a", made.SHEET, workbook, first_rows.Names(order_table.NEEDED))
+            row.parse_and_note_first_rows()
+            row.note_headings_or_unread(workbook.parse_strings(row.needed))
+            with self.subTest(pieces):
+                self.assertIsInstance(row.unread, BadWorkbook)
+                self.assertEqual((row.unread.__traceback__, row.unread.__context__), (None, None))
 
     def test_a_note_names_at_most_twenty_sheets(self):
         others = [[b"<row><c t='str'><v>x</v></c></row>"]] * 24
