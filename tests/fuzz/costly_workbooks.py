@@ -66,6 +66,18 @@ def rows_of_names(count, first=0):
     return [b"<row>", *(b"<c t='str'><v>%s</v></c>" % each.encode() for each in texts), b"</row>"]
 
 
+def conditions(count):
+    """Conditional formats that change nothing."""
+    return (b"<conditionalFormatting sqref='E2'><cfRule dxfId='%d'/></conditionalFormatting>" % (at % 90 + 300) for at in range(count))
+
+
+def styles_of_conditions(count):
+    """A format of fractions under conditions, and as many formats of conditions with it."""
+    code = b";".join(condition + b"# ?/" + b"?" * 15 for condition in (b"[&gt;9]", b"[&lt;0]", b""))
+    made = b"".join(styles_of_formats(1, code)).replace(b"</styleSheet>", b"")
+    return made + b"<dxfs>" + (b'<dxf><numFmt numFmtId="164" formatCode="%s"/></dxf>' % code) * count + b"</dxfs></styleSheet>"
+
+
 def spelled_style(at):
     """The number of one of 30,000 formats, with zeros before it: no two are alike."""
     return b"%s%05d" % (b"0" * (at // 30_000), at % 30_000)
@@ -161,6 +173,8 @@ LARGE = {
     "fractions": ("", lambda: table_workbook(rows_of_small_numbers(299_000), **{STYLES: b"".join(styles_of_formats(1, FRACTION))})),
     "texts of first rows": ("in the first rows of its sheets", lambda: workbook_of_sheets([rows_of_names(16_000)] * 40)),
     "texts like names": (None, lambda: workbook_of_sheets([rows_of_names(16_000, 16_000 * at) for at in range(3)])),
+    "fractions, and conditions": ("", lambda: workbook_of_sheet(
+        OPEN, rows_of_small_numbers(299_000), b"</sheetData>", *conditions(400_000), b"</worksheet>", **{STYLES: styles_of_conditions(300)})),
     "fractions in first rows": (None, lambda: workbook_of_sheets(
         [[b"<row>", b"<c s='0'><v>1.23456789012345E-300</v></c>" * 2**14, b"</row>"]] * 45, b"".join(styles_of_formats(1, FRACTION)))),
     "long formulas": ("", lambda: table_workbook(

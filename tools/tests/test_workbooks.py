@@ -19,7 +19,8 @@ from lib.runs import errors
 from lib.sheets import cell_values, command_table, order_table, sheets
 from lib.tool import command
 from lib.whatif import changes, scenarios
-from lib.workbooks import first_rows, package, reading
+from lib.workbooks import first_rows, package, reading, styles
+from lib.workbooks.cells import Changed, Formatted, Rounded
 from lib.workbooks.limits import BadWorkbook
 from lib.journal.book import Book
 from lib.journal.journal import Order, Submit
@@ -395,6 +396,23 @@ class Unlike(unittest.TestCase):
             found, _ = self.read(self.computed(attributes), I="<c t='str'><f>A1</f><v>G</v></c>", H="<c t='str'><f>A1</f><v></v></c>")
             self.assertEqual((found.order.group, found.order.parent), ("G", ""))
 
+    def test_values_of_formulas_as_saved(self):
+        """Excel computes all formulas again if an older one saved their values, or a program that it doesn't know: a note says so."""
+        price = b'<c r="E2" t="str"><v>1</v></c>'
+        said = "the values of formulas, such as that of cell E2, are as saved by another program or an older Excel: Excel computes them again"
+        for attributes, is_current in (
+            ("", False), ('calcId="1"', False), ('calcId="152511"', False), ('calcId="x"', False), ('calcId="191028"', True), ('calcId=" 191029"', True),
+            (None, False),
+        ):  # fmt: skip
+            parts = self.computed(attributes or "")
+            if attributes is None:
+                parts["xl/workbook.xml"] = parts["xl/workbook.xml"].replace(b"<calcPr />", b"")
+            for cell in (b'<c r="E2"><f>5*4</f><v>20</v></c>', b'<c r="E2" t="str"><f>A1</f><v>20</v></c>', price):
+                rows = order(2, "K1").replace(price, cell), order(3, "K2")
+                orders = order_table.parse_tables([("", made.workbook_of_sheet(made.OPEN, *rows, made.CLOSE, **parts))], 24)
+                notes = [] if is_current or cell is price else [f"{said} once it opens the workbook"]
+                self.assertEqual((len(orders.submits), orders.notes), (2, notes), (attributes, cell))
+
     def test_volatile_formulas(self):
         """Excel computes them anew once it opens the workbook, and shows another value than was saved."""
         said = "line 2, column price_eur_mwh: '={}' is a formula whose value changes whenever Excel opens the workbook: write the value in place of it"
@@ -698,6 +716,20 @@ class Unlike(unittest.TestCase):
                     self.assertIn("'5' is a number that Excel shows in another way", fault)
                 else:
                     self.assertEqual((fault, found is None), (said.format(number, other), True) if other else (None, False))
+
+    def test_many_fractions(self):
+        """Of the first ones it is told how they are shown. The others take less time, and are faults too."""
+        fractions = styles.Fractions()
+        shown = [styles.format_function(code, fractions) for code in ("# ?/???", "[>9]# ?/???;# ?/???")]
+        for take in (True, False):
+            for each in shown:
+                self.assertEqual((type(each("1.5")), type(each("0.3333"))), (Formatted, Rounded if take else Changed))
+            fractions.left = 0
+        other = styles.format_function("# ?/??", fractions)
+        self.assertEqual((other("0.3333"), other("0.25")), ("0.3333 1/3", "0.25"))
+        many, number, began = styles.format_function("# ?/" + "?" * 20, fractions), "1.23456789012345E-10", time.process_time()
+        self.assertTrue(all(many(number) == number for _ in range(100_000)))
+        self.assertLess(time.process_time() - began, 1.5)
 
     def test_own_formats_that_round(self):
         """Excel has formats of its own, by their numbers; and each column is read alike."""

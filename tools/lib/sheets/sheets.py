@@ -45,17 +45,17 @@ def is_workbook(data):
 def parse_rows_and_add_notes(data, needed=(), notes=None, most=None, is_long=False):
     """The rows of a table, each with the number of its first line; and whether a comma may be the decimal point. A text is separated by
     commas, semicolons or tabs, whichever its header has most of. Of a workbook it is the sheet `orders`, or else the only one that has the
-    needed columns. It isn't read further if it has more than `most` rows after its first one. Notes say which sheet was read, and that a
-    text isn't in UTF-8. The rows of a workbook are kept packed, and of a text that may be long not at all."""
+    needed columns. It isn't read further if it has more than `most` rows after its first one. Notes say which sheet was read, that a text
+    isn't in UTF-8, and that formulas may get other values. The rows of a workbook are kept packed, and of a text that may be long not at all."""
     notes = [] if notes is None else notes
     if not is_workbook(data):
         found = Text(data, notes, most, MANY if is_long or most is None else 1)
         return found if is_long else list(found), found.has_decimal_comma
     try:
-        rows, note = reading.parse_rows_and_note(data, PREFERRED, needed, most)
+        rows, found = reading.parse_rows_and_notes(data, PREFERRED, needed, most)
     except limits.BadWorkbook as fault:
         raise BadTable(str(fault)) from None
-    notes += [note] if note else []
+    notes += found
     return rows, True
 
 

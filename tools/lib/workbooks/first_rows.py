@@ -76,9 +76,11 @@ class FirstRows(Sheet):
             return words
         return OTHER
 
-    def formatted_text(self, shown, value):
-        """A number, without the time that its format would take: no name is a number."""
-        return value
+    def number_text_or_refuse(self, value):
+        """The word in place of a number, without the time that its text would take: no name is a number."""
+        self.refuse_no_number(value)
+        self.number_format_or_refuse()
+        return OTHER
 
     def close_row(self):
         """Keeps of a row the cells that may be headings: the first place of each."""

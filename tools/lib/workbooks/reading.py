@@ -3,11 +3,12 @@
 import posixpath
 
 from ..base import text
+from .cells import column_name
 from .first_rows import FirstRows, Names
 from .formulas import volatile_names
 from .limits import LONGEST_NAME, MOST_DEFINED, MOST_HEADS, MOST_OF_DEFINED, MOST_SHEETS, BadWorkbook, broken_error, too_many_error
 from .package import Package
-from .part import ANY_OTHERS, Part, truth_word_or_none
+from .part import ANY_OTHERS, Part, truth_word_or_none, unsigned_number_or_none
 from .sheet import Sheet, Strings, is_calculation_due
 from .styles import Styles
 
@@ -18,20 +19,26 @@ RELATION = (
 )
 WORKBOOK, SHEET, STRINGS, STYLES = "officeDocument", "worksheet", "sharedStrings", "styles"
 WITHOUT_CELLS, OF_MACROS = ("chartsheet", "dialogsheet"), ("xlMacrosheet", "xlIntlMacrosheet")  # other kinds of sheets
+CURRENT = 191_028  # the number of Excel's computation since 2019, by which it tells whether to compute formulas again
 MOST_NAMED = 20  # sheets that a note names
 KINDS = {WORKBOOK, SHEET, *WITHOUT_CELLS, *OF_MACROS, STRINGS, STYLES}
 
 
-def parse_rows_and_note(data, preferred, needed=(), most=None):
+def parse_rows_and_notes(data, preferred, needed=(), most=None):
     """The rows of a workbook's sheet that aren't empty, with their numbers: of the preferred sheet, or else of the first with the needed
-    names in its first row, or else of the first. If there are `most`, more rows after the first are a fault. Also a note on the sheets, if
-    there are several."""
+    names in its first row, or else of the first. If there are `most`, more rows after the first are a fault. Also notes on the sheets, if
+    there are several, and on formulas whose values Excel may compute again."""
     package = Package(data)
     book = Workbook(package)
     name, part, note = book.choose_sheet_or_refuse(preferred, needed)
     sheet = Sheet(name, part, book, most)
     package.parse_into_or_refuse(sheet.part, sheet)
-    return sheet.rows_or_refuse(book.parse_strings(sheet.needed)), note
+    notes = [note] if note else []
+    if sheet.first_formula and book.is_computed and not book.is_current:
+        row, column = sheet.first_formula
+        words = f"the values of formulas, such as that of cell {column_name(column)}{row}, are as saved by another program or an older Excel"
+        notes.append(f"{words}: Excel computes them again once it opens the workbook")
+    return sheet.rows_or_refuse(book.parse_strings(sheet.needed)), notes
 
 
 class Relations(Part):
@@ -82,6 +89,7 @@ class Workbook(Part):
     def __init__(self, package):
         super().__init__()
         self.package, self.from_1904, self.is_computed, self.sheets, self.hidden = package, False, True, [], set()
+        self.is_current = False  # whether the values of formulas are those of today's Excel
         if not package.has("_rels/.rels"):
             raise broken_error("it isn't an Excel workbook (.xlsx), but another archive")
         part = self.parse_relations("").only_part_or_refuse(WORKBOOK)
@@ -123,7 +131,9 @@ class Workbook(Part):
                 raise too_many_error(most, things)
 
     def open_calcPr(self, attributes):
-        """A program that doesn't compute formulas stores any values, and lets Excel compute them once it opens the workbook."""
+        """A program that doesn't compute formulas stores any values, and lets Excel compute them once it opens the workbook. Excel does it
+        too if it knows that an older one computed them, or doesn't know which."""
+        self.is_current = (unsigned_number_or_none(attributes.get("calcId", "")) or 0) >= CURRENT
         self.is_computed = not is_calculation_due(attributes) and truth_word_or_none(attributes, "calcCompleted") != "FALSE"
 
     def open_sheet(self, attributes):

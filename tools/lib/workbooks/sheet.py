@@ -260,8 +260,7 @@ class Sheet(Texts):
 
     def number_text_or_refuse(self, value):
         """A number with the digits that Excel shows, or the date that it stands for."""
-        if not NUMBER.fullmatch(value) or not math.isfinite(float(value)):
-            raise self.error_of(f"{text.quoted(value)} isn't a number")
+        self.refuse_no_number(value)
         shown = self.number_format_or_refuse()
         if self.hides_zeros and not float(value):
             return Hidden("0")
@@ -269,11 +268,11 @@ class Sheet(Texts):
             return Reversed(digits_text(float(value)))
         if shown is Date:
             return Date(self.date_text_or_refuse(float(value)))
-        return self.formatted_text(shown, value)
-
-    def formatted_text(self, shown, value):
-        """A number as its format shows it."""
         return shown(int(value) if WHOLE.fullmatch(value) else digits_text(float(value)))
+
+    def refuse_no_number(self, value):
+        if not NUMBER.fullmatch(value) or not math.isfinite(float(value)):
+            raise self.error_of(f"{text.quoted(value)} isn't a number")
 
     def number_format_or_refuse(self):
         """How the cell's format shows numbers."""

@@ -21,6 +21,7 @@ ROUNDING_FORMATS = {
     "0.00E+00": (11,), "# ?/?": (12, 69), "# ??/??": (13, 70), "##0.0E+0": (48,),
 }  # fmt: skip
 MOST_DIGITS = 11  # that Excel shows of a number in the format General
+MOST_FRACTIONS, FEW_BELOW = 20_000, 2  # numbers that are rounded to fractions of many digits, and digits that aren't many
 MOST_BELOW = 15  # digits that Excel keeps of a number, and so those of a denominator that count
 PIECE = re.compile(r'"[^"]*"|\\.|_.|\*.|\[[^\]\[]*\]|(?i:general)|[Ee][+-]|.', re.DOTALL)  # of a format
 GENERAL = "\1"  # in place of the piece General
@@ -215,13 +216,25 @@ def changes_positive_negative_zero(code):
     return positive, negative, changed[2] or hides[2] if len(sections) > 2 else positive or hides[0]
 
 
-def sections_function(code):
+class Fractions:
+    """How many more numbers are rounded to fractions of many digits, which takes time. Of the others it isn't told how they are shown."""
+
+    def __init__(self):
+        self.left = MOST_FRACTIONS
+
+    def take(self):
+        """Takes one, and returns whether there was one left."""
+        self.left -= 1
+        return self.left >= 0
+
+
+def sections_function(code, fractions):
     """How a format shows a number. Of a name, 0 alone shows all characters."""
     positive, negative, zero = changes_positive_negative_zero(code)
     sections = sections_of(code)[:3]
     parts = [sections] if re.search(r"\[[<>=]", code) else [[section] for section in sections]  # a number has one of these
     kinds = [kind_function([words for section in part for words in added_words(section)]) for part in parts]
-    roundings = [list(map(rounding_function, part)) for part in parts]
+    roundings = [[rounding_function(pieces, fractions) for pieces in part] for part in parts]
 
     def shown(words):
         number = decimal.Decimal(words)
@@ -231,40 +244,45 @@ def sections_function(code):
         at = at if at < len(parts) else 0
         for rounded in roundings[at]:
             if (other := rounded(number)) != number:
-                return Rounded(f"{words} {other + 0}")
+                return Changed(words) if other is None else Rounded(f"{words} {other + 0}")
         return (str if code.strip() == "0" else kinds[at])(words)
 
     return shown
 
 
-def rounding_function(pieces):
-    """The function that rounds a number to the digits of a section of a format, or to its fractions."""
+def rounding_function(pieces, fractions):
+    """The function that rounds a number to the digits of a section of a format, or to its fractions; it returns None of a number that it
+    would round to a fraction of many digits, if none is left of these."""
     code = "".join(map(one_character_of, pieces))
     digits, *power = re.split("[Ee]", code, 1)
     whole, places, below = (len(re.findall(DIGIT, part)) for part in (*digits.partition(".")[::2], code.partition("/")[2]))
 
-    def rounded(number):
+    def rounded_or_none(number):
         if GENERAL in code or not number:
             return number
         if below:
             most = 10 ** min(below, MOST_BELOW) - 1
-            return Fraction(number).limit_denominator(most) if abs(number) * 2 * most >= 1 else 0
+            if abs(number) * 2 * most < 1:
+                return 0
+            if number.as_integer_ratio()[1] <= most:
+                return number
+            return Fraction(number).limit_denominator(most) if below <= FEW_BELOW or fractions.take() else None
         first = 0 if not power else number.adjusted() // whole * whole if whole else number.adjusted() + 1
         last = decimal.Decimal(1).scaleb(first - places)
         return number if number.normalize().as_tuple().exponent >= first - places else number.quantize(last, decimal.ROUND_HALF_UP)
 
-    return rounded
+    return rounded_or_none
 
 
-def format_function(code):
+def format_function(code, fractions):
     """How a format shows a number."""
     if code.strip().lower() in GENERAL_CODES:
         return general_text
     is_date = re.search("[dmyhs]", NO_DATE.sub("", code).split(";")[0], re.IGNORECASE)
-    return Date if is_date else Percentage if is_percentage(code) else sections_function(code)
+    return Date if is_date else Percentage if is_percentage(code) else sections_function(code, fractions)
 
 
-ROUNDING = [(numbers, sections_function(code)) for code, numbers in ROUNDING_FORMATS.items()]
+ROUNDING = [(numbers, sections_function(code, Fractions())) for code, numbers in ROUNDING_FORMATS.items()]
 
 
 def format_number_or_refuse(attributes):
@@ -310,6 +328,7 @@ class Styles(Part):
 
     def __init__(self):
         super().__init__()
+        self.fractions = Fractions()
         self.codes = {}  # of the workbook's own formats, by their numbers
         kinds = (GENERAL_FORMATS, general_text), (DATE_FORMATS, Date), (PERCENT_FORMATS, Percentage), (CURRENCY_FORMATS, Currency), *ROUNDING
         self.shown = {number: shown for numbers, shown in kinds for number in numbers}
@@ -331,7 +350,7 @@ class Styles(Part):
         self.characters += len(code)
         if self.characters > MOST_OF_FORMATS:
             raise too_many_error(MOST_OF_FORMATS, "characters in its number formats")
-        shown, is_plain = format_function(code), shows_texts(code)
+        shown, is_plain = format_function(code, self.fractions), shows_texts(code)
         if self.within[-2] == "dxf":
             if shown is not general_text or not is_plain:
                 self.conditional.setdefault(self.conditions - 1, A_NUMBER_FORMAT)
