@@ -1,8 +1,10 @@
 """The common parts of the tests: the repository's worked cases, random days, and runs of the tools."""
 
 import contextlib
+import csv
 import importlib.machinery
 import importlib.util
+import io
 import itertools
 import os
 import random
@@ -24,6 +26,7 @@ import compare
 from lib.crates import sources
 from lib.journal import book, journal
 from lib.results import results, selection
+from lib.sheets import sheets
 from lib.tool import day_files, modules
 from shared import cases as worked, days
 
@@ -84,6 +87,16 @@ def read_cleared_cases():
 def read_results(example):
     """The results of one of the three examples."""
     return (worked.FOLDER / f"{example.stem}.stdout").read_bytes()
+
+
+def rows_of_csv(data):
+    """The rows of a table in CSV, as dictionaries."""
+    return list(csv.DictReader(io.StringIO(data.decode())))
+
+
+def rows_as_written(rows):
+    """The rows of a table as they are in its CSV."""
+    return rows_of_csv(sheets.table_text(rows).encode())
 
 
 def problem_of(data):

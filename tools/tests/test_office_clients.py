@@ -30,12 +30,11 @@ try:
 except ImportError:  # without python3-aiohttp and the like, whose tests are skipped
     pass
 
+NEEDS_AIOHTTP = unittest.skipIf(aiohttp is None, "python3-aiohttp is missing")
 
+
+@NEEDS_AIOHTTP
 class Requests(unittest.TestCase):
-    def setUp(self):
-        if aiohttp is None:
-            self.skipTest("python3-aiohttp is missing")
-
     def test_json_and_records_are_the_same(self):
         """On each command of the examples."""
         for path in (AUCTION, AUCTION.with_name("quarter-hours.csv"), AUCTION.with_name("first-day.csv")):
@@ -362,12 +361,9 @@ class Connection(argparse.Namespace):
         self.is_aborted = True
 
 
+@NEEDS_AIOHTTP
 class RequestHeads(unittest.IsolatedAsyncioTestCase):
     """The limit of a request's head, in any pieces, and after any requests."""
-
-    def setUp(self):
-        if aiohttp is None:
-            self.skipTest("python3-aiohttp is missing")
 
     def connection(self):
         made, transport = guards.Handler(Connection(), loop=asyncio.get_running_loop(), access_log=None), Connection()

@@ -1,26 +1,20 @@
 """The tables that others publish: curves, blocks, figures, the long form, times, and JSON with the columns that the page describes."""
 
-import csv
 import datetime
-import io
 import json
 import re
 import unittest
 from fractions import Fraction
 
 import support
-from support import AUCTION, AUCTION_RESULTS, FIRST, QUARTERS, TOP, day_of, read_results, results_of, run_tool
+from support import AUCTION, AUCTION_RESULTS, FIRST, QUARTERS, TOP, day_of, read_results, results_of, rows_as_written, run_tool
 
 from lib.base import clock, rules, text
 from lib.results import published, trades
-from lib.sheets import shapes, sheets, tables
+from lib.sheets import shapes, tables
 from lib.tool import command, modules
 
 PAGE = (TOP / "docs" / "TABLES.md").read_text()
-
-
-def read(rows):
-    return list(csv.DictReader(io.StringIO(sheets.table_text(rows))))
 
 
 def days():
@@ -35,7 +29,7 @@ class Curves(unittest.TestCase):
     def test_the_clearing_point_lies_on_both_curves(self):
         points = 0
         for name, day in days():
-            rows = read(published.curve_rows(day))
+            rows = rows_as_written(published.curve_rows(day))
             for number in trades.traded_periods(day):
                 own = [row for row in rows if row["period"] == str(number)]
                 (point,) = [row for row in own if row["curve"] == "clearing"]
@@ -73,7 +67,7 @@ class Curves(unittest.TestCase):
 
 class Blocks(unittest.TestCase):
     def test_the_auction_day(self):
-        rows = {row["order"]: row for row in read(tables.TABLES["blocks"](day_of(AUCTION.read_bytes(), read_results(AUCTION))))}
+        rows = {row["order"]: row for row in rows_as_written(tables.TABLES["blocks"](day_of(AUCTION.read_bytes(), read_results(AUCTION))))}
         # EXAMPLES.md works these out.
         self.assertEqual(rows["NOON"]["family_welfare_eur"], "3016400.000")
         self.assertEqual(rows["UNIT-7"]["family_welfare_eur"], "3024330.000")
@@ -87,7 +81,7 @@ class Figures(unittest.TestCase):
         # 24 prices; those from 8:00 to 20:00 are the periods 9 to 20.
         day = day_of(AUCTION.read_bytes(), read_results(AUCTION))
         prices = [int(line.split(b",")[2]) for line in read_results(AUCTION).splitlines() if line.startswith(b"period")]
-        found = {row["figure"]: row["value"] for row in read(published.figure_rows(day))}
+        found = {row["figure"]: row["value"] for row in rows_as_written(published.figure_rows(day))}
         self.assertEqual(Fraction(found["base_price"]), Fraction(round(Fraction(sum(prices), 24)), 100))
         self.assertEqual(Fraction(found["peak_price"]), Fraction(round(Fraction(sum(prices[8:20]), 12)), 100))
         self.assertEqual(Fraction(found["off_peak_price"]), Fraction(round(Fraction(sum(prices[:8] + prices[20:]), 12)), 100))
@@ -95,10 +89,12 @@ class Figures(unittest.TestCase):
         self.assertEqual((found["welfare"], found["energy"]), ("3021520.000", "12910.0"))
 
     def test_periods_without_trade_are_left_out(self):
-        found = {row["figure"]: row["value"] for row in read(published.figure_rows(day_of(FIRST, results_of(FIRST, frozenset()))))}
+        day = day_of(FIRST, results_of(FIRST, frozenset()))
+        found = {row["figure"]: row["value"] for row in rows_as_written(published.figure_rows(day))}
         self.assertEqual((found["traded_periods"], found["base_price"], found["greatest_price"]), ("2", "68.00", "68.00"))
         data = b"day,24,,,,,,,\nclose,,,,,,,,\n"
-        found = {row["figure"]: row["value"] for row in read(published.figure_rows(day_of(data, results_of(data, frozenset()))))}
+        day = day_of(data, results_of(data, frozenset()))
+        found = {row["figure"]: row["value"] for row in rows_as_written(published.figure_rows(day))}
         self.assertEqual((found["traded_periods"], found["base_price"], found["by_volume_price"]), ("0", "", ""))
 
     def test_the_peak_is_by_the_clock(self):
@@ -113,9 +109,10 @@ class Figures(unittest.TestCase):
         for name, day in days():
             with self.subTest(name):
                 lengths.add(day.problem.hours)
-                found = {row["figure"]: row["value"] for row in read(published.figure_rows(day))}
-                participants = read(tables.participant_rows(day))
-                self.assertEqual(Fraction(found["energy"]), total(read(tables.period_rows(day)), "volume_mw") * day.problem.hours)
+                found = {row["figure"]: row["value"] for row in rows_as_written(published.figure_rows(day))}
+                participants = rows_as_written(tables.participant_rows(day))
+                periods = rows_as_written(tables.period_rows(day))
+                self.assertEqual(Fraction(found["energy"]), total(periods, "volume_mw") * day.problem.hours)
                 self.assertEqual(Fraction(found["energy"]), total(participants, "bought_mwh"))
                 self.assertEqual(Fraction(found["paid"]), total(participants, "paid_eur"))
                 self.assertEqual(Fraction(found["welfare"]), Fraction(found["hourly_surplus"]) + Fraction(found["block_surplus"]))
@@ -133,16 +130,16 @@ class Long(unittest.TestCase):
         for name, day in days():
             with self.subTest(name):
                 hours = day.problem.hours
-                orders, long = read(tables.order_rows(day)), read(published.long_order_rows(day))
+                orders, long = rows_as_written(tables.order_rows(day)), rows_as_written(published.long_order_rows(day))
                 self.assertEqual(total(long, "executed_mw") * hours, total(orders, "executed_mwh"))
                 self.assertEqual(total(long, "offered_mw") * hours, total(orders, "offered_mwh"))
                 self.assertEqual(total(long, "amount_eur"), 0)
                 blocks = [row for row in orders if row["kind"] == "block"]
-                self.assertEqual(total(read(tables.LONG["blocks"](day)), "amount_eur"), total(blocks, "amount_eur"))
-                participants, long = read(tables.participant_rows(day)), read(published.long_participant_rows(day))
+                self.assertEqual(total(rows_as_written(tables.LONG["blocks"](day)), "amount_eur"), total(blocks, "amount_eur"))
+                participants, long = rows_as_written(tables.participant_rows(day)), rows_as_written(published.long_participant_rows(day))
                 self.assertEqual(total(long, "paid_eur"), total(participants, "paid_eur"))
                 self.assertEqual(total(long, "sold_mw") * hours, total(participants, "sold_mwh"))
-                periods, long = read(tables.period_rows(day)), read(tables.LONG["periods"](day))
+                periods, long = rows_as_written(tables.period_rows(day)), rows_as_written(tables.LONG["periods"](day))
                 volumes = [row for row in long if row["quantity"] == "volume_mw"]
                 self.assertEqual(total(volumes, "value"), total(periods, "volume_mw"))
 

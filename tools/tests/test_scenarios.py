@@ -1,8 +1,6 @@
 """Scenarios: tables of them, random ones, and the messages about bad ones."""
 
-import csv
 import functools
-import io
 import json
 import logging
 import resource
@@ -15,7 +13,7 @@ import unittest
 import unittest.mock
 from pathlib import Path
 
-from support import AUCTION, TOOLS, journal_of, make_folder_for_case, results_of, run_tool, write_doctored_program
+from support import AUCTION, TOOLS, journal_of, make_folder_for_case, results_of, rows_of_csv, run_tool, write_doctored_program
 
 from lib.base import rules, text
 from lib.journal import book, journal
@@ -28,10 +26,6 @@ HEADS = "scenario,participant,order,kind,side,price_eur_mwh,periods,volume_mw,pa
 COMMANDS = HEADS.replace("scenario,", "scenario,what,")
 SMALL = ("submit,CITY,TOWN,hour,buy,5000,1:20,,", "submit,GEN,UNIT,block,sell,4000,1:20,,")
 HELD = changes.book_before_close_or_raise(journal.parse_journal(journal_of(*SMALL)))
-
-
-def rows(out):
-    return list(csv.DictReader(io.StringIO(out.decode())))
 
 
 class Tables(unittest.TestCase):
@@ -287,15 +281,15 @@ class Tool(unittest.TestCase):
         words = self.journal, self.table, "--program", which.BUILT
         status, out, err = run_tool("whatif", "scenarios", *words)
         self.assertEqual((status, err), (0, ""))
-        self.assertEqual([(row["scenario"], row["welfare_eur"], row["change_eur"]) for row in rows(out)],
+        self.assertEqual([(row["scenario"], row["welfare_eur"], row["change_eur"]) for row in rows_of_csv(out)],
                          [("as is", "20.000", "0.000"), ("mill", "80.000", "60.000"), ("high", "0.000", "-20.000")])
-        found = rows(run_tool("whatif", "scenarios", "--rows", "orders", "--participant", "GEN", *words)[1])
+        found = rows_of_csv(run_tool("whatif", "scenarios", "--rows", "orders", "--participant", "GEN", *words)[1])
         self.assertEqual([row["order"] for row in found], ["UNIT"] * 3)
         self.assertEqual([row["outcome"] for row in found], ["accepted", "rejected", "rejected"])
-        found = rows(run_tool("whatif", "scenarios", "--rows", "participants", *words)[1])
+        found = rows_of_csv(run_tool("whatif", "scenarios", "--rows", "participants", *words)[1])
         self.assertEqual([row["participant"] for row in found], ["CITY", "GEN", "CITY", "GEN", "WIND", "CITY", "GEN"])
         self.assertEqual([row["gain_eur"] for row in found if row["participant"] == "GEN"], ["20.000", "0.000", "0.000"])
-        found = rows(run_tool("whatif", "scenarios", "--rows", "prices", *words)[1])
+        found = rows_of_csv(run_tool("whatif", "scenarios", "--rows", "prices", *words)[1])
         self.assertEqual((len(found), found[0]["price_eur_mwh"], found[24]["change_eur_mwh"]), (72, "50.00", "-20.00"))
         self.assertEqual(run_tool("whatif", "scenarios", *words, "--jobs", "1")[1], out)
 
@@ -346,7 +340,7 @@ class Tool(unittest.TestCase):
         program.chmod(0o755)
         words = "scenarios", self.journal, self.table, "--program", program
         shown = [*names[:-1], "'-1"]  # none is a formula
-        self.assertEqual([row["scenario"] for row in rows(run_tool("whatif", *words)[1])], shown)
+        self.assertEqual([row["scenario"] for row in rows_of_csv(run_tool("whatif", *words)[1])], shown)
         self.assertEqual([row["scenario"] for row in json.loads(run_tool("whatif", *words, "--json")[1])["rows"]], names)
         path = Path(self.folder, "a.xlsx")
         self.assertEqual(run_tool("whatif", *words, "-o", path), (0, b"", ""))
@@ -379,12 +373,12 @@ class Tool(unittest.TestCase):
     def test_a_sample(self):
         words = "--sample", 30, "--participant", "OLD", AUCTION, "--program", which.BUILT
         status, out, err = run_tool("whatif", "scenarios", *words)
-        (row,) = rows(out)
+        (row,) = rows_of_csv(out)
         self.assertEqual((status, row["order"], row["scenarios"]), (0, "UNIT-7", "30"))
         self.assertIn(f"OLD UNIT-7 is accepted in {row['accepted']} of 30 scenarios", err)
         self.assertEqual(run_tool("whatif", "scenarios", *words, "--jobs", "1", "--quiet"), (0, out, ""))
         self.assertNotEqual(run_tool("whatif", "scenarios", *words, "--price-sd", "30")[1], out)
-        orders = rows(run_tool("whatif", "scenarios", "--rows", "orders", "--order", "UNIT-7", *words)[1])
+        orders = rows_of_csv(run_tool("whatif", "scenarios", "--rows", "orders", "--order", "UNIT-7", *words)[1])
         accepted = [row for row in orders if row["outcome"] == "accepted"]
         self.assertEqual((len(orders), str(len(accepted))), (30, row["accepted"]))
         if modules.has_module("matplotlib"):

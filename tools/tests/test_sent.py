@@ -27,10 +27,6 @@ def own_lines(data, who):
     return [line for line in data.decode().splitlines() if line.split(",")[1] == who]
 
 
-def text_of(lines):
-    return "".join(f"{line}\n" for line in lines).encode()
-
-
 PUBLISHED = journal_of(
     "submit,A,H1,hour,buy,100,1:10,,",
     "submit,B,H1,hour,sell,50,1:10,,",
@@ -47,7 +43,7 @@ class Worked(unittest.TestCase):
     """By hand: A's records 1 to 4 are records 2, 4, 5 and 7 of the journal."""
 
     def differences(self, lines):
-        status, out, err = audit(PUBLISHED, text_of(lines))
+        status, out, err = audit(PUBLISHED, days.text_of_lines(lines))
         self.assertEqual((status, err), (command.DIFFERS, ""))
         head, *wrong = out.splitlines()
         count = "1 difference" if len(wrong) == 1 else f"{len(wrong)} differences"
@@ -55,7 +51,7 @@ class Worked(unittest.TestCase):
         return wrong
 
     def test_as_sent(self):
-        status, out, _ = audit(PUBLISHED, text_of(OWN))
+        status, out, _ = audit(PUBLISHED, days.text_of_lines(OWN))
         self.assertEqual(status, command.DONE)
         self.assertEqual(
             out.splitlines(),
@@ -67,7 +63,7 @@ class Worked(unittest.TestCase):
                 f"sent record 4 is record 7 (command 6) of the journal; the book's reply is done: {OWN[3]}",
             ],
         )
-        self.assertEqual(audit(PUBLISHED, text_of(OWN), "A", "--quiet"), (0, "", ""))
+        self.assertEqual(audit(PUBLISHED, days.text_of_lines(OWN), "A", "--quiet"), (0, "", ""))
 
     def test_missing(self):
         lines = [*OWN[:2], "cancel,A,H2,,,,,,", *OWN[2:]]
@@ -75,10 +71,10 @@ class Worked(unittest.TestCase):
 
     def test_twice(self):
         data = PUBLISHED.replace(b"cancel,B", f"{OWN[0]}\ncancel,B".encode())
-        status, out, _ = audit(data, text_of(OWN))
+        status, out, _ = audit(data, days.text_of_lines(OWN))
         said = ["not as sent: 1 difference in the commands of A", f"record 6 (command 5) of the journal repeats what was sent once: {OWN[0]}"]
         self.assertEqual((status, out.splitlines()), (command.DIFFERS, said))
-        self.assertEqual(audit(data, text_of([*OWN[:3], OWN[0], OWN[3]]))[0], command.DONE)
+        self.assertEqual(audit(data, days.text_of_lines([*OWN[:3], OWN[0], OWN[3]]))[0], command.DONE)
 
     def test_changed(self):
         other = OWN[2].replace(",300,", ",301,")
@@ -90,7 +86,7 @@ class Worked(unittest.TestCase):
         begin = "submit,A,H1,hour,buy,100,1:10,,"
         amends = [f"amend,A,H1,,,{price},1:10,," for price in (201, 301, 401)]
         others = [f"amend,A,H1,,,{price},1:10,," for price in (202, 302, 402)]
-        status, out, _ = audit(journal_of(begin, *amends), text_of([begin, *others]))
+        status, out, _ = audit(journal_of(begin, *amends), days.text_of_lines([begin, *others]))
         said = [
             f"sent record {number} is changed: it was '{was}', and record {number + 1} (command {number}) of the journal is '{now}'"
             for number, (was, now) in enumerate(zip(others, amends), 2)
@@ -113,7 +109,7 @@ class Worked(unittest.TestCase):
         self.assertEqual((status, out.count("\n"), said in out), (command.DONE, 5, True))
         self.assertEqual(audit(PUBLISHED, own.replace(b"\n", b"\r\n\r\n"))[0], command.DONE)
         day = AUCTION.read_bytes() + b"results\n" + read_results(AUCTION)
-        self.assertEqual(audit(day, text_of(own_lines(AUCTION.read_bytes(), "GAS")), "GAS")[0], command.DONE)
+        self.assertEqual(audit(day, days.text_of_lines(own_lines(AUCTION.read_bytes(), "GAS")), "GAS")[0], command.DONE)
         table = b"participant,order,kind,side,price_eur_mwh,periods,volume_mw\nB,H1,hour,sell,0.50,1,1\n"
         self.assertEqual(audit(PUBLISHED.replace(b"cancel,B,H1,,,,,,\n", b""), table, "B")[0], command.DONE)
         said = ["not as sent: 1 difference in the commands of B", "record 6 (command 5) of the journal was not sent: cancel,B,H1,,,,,,"]
@@ -129,21 +125,21 @@ class Worked(unittest.TestCase):
         """A table can't have an amend, and so is compared with the book too."""
         heads = "participant,order,kind,side,price_eur_mwh,periods,volume_mw"
         rows = ["A,H1,hour,buy,3.00,1,1", "A,K1,block,buy,1.00,1-2,1", "C,H9,hour,buy,3.00,1,1"]
-        status, out, _ = audit(PUBLISHED, text_of([heads, *rows]))
+        status, out, _ = audit(PUBLISHED, days.text_of_lines([heads, *rows]))
         said = "as in the table: 2 orders of A in the book at the end, and no others, after 4 commands of A, 1 of 4 commands refused"
         self.assertEqual((status, out), (command.DONE, f"{said} (1 of others left out)\n"))
         for other in ([rows[1], rows[0]], rows[:1], [rows[0].replace("3.00", "3.01"), rows[1]]):
-            self.assertEqual(audit(PUBLISHED, text_of([heads, *other]))[0], command.DIFFERS)
+            self.assertEqual(audit(PUBLISHED, days.text_of_lines([heads, *other]))[0], command.DIFFERS)
 
     def test_a_table_of_the_end_when_no_order_is_left(self):
         """B cancelled its only order, so a table of the orders at the end has none of it."""
         heads, row = "participant,order,kind,side,price_eur_mwh,periods,volume_mw", "A,H1,hour,buy,3.00,1,1"
         said = "as in the table: 0 orders of B in the book at the end, and no others, after 2 commands of B (1 of others left out)\n"
-        self.assertEqual(audit(PUBLISHED, text_of([heads, row]), "B"), (command.DONE, said, ""))
+        self.assertEqual(audit(PUBLISHED, days.text_of_lines([heads, row]), "B"), (command.DONE, said, ""))
         # Of one that has orders, or that the journal doesn't know, such a table says nothing; nor do records of others.
         uncancelled = PUBLISHED.replace(b"cancel,B,H1,,,,,,\n", b"")
         for data, own, who in ((uncancelled, [heads, row], "B"), (PUBLISHED, [heads, row], "C"), (PUBLISHED, OWN, "B")):
-            self.assertEqual(audit(data, text_of(own), who)[:2], (command.NO_INPUT, ""))
+            self.assertEqual(audit(data, days.text_of_lines(own), who)[:2], (command.NO_INPUT, ""))
 
     def test_a_row_of_no_participant_is_none_of_others(self):
         """A row whose participant can't be read may be of the participant that asks, and so may one that is shifted."""
@@ -158,21 +154,22 @@ class Worked(unittest.TestCase):
             ("C,A,H2,hour,buy,3.00,1,1", ": it has 8 cells, but the header has 7"),
         ):
             found = f"audit: sent isn't what A sent: its table has rows that aren't orders: line 4{said}\n"
-            self.assertEqual(audit(PUBLISHED, text_of([*rows, row])), (command.NO_INPUT, "", found))
+            self.assertEqual(audit(PUBLISHED, days.text_of_lines([*rows, row])), (command.NO_INPUT, "", found))
         others = [f"{who},H1,hour,buy,x,1," for who in ("C", "ABCDEFGH")]
-        self.assertEqual(audit(PUBLISHED, text_of([*rows, *others]))[::2], (command.DONE, ""))
+        self.assertEqual(audit(PUBLISHED, days.text_of_lines([*rows, *others]))[::2], (command.DONE, ""))
 
     def test_a_table_is_compared_both_ways(self):
         """For one with the orders at the end, only the differences there are reported, and not each amend that led to them."""
         heads = "participant,order,kind,side,price_eur_mwh,periods,volume_mw"
-        status, out, _ = audit(PUBLISHED, text_of([heads, "A,H1,hour,buy,3.01,1,1", "A,K1,block,buy,1.00,1-2,1"]))
+        status, out, _ = audit(PUBLISHED, days.text_of_lines([heads, "A,H1,hour,buy,3.01,1,1", "A,K1,block,buy,1.00,1-2,1"]))
         was, now = "submit,A,H1,hour,buy,301,1:10,,", "submit,A,H1,hour,buy,300,1:10,,"
         said = ["not as sent: 1 difference in the commands of A"]
         said.append(f"sent record 1 is changed: it was '{was}', and order 1 in the book at the end is '{now}'")
         self.assertEqual((status, out.splitlines()), (command.DIFFERS, said))
-        status, out, _ = audit(PUBLISHED, text_of([heads, "A,H1,hour,buy,3.00,1,1", "A,K1,block,buy,1.00,1-2,1", "A,K2,block,buy,1,1,1"]))
+        rows = ["A,H1,hour,buy,3.00,1,1", "A,K1,block,buy,1.00,1-2,1", "A,K2,block,buy,1,1,1"]
+        status, out, _ = audit(PUBLISHED, days.text_of_lines([heads, *rows]))
         self.assertEqual((status, "sent record 3 is missing in the book at the end: submit,A,K2," in out), (command.DIFFERS, True))
-        status, out, _ = audit(PUBLISHED, text_of([heads, "A,H1,hour,buy,3.00,1,1"]))
+        status, out, _ = audit(PUBLISHED, days.text_of_lines([heads, "A,H1,hour,buy,3.00,1,1"]))
         self.assertIn("\norder 2 in the book at the end was not sent: submit,A,K1,", out)
 
     def test_a_table_of_commands_is_no_table_of_orders(self):
@@ -181,10 +178,10 @@ class Worked(unittest.TestCase):
         rows = ["submit,A,H1,hour,buy,3.00,1,1", "cancel,A,K1,block,buy,1.00,1-2,1"]
         said = "it is a table of commands, with the column what: give records of a journal, or a table of orders"
         wanted = (command.NO_INPUT, "", f"audit: sent isn't what A sent: {said}\n")
-        self.assertEqual(audit(PUBLISHED, text_of([heads, *rows])), wanted)
+        self.assertEqual(audit(PUBLISHED, days.text_of_lines([heads, *rows])), wanted)
         heads, rows = heads.removeprefix("what,"), ["A,H1,hour,bye,3.00,1,1"]
         said = "audit: sent isn't what A sent: its table has rows that aren't orders: line 2, column side: 'bye' should be buy or sell\n"
-        self.assertEqual(audit(PUBLISHED, text_of([heads, *rows])), (command.NO_INPUT, "", said))
+        self.assertEqual(audit(PUBLISHED, days.text_of_lines([heads, *rows])), (command.NO_INPUT, "", said))
 
     @unittest.skipUnless(modules.has_module("openpyxl"), "openpyxl is missing (Debian's python3-openpyxl)")
     def test_a_workbook(self):
@@ -204,19 +201,19 @@ class Worked(unittest.TestCase):
         self.assertEqual(audit(PUBLISHED, data, "A", "--quiet"), (command.DONE, "", ""))
         status, out, again = audit(PUBLISHED, data, "A", "--json")
         self.assertEqual(([note.rpartition("/")[2] for note in json.loads(out)["notes"]], again), (notes, err))
-        made = json.loads(audit(PUBLISHED, text_of(OWN), "A", "--json")[1])
+        made = json.loads(audit(PUBLISHED, days.text_of_lines(OWN), "A", "--json")[1])
         self.assertEqual((made["notes"], made["sent"]), ([], {"commands": 4, "refused": 1}))
-        made = json.loads(audit(PUBLISHED, text_of(OWN[:3]), "A", "--json")[1])  # the command that it doesn't have is counted too
+        made = json.loads(audit(PUBLISHED, days.text_of_lines(OWN[:3]), "A", "--json")[1])  # the command that it doesn't have is counted too
         self.assertEqual((made["verdict"], made["sent"]), ("wrong", {"commands": 4, "refused": 1}))
         # Those of another table may be why it has none of the participant.
         said = ["audit: sent isn't what C sent: it has 2 commands of others, and none of C", *(note.removeprefix("sent: ") for note in notes)]
-        self.assertEqual(audit(PUBLISHED, data, "C"), (command.NO_INPUT, "", text_of(said).decode()))
+        self.assertEqual(audit(PUBLISHED, data, "C"), (command.NO_INPUT, "", days.text_of_lines(said).decode()))
         made = json.loads(audit(b"", data, "A", "--json")[1])
         self.assertEqual((made["notes"], made["sent"]), ([], None))
 
     def test_with_results_the_lines_are_checked_too(self):
         data, right = AUCTION.read_bytes(), read_results(AUCTION)
-        own = text_of(own_lines(data, "GAS"))
+        own = days.text_of_lines(own_lines(data, "GAS"))
         with tempfile.TemporaryDirectory() as folder:
             paths = [Path(folder, name) for name in ("journal", "results", "sent")]
             words = [*paths[:2], "--sent", paths[2], "--participant", "GAS"]
@@ -240,7 +237,7 @@ class Worked(unittest.TestCase):
             self.assertEqual(("\nas sent: " in out, "\nas the rules say: " in out), (False, True))
             self.assertRegex(out, r"\Anot as sent: \d+ differences in the commands of GAS\nsent record \d+ is ")
             # Both wrong: each part has its headline, and is cut by itself.
-            status, out = run(right.replace(b",500\n", b",501\n"), text_of(["cancel,GAS,X,,,,,,"] * 30))
+            status, out = run(right.replace(b",500\n", b",501\n"), days.text_of_lines(["cancel,GAS,X,,,,,,"] * 30))
             heads = [line for line in out.splitlines() if line.startswith("not as ")]
             self.assertEqual((status, len(heads), out.count("more: --all")), (command.DIFFERS, 2, 1))
 
@@ -269,7 +266,7 @@ class Worked(unittest.TestCase):
                 "  line 2: the fields of this line are separated by semicolons: separate them by commas",
             ),
         ):
-            self.assertEqual(audit(PUBLISHED, text_of(own)), (command.NO_INPUT, "", f"audit: sent isn't what A sent: {said}\n"))
+            self.assertEqual(audit(PUBLISHED, days.text_of_lines(own)), (command.NO_INPUT, "", f"audit: sent isn't what A sent: {said}\n"))
         for own in (b"welfare,0\n", b"", b"\xff"):
             status, out, err = audit(PUBLISHED, own)
             self.assertEqual((status, out), (command.NO_INPUT, ""))
@@ -285,7 +282,7 @@ class Worked(unittest.TestCase):
         ):
             self.assertEqual(run_tool("audit", AUCTION, *words)[:2], (command.COMMAND_LINE, b""), words)
         self.assertEqual(run_tool("audit", "-", "--sent", "-", "--participant", "GAS")[0], command.COMMAND_LINE)
-        status, _, err = audit(read_results(AUCTION), text_of(OWN))
+        status, _, err = audit(read_results(AUCTION), days.text_of_lines(OWN))
         self.assertEqual((status, err), (command.NO_INPUT, "audit: journal has results instead of a journal\n"))
 
 
@@ -375,10 +372,10 @@ class Drawn(unittest.TestCase):
 
     def test_the_time_that_the_comparison_may_take(self):
         words = ["--seconds", "0", "--json"]
-        status, out, err = audit(PUBLISHED, text_of([OWN[3], *OWN[:3]]), "A", *words)
+        status, out, err = audit(PUBLISHED, days.text_of_lines([OWN[3], *OWN[:3]]), "A", *words)
         said = "after 0 seconds, the commands of A aren't compared yet: --seconds gives more time"
         self.assertEqual((status, json.loads(out)["message"], err), (command.UNDECIDED, said, f"audit: {said}\n"))
-        self.assertEqual(audit(PUBLISHED, text_of(OWN), "A", *words)[0], command.DONE)
+        self.assertEqual(audit(PUBLISHED, days.text_of_lines(OWN), "A", *words)[0], command.DONE)
 
 
 class InOrder(unittest.TestCase):

@@ -12,7 +12,7 @@ from fractions import Fraction
 from pathlib import Path
 
 import support
-from support import AUCTION, AUCTION_RESULTS, FIRST, QUARTERS, QUARTERS_RESULTS, day_of, read_results, results_of, run_tool
+from support import AUCTION, AUCTION_RESULTS, FIRST, QUARTERS, QUARTERS_RESULTS, day_of, read_results, results_of, rows_as_written, run_tool
 
 from lib.base import rules, text
 from lib.journal import book, journal
@@ -23,11 +23,7 @@ HEADER = "participant,order,kind,side,price_eur_mwh,periods,volume_mw,parent,gro
 HOUR = "NORD,WIND-8,hour,sell,12.5,8,45,,"
 BLOCK = "COAL,PEAK,block,sell,80,8-20,90,,FILL"
 PRICES = f"from {text.eur_per_mwh(rules.LOWEST_PRICE)} to {text.eur_per_mwh(rules.HIGHEST_PRICE)} EUR/MWh"
-
-
-def read(rows):
-    """The rows of a written table as dictionaries."""
-    return list(csv.DictReader(io.StringIO(sheets.table_text(rows))))
+THREE_TABLES = tables.period_rows, tables.order_rows, tables.participant_rows
 
 
 def total(rows, column):
@@ -42,7 +38,7 @@ class Results(unittest.TestCase):
 
     def test_the_tables_add_up(self):
         for day in self.days():
-            periods, orders, participants = (read(of(day)) for of in (tables.period_rows, tables.order_rows, tables.participant_rows))
+            periods, orders, participants = (rows_as_written(of(day)) for of in THREE_TABLES)
             self.assertEqual((len(periods), len(orders)), (day.problem.periods, len(day.problem.rows)))
             bought = total(periods, "hourly_buys_mw") + total(periods, "block_buys_mw")
             sold = total(periods, "hourly_sells_mw") + total(periods, "block_sells_mw")
@@ -55,11 +51,11 @@ class Results(unittest.TestCase):
     def test_the_participants_share_out_the_welfare(self):
         """Their amounts add up to nothing, and their surpluses to the welfare; so do those of the hourly orders and of the accepted blocks."""
         for day in self.days():
-            participants, orders = read(tables.participant_rows(day)), read(tables.order_rows(day))
+            participants, orders = rows_as_written(tables.participant_rows(day)), rows_as_written(tables.order_rows(day))
             welfare = Fraction(text.eur(day.published.welfare, day.problem.hours, ""))
             self.assertEqual([total(participants, "net_eur"), total(participants, "gain_eur")], [0, welfare])
             self.assertEqual([row for row in participants if Fraction(row["gain_eur"]) < 0], [])
-            figures = {row["figure"]: Fraction(row["value"] or 0) for row in read(tables.TABLES["figures"](day))}
+            figures = {row["figure"]: Fraction(row["value"] or 0) for row in rows_as_written(tables.TABLES["figures"](day))}
             self.assertEqual(figures["paid"], total(participants, "paid_eur"))
             self.assertEqual(figures["received"], total(participants, "received_eur"))
             self.assertEqual(figures["paid"], figures["received"])
@@ -69,7 +65,7 @@ class Results(unittest.TestCase):
 
     def test_the_auction_day(self):
         day = day_of(AUCTION.read_bytes(), read_results(AUCTION))
-        periods, orders, participants = (read(of(day)) for of in (tables.period_rows, tables.order_rows, tables.participant_rows))
+        periods, orders, participants = (rows_as_written(of(day)) for of in THREE_TABLES)
         row = periods[18]
         self.assertEqual((row["period"], row["price_eur_mwh"], row["volume_mw"]), ("19", "165.00", "730.0"))
         self.assertEqual((periods[1]["low_eur_mwh"], periods[1]["high_eur_mwh"]), ("2.00", "92.00"))
@@ -82,9 +78,9 @@ class Results(unittest.TestCase):
 
     def test_periods_without_trade_are_marked(self):
         for day in self.days():
-            for row in read(tables.period_rows(day)):
+            for row in rows_as_written(tables.period_rows(day)):
                 self.assertEqual(row["traded"], "no" if row["volume_mw"] == "0.0" else "yes")
-        periods = read(tables.period_rows(day_of(FIRST, results_of(FIRST, frozenset()))))
+        periods = rows_as_written(tables.period_rows(day_of(FIRST, results_of(FIRST, frozenset()))))
         self.assertEqual([row["period"] for row in periods if row["traded"] == "yes"], ["8", "9"])
         middle = text.eur_per_mwh((rules.LOWEST_PRICE + rules.HIGHEST_PRICE) // 2)
         self.assertEqual((periods[0]["price_eur_mwh"], periods[0]["volume_mw"]), (middle, "0.0"))

@@ -1,8 +1,6 @@
 """What if: worst limits, further commands, and comparisons of two days; with the built program, or one that answers by the rules."""
 
-import csv
 import errno
-import io
 import itertools
 import json
 import os
@@ -17,7 +15,8 @@ from fractions import Fraction
 from pathlib import Path
 
 import support
-from support import AUCTION, AUCTION_RESULTS, FIRST, QUARTERS, QUARTERS_RESULTS, journal_of, make_folder_for_case, read_results, run_tool
+from support import AUCTION, AUCTION_RESULTS, FIRST, QUARTERS, QUARTERS_RESULTS
+from support import journal_of, make_folder_for_case, read_results, rows_of_csv, run_tool
 
 import compare
 from lib.base import rules, text
@@ -277,9 +276,6 @@ class Tools(unittest.TestCase):
     def run_whatif(self, *words, data=b""):
         return run_tool("whatif", words[0], "--program", self.program, *words[1:], data=data)
 
-    def rows(self, out):
-        return list(csv.DictReader(io.StringIO(out.decode())))
-
     def test_a_limit_in_words_as_a_record_and_as_a_row(self):
         status, out, err = self.run_whatif("limit", self.journal, "--participant", "GEN", "--order", "UNIT")
         self.assertEqual((status, err), (0, ""))
@@ -296,7 +292,7 @@ class Tools(unittest.TestCase):
         self.assertEqual(record["others"], [{"participant": "CITY", "order": "TOWN", "past_mwh": 0.0, "at_mwh": 2.0}])
         self.assertEqual([case["gain_eur"] for case in record["cases"]], [20.0, 0.0, 0.0])
         status, out, _ = self.run_whatif("limit", self.journal, "--participant", "GEN", "--all")
-        (row,) = self.rows(out)
+        (row,) = rows_of_csv(out)
         self.assertEqual((row["worst_limit_eur_mwh"], row["others"], row["surplus_eur"]), ("50.00", "1", "0.000"))
         # A file of values has a table, not words.
         path = Path(self.folder, "limits.CSV")
@@ -307,7 +303,7 @@ class Tools(unittest.TestCase):
         words = ["--participant", "CITY", "--order", "TOWN", "--from", "39.99", "--to", "40.01", "--step", "0.01"]
         status, out, err = self.run_whatif("limit", self.journal, *words)
         self.assertEqual(status, 0)
-        self.assertEqual([(row["limit_eur_mwh"], row["executed_mw"]) for row in self.rows(out)],
+        self.assertEqual([(row["limit_eur_mwh"], row["executed_mw"]) for row in rows_of_csv(out)],
                          [("39.99", "0.0"), ("40.00", "2.0"), ("40.01", "2.0"), ("50.00", "2.0")])
         said = "whatif: sampled at 4 limits, one of them the order's own, 50.00 EUR/MWh: between them the result may be another"
         self.assertTrue(err.startswith(said), err)
@@ -316,13 +312,13 @@ class Tools(unittest.TestCase):
         quarters = self.write_file("quarters.csv", journal_of(*SMALL).replace(b"day,24,", b"day,96,"))
         for path, welfare in ((self.journal, 20), (quarters, 5)):
             out = self.run_whatif("limit", path, *words[:4], "--from", "50", "--to", "51")[1]
-            self.assertEqual(Fraction(self.rows(out)[0]["welfare_eur"]), welfare)
+            self.assertEqual(Fraction(rows_of_csv(out)[0]["welfare_eur"]), welfare)
 
     def test_a_change_and_the_comparison_of_the_two_days(self):
         more = self.write_file("more.csv", b"submit,WIND,MILL,hour,sell,1000,1:20,,\n")
         status, out, err = self.run_whatif("change", self.journal, more, "--participant", "GEN")
         self.assertEqual((status, err), (0, ""))
-        rows = {(row["what"], row["participant"], row["order"], row["period"]): row for row in self.rows(out)}
+        rows = {(row["what"], row["participant"], row["order"], row["period"]): row for row in rows_of_csv(out)}
         # MILL serves TOWN for 10.00 to 50.00; UNIT is rejected.
         self.assertEqual([rows["gain", "GEN", "", ""][name] for name in ("before", "after", "change")], ["20.000", "0.000", "-20.000"])
         unit = rows["executed", "GEN", "UNIT", ""]
@@ -634,7 +630,7 @@ class Tools(unittest.TestCase):
         path = self.write_file("first.csv", FIRST)
         who = next(command.who for command in journal.parse_journal(FIRST).commands if hasattr(command, "who"))
         status, out, err = self.run_whatif("change", path, "-", "--participant", who, data=b"day,24,,,,,,,\n")
-        self.assertEqual((status, len(self.rows(out))), (0, 2), err)
+        self.assertEqual((status, len(rows_of_csv(out))), (0, 2), err)
 
 
 @unittest.skipUnless(which.BUILT.exists() and all(map(modules.has_module, ("numpy", "matplotlib"))), "the program or a package is missing")

@@ -58,9 +58,9 @@ class DayWriter:
 
     async def read_state(self):
         """The state of the day now. Its files are looked up in a thread: a slow disk holds up no other request."""
-        return await asyncio.to_thread(self.look_up_state, self.fault is not None, self.ledger.is_closed, self.is_open())
+        return await asyncio.to_thread(self.read_state_of_files, self.fault is not None, self.ledger.is_closed, self.is_open())
 
-    def look_up_state(self, is_stopped, is_closed, is_open):
+    def read_state_of_files(self, is_stopped, is_closed, is_open):
         name = self.files.read_state(is_stopped, is_closed, is_open)
         return DayState(name, self.published.is_whole, self.published.has_journal)
 

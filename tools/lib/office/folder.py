@@ -169,14 +169,18 @@ def json_bytes(value):
     return json.dumps(value, indent=1).encode() + b"\n"
 
 
-class DayFolder:
-    """The files of a day."""
+class NamedFiles:
+    """The files of a folder by their names."""
 
     def __init__(self, path):
         self.path = Path(path)
 
     def path_of(self, name):
         return self.path / name
+
+
+class DayFolder(NamedFiles):
+    """The files of a day."""
 
     def has(self, name):
         return self.path_of(name).exists()
@@ -214,14 +218,8 @@ class DayFolder:
             return heads.parse_value_and_is_written(self.read_file(SALTS), heads.parse_salts)[0]
 
 
-class Folder:
+class Folder(NamedFiles):
     """The files of an office."""
-
-    def __init__(self, path):
-        self.path = Path(path)
-
-    def path_of(self, name):
-        return self.path / name
 
     def require_office(self):
         """Ends the tool if this isn't the folder of an office, or others may read its secrets."""

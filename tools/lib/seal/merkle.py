@@ -75,10 +75,11 @@ class Tree:
         return [self.cached_hash(*part) for part in ([] if whole == (0, old) else [whole]) + others]  # the reader has the old root
 
 
-def inclusion_parts(place, size):
-    """The subtrees whose hashes an inclusion proof has, each from its first leaf to the one after its last."""
+def last_and_other_parts(place, size, is_last):
+    """On the way from the root to a leaf: the first subtree that is the last one, and those that the way leaves aside, the lowest first.
+    Each is given from its first leaf to the one after its last."""
     begin, end, parts = 0, size, []
-    while end - begin > 1:
+    while not is_last(begin, end):
         middle = begin + left_half(end - begin)
         if place < middle:
             parts.append((middle, end))
@@ -86,21 +87,19 @@ def inclusion_parts(place, size):
         else:
             parts.append((begin, middle))
             begin = middle
-    return parts[::-1]
+    return (begin, end), parts[::-1]
+
+
+def inclusion_parts(place, size):
+    """The subtrees whose hashes an inclusion proof has."""
+    _, parts = last_and_other_parts(place, size, lambda begin, end: end - begin == 1)
+    return parts
 
 
 def consistency_parts(old, size):
     """The subtrees whose hashes a consistency proof has. The first one is of both trees: if it is the whole old tree, the proof omits it."""
-    begin, end, parts = 0, size, []
-    while old < end:
-        middle = begin + left_half(end - begin)
-        if old <= middle:
-            parts.append((middle, end))
-            end = middle
-        else:
-            parts.append((begin, middle))
-            begin = middle
-    return [(begin, end), *parts[::-1]]
+    last, parts = last_and_other_parts(old - 1, size, lambda _, end: end == old)
+    return [last, *parts]
 
 
 def root_of_inclusion_or_none(leaf, place, size, path):
