@@ -42,7 +42,7 @@ class CheckTests(RepositoryCase):
         except BlockingIOError:
             return None
 
-    def test_libraries_are_copied_if_they_are_proved_or_kept(self):
+    def test_proved_or_kept_libraries_are_copied(self):
         check = types.ModuleType("check")
         check.__file__ = f"{self.at.top}/check"
         SourceFileLoader("check", check.__file__).exec_module(check)
@@ -58,7 +58,7 @@ class CheckTests(RepositoryCase):
         self.assertIn("proved 0.0 minutes after the start", rows[0])
         self.assertIn("proved by an earlier run", rows[1])
 
-    def test_the_time_of_a_crate_is_that_of_its_own_proof(self):
+    def test_a_crate_takes_the_time_of_its_proof(self):
         check = types.ModuleType("check")
         check.__file__ = f"{self.at.top}/check"
         SourceFileLoader("check", check.__file__).exec_module(check)
@@ -83,7 +83,7 @@ class CheckTests(RepositoryCase):
             self.assertEqual(len(list(crates.rows())), 1)
             self.assertEqual(set(crates.seconds), counted)
 
-    def test_the_totals_are_written_with_the_commit(self):
+    def test_totals_are_written_with_the_commit(self):
         check = types.ModuleType("check")
         check.__file__ = f"{self.at.top}/check"
         SourceFileLoader("check", check.__file__).exec_module(check)
@@ -104,7 +104,7 @@ class CheckTests(RepositoryCase):
             told = json.loads(self.at.read("out/check.json"))
             self.assertEqual((told["commit"], told["command"], told["passed"], told["failed"]), (of, "./check", 7, 1))
 
-    def test_a_signal_ends_the_part_with_what_it_started(self):
+    def test_a_signal_ends_the_part_as_a_whole(self):
         with FORKING:
             self.at.write("tests/wrong-bodies", PART)
         os.chmod(f"{self.at.top}/tests/wrong-bodies", 0o755)

@@ -30,7 +30,7 @@ class LaunchTests(DamCase):
         self.assertEqual(self.read_verbs().count("try"), 1)
         self.assertTrue(self.at.has_no_copy())
 
-    def test_the_words_of_prove_are_those_of_the_tool(self):
+    def test_prove_takes_the_words_of_the_tool(self):
         status, out, error = self.at.run_dam("prove", "--plan", "--jobs", "2")
         self.assertEqual((status, error), (0, ""))
         self.assertIn("of a processor", out)
@@ -47,12 +47,12 @@ class LaunchTests(DamCase):
             self.assertEqual(self.at.run_dam("--help"), (0, "help\n", line))
             self.prove_program_and_assert()
 
-    def test_the_status_is_seen_from_a_process_that_ignores_it(self):
+    def test_the_status_if_sigchld_is_ignored(self):
         for status in (0, 3):
             ran = self.at.run(sys.executable, "-c", IGNORING, f"{self.at.top}/tools/unproved", "ends", str(status))
             self.assertEqual(ran[:2], (status, f"words: ends {status}\n"))
 
-    def test_input_and_output_go_straight_to_the_program(self):
+    def test_the_program_has_the_same_streams(self):
         """Also if the input is silent for a time, closed or without end, and if nobody reads the output."""
         for before in (False, True):
             with self.at.start(f"{self.at.top}/dam", "x") as process:
@@ -144,7 +144,7 @@ class LaunchTests(DamCase):
         os.remove(f"{self.at.top}/crates/low/src/more.rt")
         self.run_and_assert_stale("low")
 
-    def test_a_source_replaced_by_one_of_an_older_date(self):
+    def test_a_source_replaced_by_an_older_one(self):
         self.prove_program_and_assert()
         for count, way in enumerate((["cp", "-p"], ["mv"])):
             self.at.write("older", f"// older {count}\n")
@@ -225,7 +225,7 @@ class LaunchTests(DamCase):
         why = "crates/dam_cli/out/dam_cli has no record of the sources that it was built of"
         self.assertEqual((status, out, error), (0, "words: x\ntext", self.line_of_unproved(why)))
 
-    def test_unproved_runs_nothing_that_is_proved(self):
+    def test_unproved_runs_no_proved_program(self):
         self.prove_program_and_assert()
         line = self.line_of_unproved("--unproved asks for this")
         ended = self.at.run_dam("--unproved", "x", "a b", "--", "--unproved", given="text")

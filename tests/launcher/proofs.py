@@ -29,7 +29,7 @@ class ProveTests(RepositoryCase):
         for name in ("low", "left", "right", "high"):
             self.assertEqual(self.at.read(f"crates/{name}/out/rlib/{name}.rlib/checked"), name)
 
-    def test_the_ends_of_proofs_are_seen_from_a_process_that_ignores_them(self):
+    def test_proofs_end_if_sigchld_is_ignored(self):
         words = sys.executable, "-c", IGNORING, f"{self.at.top}/tools/prove", "dam_cli"
         self.assertEqual(self.at.run(*words)[0], 0)
         self.at.write("crates/dam_cli/src/main.rt", f"{PROGRAM}# REFUSED")

@@ -100,7 +100,7 @@ class Laws(unittest.TestCase):
             laws.try_a_worse_limit, [NOTHING, other], [NOTHING, other._replace(prices=[4_999])]
         )
 
-    def test_a_rejected_block_withdrawn_changes_nothing(self):
+    def test_a_withdrawn_block_changes_nothing(self):
         alone = NOTHING.lines_but(UNIT.key)
         self.check_law(
             laws.try_a_rejected_block_withdrawn, [NOTHING, alone], [NOTHING, alone._replace(prices=[0])]
@@ -160,7 +160,7 @@ class Books(unittest.TestCase):
             self.assertGreater(books.draw_better_limit_or_none(rng, TOWN.order), 5_000)
             self.assertIsNone(books.draw_better_limit_or_none(rng, UNIT.order._replace(price=rules.LOWEST_PRICE)))
 
-    def test_drawn_books_have_what_the_laws_are_about(self):
+    def test_drawn_books_fit_the_laws(self):
         drawn = [books.draw_book(random.Random(f"market check {number}")) for number in range(1, 201)]
         self.assertTrue(any(book.periods == 24 for book in drawn))
         self.assertTrue(any(book.periods == 96 for book in drawn))

@@ -63,17 +63,17 @@ class Reports(unittest.TestCase):
     def test_a_name_that_went_is_no_refusal(self):
         self.assertNotIn("toy::stack::Stack::all", CheckReport(REFUSED).refusals())
 
-    def test_a_name_that_went_is_told_with_the_goal(self):
+    def test_a_missing_name_comes_with_the_goal(self):
         refused = CheckReport(REFUSED.replace("fn toy::stack::Stack::all", f"{GOAL}\nfn toy::stack::Stack::all")).refusals()
         self.assertTrue(refused["toy::stack::Stack::all"].endswith("(`returns`) (and a proof of the function cites a name that went)"))
         self.assertNotIn("went", refused["toy::stack::Stack::low"])
 
-    def test_a_loop_that_may_not_end_is_a_refusal(self):
+    def test_a_loop_without_an_end_is_a_refusal(self):
         line = "fn toy::waits: no proof: expected a measure in ./proofs/waits/Invariants.antt\nlogic=not-proved\n"
         self.assertEqual([*CheckReport(line).refusals()], ["toy::waits"])
         self.assertTrue(CheckReport(line).refusals()["toy::waits"].startswith("no goal, but a loop without a measure: expected a measure"))
 
-    def test_nothing_is_refused_of_a_proved_crate(self):
+    def test_a_proved_crate_has_no_refusal(self):
         self.assertEqual(CheckReport(PROVED).refusals(), {})
 
     def test_errors_have_their_file_and_line(self):

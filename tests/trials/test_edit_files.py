@@ -40,11 +40,11 @@ class Edits(unittest.TestCase):
             self.made(text)
         self.assertIn(why, str(fault.exception))
 
-    def test_the_text_has_the_new_in_place_of_the_old(self):
+    def test_the_new_text_replaces_the_old(self):
         self.assertEqual(self.made(edit("    MOST - 4", "    MOST - 3")), LIB.replace("- 4", "- 3"))
         self.assertEqual(self.made("file: src/lib.rt\nold:  - 4\nnew:\n"), LIB.replace(" - 4", ""))
 
-    def test_a_later_pair_applies_to_what_the_earlier_ones_made(self):
+    def test_a_pair_applies_after_those_before(self):
         self.assertEqual(self.made(edit("MOST - 4", "LEAST") + edit("LEAST", "1")), LIB.replace("MOST - 4", "1"))
 
     def test_an_edit_that_cannot_be_applied(self):
@@ -60,7 +60,7 @@ class Edits(unittest.TestCase):
         self.assert_unfit("file: src/lib.rt\nold: MOST - 4\n1\n", "begins with none")
         self.assert_unfit("", "it has no 'file:'")
 
-    def test_the_edits_of_both_folders_in_the_order_of_their_names(self):
+    def test_edits_of_both_folders_are_sorted(self):
         write_text(f"{self.crate}/must-fail/low.edit", edit("MOST - 4", "2"))
         write_text(f"{self.crate}/wrong-bodies/high.edit", edit("MOST - 1", "MOST"))
         write_text(f"{self.crate}/wrong-bodies/READ.md", "of no edit")
@@ -68,7 +68,7 @@ class Edits(unittest.TestCase):
         self.assertEqual([it.name for it in found], ["high", "low"])
         self.assertEqual([it.name for it in read_edits(self.crate, ("wrong-bodies",))], ["high"])
 
-    def test_those_of_one_file_are_in_the_order_of_sources_and_names(self):
+    def test_edits_of_one_file_are_sorted(self):
         write_text(f"{self.crate}/src/above.rt", LIB)
         low, high = edit("MOST - 4", "2"), edit("MOST - 1", "MOST")
         above = edit("MOST - 4", "2", "src/above.rt")
@@ -80,7 +80,7 @@ class Edits(unittest.TestCase):
             wanted = {name: f"it stands after {other}, and not in the order of files and names" for name, other in misplaced.items()}
             self.assertEqual(faults, wanted)
 
-    def test_files_that_would_not_be_tried_are_faults(self):
+    def test_files_that_are_not_tried_are_faults(self):
         write_text(f"{self.crate}/must-fail/low.edit", edit("MOST - 4", "2"))
         write_text(f"{self.crate}/wrong-bodies/low.edit", edit("MOST - 4", "3"))
         write_text(f"{self.crate}/wrong-bodies/other.edti", edit("MOST - 4", "4"))
@@ -115,7 +115,7 @@ class Edits(unittest.TestCase):
             ("d", "17", "an 'old:' text stands 0 times in src/lib.rt, and not once: no"),
         ])
 
-    def test_an_edit_of_must_fail_has_no_name_line(self):
+    def test_must_fail_edits_have_no_name_line(self):
         write_text(f"{self.crate}/must-fail/low.edit", "name: low\n" + edit("MOST - 4", "2"))
         (found,) = read_edits(self.crate, ("must-fail",))
         self.assertEqual(found.fault, "a line begins with none of 'file:', 'old:' and 'new:': name: low")

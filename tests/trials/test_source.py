@@ -52,24 +52,24 @@ pub const fn most() -> [u8; 2] { [1, 2] }
 
 
 class Bodies(unittest.TestCase):
-    def test_each_function_with_a_body_is_found_under_its_name(self):
+    def test_functions_are_found_by_their_names(self):
         names = [it.name for it in functions_of(STEP)]
         self.assertEqual(names, ["Step::of", "Step::len", "TextHash::hash", "DayFaultFromAllocFailed::from", "Turnstile::leave", "most"])
 
-    def test_a_body_lies_between_its_braces_and_after_the_clauses(self):
+    def test_a_body_lies_between_its_braces(self):
         bodies = {it.name: STEP[it.begins : it.ends] for it in functions_of(STEP)}
         self.assertEqual(bodies["Step::len"], "{ self.volume }")
         self.assertEqual(bodies["most"], "{ [1, 2] }")
         self.assertTrue(bodies["Step::of"].startswith("{\n        fn inner() {}"))
         self.assertTrue(bodies["Step::of"].endswith(".map(Step::new)\n    }"))
 
-    def test_what_is_outside_the_bodies_has_the_clauses(self):
+    def test_clauses_are_outside_the_bodies(self):
         parts = parts_outside(STEP, functions_of(STEP))
         self.assertEqual(len(parts), 7)
         self.assertTrue(parts[0].endswith("measure { hour.len }\n    "))
         self.assertEqual(parts[6], "\n")
 
-    def test_functions_of_a_cycle_are_led_by_the_one_that_it_names(self):
+    def test_the_named_function_leads_its_cycle(self):
         text = "fn walk() {}\nimpl Tree {\n#[cycle(visit)]\nfn visit() {}\n#[cycle(visit)]\n#[inline]\npub fn go() {}\n}\nfn end() {}\n"
         leaders = [it.name for it in leaders_of(text, functions_of(text))]
         self.assertEqual(leaders, ["walk", "Tree::visit", "Tree::visit", "end"])
@@ -96,25 +96,25 @@ MORE = (
 
 
 class Names(unittest.TestCase):
-    def test_an_owner_is_listed_by_its_type_and_then_its_trait(self):
+    def test_owners_are_named_type_then_trait(self):
         for head, name in IMPLS.items():
             with self.subTest(head):
                 (function,) = functions_of(head + " {\n    fn go() {}\n}\n")
                 self.assertEqual(function.name, name)
 
-    def test_the_name_has_the_modules_of_the_file(self):
+    def test_a_name_has_the_modules_of_its_file(self):
         (function,) = functions_of("impl Hour {\n    fn len(&self) -> u64 { 0 }\n}\n")
         self.assertEqual(listed_name("dam_hour", "src/hour.rt", function, {}), "dam_hour::hour::Hour::len")
         self.assertEqual(listed_name("dam_hour", "src/lib.rt", function, {}), "dam_hour::Hour::len")
         self.assertEqual(listed_name("dam_hour", "src/plain/mod.rt", function, {}), "dam_hour::plain::Hour::len")
         self.assertEqual(listed_name("dam_hour", "src/plain/steps.rt", function, {}), "dam_hour::plain::steps::Hour::len")
 
-    def test_a_method_has_the_modules_of_its_type_unless_it_is_of_a_trait(self):
+    def test_methods_have_the_modules_of_a_type(self):
         homes = homes_of({"src/hour.rt": OWNED, "src/plain/more.rt": MORE})
         names = [listed_name("dam_hour", "src/plain/more.rt", it, homes) for it in functions_of(MORE)]
         self.assertEqual(names, ["dam_hour::hour::Hour::len", "dam_hour::plain::more::HourLen::more", "dam_hour::plain::more::free"])
 
-    def test_the_home_of_a_type_is_the_one_file_that_defines_it(self):
+    def test_the_home_of_a_type_defines_it(self):
         texts = {
             "src/one.rt": "#[derive(Drop)]\npub(crate) struct Row<A> {\n}\n// struct Comment {\n    struct Inner;\nenum Way {}\n",
             "src/two.rt": "pub struct Twice(u64);\nuse crate::one::Row;\n",

@@ -78,7 +78,7 @@ class Trials(unittest.TestCase):
         self.assertEqual(set(self.try_all_edits(alone=True).values()), {(True, "refused")})
         self.assertEqual(self.trial.tried, ["as it stands", "four", "one", "three", "two"])
 
-    def test_what_the_check_takes_is_tried_alone_and_told(self):
+    def test_a_body_that_passes_is_tried_alone(self):
         self.write_edit("taken", one="right")
         self.write_edit("refused", two="wrong")
         self.assertEqual(self.try_all_edits(), {"refused": (True, "refused"), "taken": (False, "NOT REFUSED")})
@@ -89,24 +89,24 @@ class Trials(unittest.TestCase):
         self.write_edit("refused", two="wrong")
         self.assertEqual(self.try_all_edits(), {"refused": (True, "refused"), "gone": (False, "BAD EDIT")})
 
-    def test_an_edit_that_does_not_compile_is_taken_out_of_the_batch(self):
+    def test_an_ill_edit_leaves_the_batch(self):
         self.write_edit("a", one="wrong")
         self.write_edit("ill", two="ill")
         self.write_edit("z", three="wrong")
         self.assertEqual(self.try_all_edits(), {"a": (True, "refused"), "z": (True, "refused"), "ill": (False, "BAD EDIT")})
         self.assertEqual(self.trial.tried[1:], ["3 wrong bodies at once", "2 wrong bodies at once", "ill"])
 
-    def test_two_edits_of_a_function_go_into_two_batches(self):
+    def test_edits_of_one_function_are_apart(self):
         self.write_edit("a", one="wrong")
         self.write_edit("b", one="right")
         self.assertEqual(self.try_all_edits(), {"a": (True, "refused"), "b": (False, "NOT REFUSED")})
         self.assertEqual(self.trial.batches, 2)
 
-    def test_an_edit_of_two_functions_is_refused_by_either(self):
+    def test_either_function_refuses_an_edit(self):
         self.write_edit("both", one="right", two="wrong")
         self.assertEqual(self.try_all_edits(), {"both": (True, "refused")})
 
-    def test_functions_that_call_each_other_are_refused_together(self):
+    def test_a_cycle_is_refused_as_a_whole(self):
         cycle = LIB.replace("fn one", "#[cycle(one)]\nfn one").replace("fn two", "#[cycle(one)]\nfn two")
         write_text(f"{self.crate}/src/lib.rt", cycle)
         self.write_edit("a", one="wrong")
@@ -116,7 +116,7 @@ class Trials(unittest.TestCase):
         self.assertEqual(self.try_all_edits(cycle), {"a": (True, "refused"), "b": (True, "refused")})
         self.assertEqual(self.trial.tried[1:], ["2 wrong bodies at once", "a", "b"])
 
-    def test_a_method_of_a_type_that_another_file_defines_is_refused_in_the_batch(self):
+    def test_a_method_of_a_type_of_another_file(self):
         text = LIB.replace("fn one() -> u64 {\n    right()\n}", "impl Tree {\nfn one() -> u64 {\n    right()\n}\n}")
         write_text(f"{self.crate}/src/lib.rt", text)
         write_text(f"{self.crate}/src/tree.rt", "pub struct Tree {\n    depth: u64,\n}\n")
@@ -130,7 +130,7 @@ class Trials(unittest.TestCase):
         self.assertEqual(self.try_all_edits(), {"none": (False, "BAD EDIT")})
         self.assertEqual(self.trial.tried, ["as it stands"])
 
-    def test_a_crate_that_is_not_proved_as_it_stands(self):
+    def test_a_crate_without_a_proof(self):
         write_text(f"{self.crate}/src/lib.rt", LIB.replace("right", "wrong", 1))
         with self.assertRaises(NotProved), contextlib.redirect_stdout(io.StringIO()), StandInTrial(self.copy, "toy"):
             self.fail("it was tried")
