@@ -54,11 +54,15 @@ class Columns(unittest.TestCase):
         """Orders would lose their groups or parents."""
         for heading, name in (
             ("exclusive_group", "group"), ("group_name", "group"), ("Exclusive Group", "group"), ("parent_name", "parent"), ("linked to", "parent"),
+            ("exclusive", "group"), ("Exclusive with", "group"), ("exclusion", "group"), ("exlusive", "group"), ("exclusive parent", "parent"),
         ):  # fmt: skip
             header = HEADER.removesuffix(",parent,group")
             said = wrong("A,H,block,buy,1,8,5,X", header=f"{header},{heading}")
             self.assertEqual(said, [f"line 1, column 8: '{heading}' is not a column: write {name}"])
             _, notes = records_and_notes("A,H,block,buy,1,8,5,,,X", header=f"{HEADER},{heading}")
+            self.assertEqual(notes, [f"the column '{heading}' isn't used"])
+        for heading in ("line", "excluded", "included", "set"):
+            _, notes = records_and_notes("A,H,block,buy,1,8,5,X", header=f"{header},{heading}")
             self.assertEqual(notes, [f"the column '{heading}' isn't used"])
 
     def test_a_column_without_a_name(self):

@@ -23,7 +23,9 @@ WHAT = "what"
 COMMANDS_ALONE, OF_ORDERS = ("amend", "cancel", "close"), ("", "submit", "order")
 MOST_ERRORS = 20
 MOST_ROWS = rules.MOST_RECORDS - 1  # after the first one: as many as a journal has commands
-OF_LINKS = {"group": "group", "parent": "parent", "link": "parent"}  # words in headings of the columns that a table may leave out
+# Words in headings of the columns that a table may leave out, of which a longer one may be misspelt.
+OF_LINKS = {"group": "group", "parent": "parent", "link": "parent", "exclusive": "group", "exclusion": "group"}
+LONG = 6  # letters of such a word
 
 # Why the book refuses an order that is right in itself.
 FULL = {
@@ -88,10 +90,13 @@ def unused_notes(unused):
 
 def meant_columns(name, missing, needed):
     """The missing columns that a name probably stands for: those that are needed, and of which it is the first word, or one like it, or one
-    of which it has a word: without a column of links, orders would lose them."""
+    of which it has a word or one like it: without a column of links, orders would lose them."""
     begun = [one for one in missing if one in needed and one.startswith(f"{name}_")]
     alike = begun or difflib.get_close_matches(name, missing, 1, ALIKE)
-    return alike or [one for word, one in OF_LINKS.items() if word in name and one in missing]
+    links = {word: one for word, one in OF_LINKS.items() if one in missing}
+    words = [word for word in links if word in name]
+    words = words or difflib.get_close_matches(name, [word for word in links if len(word) > LONG], 1, ALIKE)
+    return alike or [links[word] for word in words]
 
 
 class Row:
