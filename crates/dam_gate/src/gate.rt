@@ -183,7 +183,7 @@ impl<J: GateName, R: Wait + Drop> Gate<J, R> {
         }
         let mut locked = self.locked.lock(rt);
         let packed = locked.pack_unless_full(&command)?;
-        let (number, reply) = pass.step(&mut locked, &packed)?;
+        let (number, reply) = pass.step(&mut locked, packed)?;
         Ok(Entry {
             number,
             command,
@@ -209,7 +209,7 @@ impl<J: GateName, R: Wait + Drop> Gate<J, R> {
         }
         let mut locked = self.locked.lock(rt);
         locked.check_not_full(command.participant())?;
-        pass.step(&mut locked, command)
+        pass.step(&mut locked, command.clone()?)
     }
 
     /// Makes room in the journal for this number of further entries.
@@ -226,7 +226,7 @@ impl<J: GateName, R: Wait + Drop> Gate<J, R> {
         let mut locked = self.locked.into_inner();
         let _held = locked.len(); // for the proof: the invariant of a journal
         let close = locked.pack_unless_full(&Command::Close)?;
-        let _answer = operator.step(&mut locked, &close)?;
+        let _answer = operator.step(&mut locked, close)?;
         let _receipts = operator.receipts(); // for the proof: the invariant of a pass
         Ok(locked)
     }

@@ -193,18 +193,19 @@ impl<A: Allocator + Copy> Keeper<A> {
         Ok(PackedCommand::of(*self.entries.allocator(), command)?)
     }
 
-    /// Prepares the step of a packed command, as `prepare` does. The journal has room for the command.
+    /// Prepares the step of a packed command, as `prepare` does. The journal has room for the command, and its entry takes
+    /// it over.
     pub(crate) fn prepare_packed(
         &mut self,
-        command: &PackedCommand<A>,
+        command: PackedCommand<A>,
     ) -> Result<PreparedStep<A>, AllocError>
-        requires { is_journal_full (length self.old.journal.entries) command.now ≡ false }
-        ensures prepared { IfOk result (IsPreparedFor self.new command.now) }
+        requires { is_journal_full (length self.old.journal.entries) command ≡ false }
+        ensures prepared { IfOk result (IsPreparedFor self.new command) }
         ensures journal { self.new.journal ≡ self.old.journal }
         ensures room { self.old.room ≤ self.new.room }
     {
-        let packed = command.clone()?;
-        self.prepare_step(packed, &command.command())
+        let unpacked = command.command();
+        self.prepare_step(command, &unpacked)
     }
 
     /// Prepares the step of a packed command: it takes the rest of the step's memory.

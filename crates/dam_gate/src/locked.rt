@@ -329,17 +329,16 @@ impl<J: GateName, R: Wait + Drop> Locked<J, R> {
         seen: &History<J>,
         learnt: &History<J>,
         part: &mut LedgerPart<Answered<J>>,
-        command: &PackedCommand,
+        command: PackedCommand,
     ) -> Result<((u32, Reply), History<J>), GateFault>
-        requires not_full { is_journal_full (length self.old.journal.entries) command.now
-            ≡ false }
+        requires not_full { is_journal_full (length self.old.journal.entries) command ≡ false }
         requires part { 0 < part.old.parts }
         ensures entry { IfOk result (λ r.
-            entry_of command.now r.0 ≡ next_entry self.old.journal command.now) }
+            entry_of command r.0 ≡ next_entry self.old.journal command) }
         ensures history { IfOk result (λ r.
-            r.1 ≡ self.old.journal.entries ++ entry_of command.now r.0 ∷ []) }
+            r.1 ≡ self.old.journal.entries ++ entry_of command r.0 ∷ []) }
         ensures journal { OnOk result
-            (self.new.journal ≡ journal_after self.old.journal command.now) }
+            (self.new.journal ≡ journal_after self.old.journal command) }
         ensures passes { self.new.passes ≡ self.old.passes }
         ensures seen { OnOk result (IsPrefix seen.now self.old.journal.entries) }
         ensures learnt { OnOk result (IsPrefix learnt.now self.old.journal.entries) }

@@ -215,22 +215,22 @@ impl<J: GateName> Pass<J> {
 
     /// A call's step under the lock. It returns the number and the reply of the entry.
     ///
-    /// The room for the receipt is made before the journal's step, so that a refused call changes nothing.
+    /// The journal's entry takes the command, and the receipt its clone. The room for the receipt is made before
+    /// the journal's step, so that a refused call changes nothing.
     pub(crate) fn step<R: Wait + Drop>(
         &mut self,
         locked: &mut Locked<J, R>,
-        command: &PackedCommand,
+        command: PackedCommand,
     ) -> Result<(u32, Reply), GateFault>
-        requires own { is_own self.old.account.holder command.now ≡ true }
-        requires not_full { is_journal_full (length locked.old.journal.entries) command.now
-            ≡ false }
+        requires own { is_own self.old.account.holder command ≡ true }
+        requires not_full { is_journal_full (length locked.old.journal.entries) command ≡ false }
         ensures entry { IfOk result (λ answer.
-            entry_of command.now answer ≡ next_entry locked.old.journal command.now) }
+            entry_of command answer ≡ next_entry locked.old.journal command) }
         ensures journal { OnOk result
-            (locked.new.journal ≡ journal_after locked.old.journal command.now) }
+            (locked.new.journal ≡ journal_after locked.old.journal command) }
         ensures passes { locked.new.passes ≡ locked.old.passes }
         ensures answered { IfOk result (λ answer.
-            IsCalled J.opening.periods self.old self.new (entry_of command.now answer)) }
+            IsCalled J.opening.periods self.old self.new (entry_of command answer)) }
         ensures learnt { OnOk result
             (IsPrefix self.old.learnt locked.old.journal.entries) }
         ensures err { OnErr result ((locked.new ≡ locked.old) × (self.new ≡ self.old)) }
@@ -239,7 +239,7 @@ impl<J: GateName> Pass<J> {
     {
         let _held = locked.len(); // for the proof: the invariant of a journal
         self.receipts.reserve(1)?;
-        let packed = command.clone()?;
+        let received = command.clone()?;
         let (answer, after) = locked.journal_and_publish(
             &self.seen,
             &self.learnt,
@@ -247,7 +247,7 @@ impl<J: GateName> Pass<J> {
             command,
         )?;
         self.receipts
-            .push_reserved(PackedEntry::new(answer.0, packed, answer.1));
+            .push_reserved(PackedEntry::new(answer.0, received, answer.1));
         self.note = Some(Note {
             history: after.copy(),
         });

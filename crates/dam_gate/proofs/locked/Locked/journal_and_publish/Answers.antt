@@ -12,7 +12,7 @@ use Rattle.dam_gate.proofs.locked.Locked.journal_and_publish.Goals as goal
 pub extend_history_and_fill-requires-clause-journal : goal.extend_history_and_fill-requires-clause-journal
 extend_history_and_fill-requires-clause-journal g c =
     let j : JournalState = c.self.inside.keeper.journal in
-    let command = c.args.command.now in
+    let command = c.args.command in
     let prepared = c.in_ok-prepared.ensures.prepared in
     let same : c.prepare_packed.new.self.journal ≡ j = c.prepare_packed.ensures.journal in
     let entry : c.in_ok-prepared.prepared.entry ≡ next_entry j command = prepared.entry ∙ ap (λ (x : JournalState). next_entry x command) same in
@@ -25,14 +25,14 @@ extend_history_and_fill-requires-clause-journal g c =
 pub extend_history_and_fill-requires-clause-day : goal.extend_history_and_fill-requires-clause-day
 extend_history_and_fill-requires-clause-day g c =
     let j : JournalState = c.self.inside.keeper.journal in
-    let command = c.args.command.now in
+    let command = c.args.command in
     let book : c.in_ok-prepared.prepared.book ≡ book_after j.book command =
     c.in_ok-prepared.ensures.prepared.book ∙ ap (λ (x : JournalState). book_after x.book command) c.prepare_packed.ensures.journal in
     ap (λ (b : BookState). b.periods) book ∙ (book_after-periods j.book command ∙ c.self.invariant.1)
 
 pub returns-clause-entry : goal.returns-clause-entry
 returns-clause-entry g c =
-    let command = c.args.command.now in
+    let command = c.args.command in
     ap₂ (λ (n : ℕ) (r : Reply). entry_of command (n, r)) c.number.ensures c.reply.ensures
     ∙ ap (λ (e : Entry). entry_of command (e.number, e.reply))
     (c.entry-entry.ensures ∙ (c.in_ok-prepared.ensures.prepared.entry

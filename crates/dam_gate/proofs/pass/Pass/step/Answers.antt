@@ -14,7 +14,7 @@ use Rattle.dam_gate.proofs.pass.Pass.step.Goals as goal
 
 pub invariant_of-self-2 : goal.invariant_of-self-2
 invariant_of-self-2 g c =
-    let e = entry_of c.args.command.now c.in_ok-answer.answer in
+    let e = entry_of c.args.command c.in_ok-answer.answer in
     let held = c.args.locked.now.journal.entries in
     let holder = c.self.inside.holder in
     let receipts = c.self.inside.receipts.items in
@@ -23,10 +23,10 @@ invariant_of-self-2 g c =
     omega (arith, number, ap length c.in_ok-answer.ensures.history, length-append held (e ∷ [])) in
     let before : e.number - 1 ≡ length held = omega (arith, number) in
     let mine : is_own holder e.command ≡ true =
-    ap (λ (k : Knowledge). is_own k.account.holder c.args.command.now) c.self.view_is ∙ c.requires.own in
-    let room : is_journal_full (e.number - 1) e.command ≡ false = ap (λ (n : ℕ). is_journal_full n c.args.command.now) before ∙ c.requires.not_full in
+    ap (λ (k : Knowledge). is_own k.account.holder c.args.command) c.self.view_is ∙ c.requires.own in
+    let room : is_journal_full (e.number - 1) e.command ≡ false = ap (λ (n : ℕ). is_journal_full n c.args.command) before ∙ c.requires.not_full in
     let earlier = prefix_length c.self.inside.seen held c.in_ok-answer.ensures.seen in
-    let copied : c.in_ok-packed.packed ≡ c.args.command.now = c.in_ok-packed.ensures.cases in
+    let copied : c.in_ok-received.received ≡ c.args.command = c.in_ok-received.ensures.cases in
     rw (c.push_reserved.ensures.items, c.reserve.ensures.items, c.new.ensures, copied)
     (record {
       account = record {
@@ -43,16 +43,16 @@ invariant_of-self-2 g c =
 -- the history after the call is the journal's with the entry, and all that the pass knew begins the journal's
 pub returns-clause-answered : goal.returns-clause-answered
 returns-clause-answered g c =
-    let e = entry_of c.args.command.now c.in_ok-answer.answer in
+    let e = entry_of c.args.command c.in_ok-answer.answer in
     let j = c.args.locked.now.journal in
     let after = c.in_ok-answer.after in
     let number = ap (λ (x : Entry). x.number) c.in_ok-answer.ensures.entry in
     let whole : length after ≡ e.number =
     omega (arith, number, ap length c.in_ok-answer.ensures.history, length-append j.entries (e ∷ [])) in
     let earlier = prefix_length c.self.inside.seen j.entries c.in_ok-answer.ensures.seen in
-    let last : after ≡ j.entries ++ next_entry j c.args.command.now ∷ [] =
+    let last : after ≡ j.entries ++ next_entry j c.args.command ∷ [] =
     c.in_ok-answer.ensures.history ∙ ap (λ (x : Entry). j.entries ++ x ∷ []) c.in_ok-answer.ensures.entry in
-    let copied : c.in_ok-packed.packed ≡ c.args.command.now = c.in_ok-packed.ensures.cases in
+    let copied : c.in_ok-received.received ≡ c.args.command = c.in_ok-received.ensures.cases in
     record {
       later = omega (arith, number, earlier, ap (λ (k : Knowledge). k.account.seen) c.self.view_is);
       receipt = rw (
@@ -67,7 +67,7 @@ returns-clause-answered g c =
       history = record {
         before = j.entries;
         legal = subst (λ (n : ℕ). IsHistory n after) c.len-held.ensures.day
-            (subst (IsHistory j.book.periods) (sym last) (history-after j c.args.command.now c.len-held.ensures.valid c.requires.not_full));
+            (subst (IsHistory j.book.periods) (sym last) (history-after j c.args.command c.len-held.ensures.valid c.requires.not_full));
         last = c.in_ok-answer.ensures.history;
         number = sym whole;
         seen = subst (λ (k : Knowledge). IsPrefix k.history j.entries) c.self.view_is c.in_ok-answer.ensures.seen;
