@@ -126,11 +126,27 @@ def check_paths(office, counts):
 
 
 def check_messages(office, counts):
+    """Requests that aren't one, are malformed, ask for something odd, or have no end; and answers that aren't read."""
+    check_malformed_requests(office, counts)
+    check_expectations(office, counts)
+    check_log_of_requests(office, counts)
+    check_names(office, counts)
+    check_endless_requests(office, counts)
+    check_unread_answers(office, counts)
+    check_large_bodies(office, counts)
+    counts.check("nothing was entered", office.client_of(office.who[0]).next(office.day) == 1)
+
+
+def first_path_and_token(office, place=0):
+    """The path of the first command of a participant, and the header with its token."""
+    who = office.who[place]
+    return f"/days/{office.day}/commands/{who}/1", f"Authorization: Bearer {office.tokens[who]}"
+
+
+def check_malformed_requests(office, counts):
     """What is no request, or would be two."""
-    who = office.who[0]
-    path = f"/days/{office.day}/commands/{who}/1"
-    token = f"Authorization: Bearer {office.tokens[who]}"
-    body = f"cancel,{who},A,,,,,,".encode()
+    path, token = first_path_and_token(office)
+    body = f"cancel,{office.who[0]},A,,,,,,".encode()
     both = ["Transfer-Encoding: chunked", token, "Content-Type: text/csv"]
     for words, status, data in (
         ("garbage", 400, b"\x16\x03\x01garbage\r\n\r\n"),
@@ -152,11 +168,20 @@ def check_messages(office, counts):
     for odd in (": x", ": -9"):  # it comes before the length
         answer = send_and_read_answer(office, request_bytes("PUT", path, [token, "Content-Type: text/csv", odd], body))
         counts.check(f"a length behind {odd} is refused: {status_or_none(answer)}", status_or_none(answer) == 400)
+
+
+def check_expectations(office, counts):
+    path, token = first_path_and_token(office)
     answer = send_and_read_answer(office, request_bytes("GET", "/days", ["Expect: <script>alert(1)</script>"]))
     counts.check("an expectation isn't said again", status_or_none(answer) == 200 and b"<script>" not in answer)
     for method, odd in ("GET", "/nothing"), ("DELETE", "/days"):
         answer = send_and_read_answer(office, request_bytes(method, odd, ["Expect: <script>alert(1)</script>"]))
         counts.check(f"nor at {method} {odd}", status_or_none(answer) in (404, 405) and b"<script>" not in answer)
+    answer = send_and_read_answer(office, request_bytes("PUT", path, [token, "Expect: 100-continue", "Content-Type: text/csv"], b"cancel"))
+    counts.check("a client that waits may go on", answer.startswith(b"HTTP/1.1 100 Continue\r\n\r\nHTTP/1.1 400 "))
+
+
+def check_log_of_requests(office, counts):
     before_log = len(office.log.read_bytes())
     send_and_read_answer(office, b"GET http://[INJECTED]/days HTTP/1.1\r\nHost: x\r\n\r\n", wait=False)
     counts.check("a request's words aren't in the log", b"INJECTED" not in office.log.read_bytes()[before_log:])
@@ -166,13 +191,13 @@ def check_messages(office, counts):
     counts.check("nor requests for another protocol", b"defect" not in office.log.read_bytes()[before_log:])
     send_and_read_answer(office, request_bytes("GET", "/days"), wait=False)
     counts.check("a client that ends before its answer isn't a defect", b"defect" not in office.log.read_bytes()[before_log:])
-    check_names(office, counts)
-    answer = send_and_read_answer(office, request_bytes("PUT", path, [token, "Expect: 100-continue", "Content-Type: text/csv"], b"cancel"))
-    counts.check("a client that waits may go on", answer.startswith(b"HTTP/1.1 100 Continue\r\n\r\nHTTP/1.1 400 "))
-    bomb = gzip.compress(bytes(300 << 20))
-    other = office.who[1]  # whose rate this uses up
-    headers = [f"Authorization: Bearer {office.tokens[other]}", "Content-Encoding: gzip", "Content-Type: text/csv"]
-    data = request_bytes("PUT", f"/days/{office.day}/commands/{other}/1", headers, bomb)
+
+
+def check_endless_requests(office, counts):
+    """A body that is a bomb, and requests and chunks without end: they take no memory, and hold up nobody."""
+    path, token = first_path_and_token(office, 1)  # of another participant, whose rate this uses up
+    headers = [token, "Content-Encoding: gzip", "Content-Type: text/csv"]
+    data = request_bytes("PUT", path, headers, gzip.compress(bytes(300 << 20)))
     before = read_peak_memory(office)
     counts.check("a body that is a bomb is refused", status_or_none(send_and_read_answer(office, data)) == 400)
     counts.check("a body that is a bomb takes no memory", read_peak_memory(office) - before < 50 << 10)
@@ -180,8 +205,10 @@ def check_messages(office, counts):
     counts.check(
         "requests without end aren't answered, and take no memory", len(many) < 10 << 20 and read_peak_memory(office) - before < 100 << 10
     )
+    path, token = first_path_and_token(office)
     chunks = b"".join(b"1000\r\n" + b"a" * 4096 + b"\r\n" for _ in range(400)) + b"0\r\n\r\n"
-    answer = send_and_read_answer(office, request_bytes("PUT", path, both) + chunks)
+    chunked = request_bytes("PUT", path, ["Transfer-Encoding: chunked", token, "Content-Type: text/csv"])
+    answer = send_and_read_answer(office, chunked + chunks)
     counts.check("a body without a length isn't read", status_or_none(answer) == 400)
     with contextlib.ExitStack() as stack:
         for _ in range(20):
@@ -190,6 +217,9 @@ def check_messages(office, counts):
                 one.sendall(request_bytes("GET", "/days", ["Transfer-Encoding: chunked"]) + b"1\r\na\r\n" * 90_000)
         began = time.monotonic()
         counts.check("tiny chunks hold up nobody", office.send_request("/days")[0] == 200 and time.monotonic() - began < 3)
+
+
+def check_unread_answers(office, counts):
     before = read_peak_memory(office)
     with contextlib.ExitStack() as stack:
         for _ in range(6):
@@ -202,9 +232,12 @@ def check_messages(office, counts):
             f"answers that aren't read keep no memory: {read_peak_memory(office) - before} KiB",
             read_peak_memory(office) - before < 30 << 10,
         )
+
+
+def check_large_bodies(office, counts):
+    path, token = first_path_and_token(office)
     counts.check("a body of 2 MB is refused", send_and_read_status(office, "PUT", path, [token], b"a" * (2 << 20)) == 413)
     counts.check("without a token it isn't read", send_and_read_status(office, "PUT", path, [], b"a" * (2 << 20)) == 401)
-    counts.check("nothing was entered", office.client_of(who).next(office.day) == 1)
 
 
 def check_names(office, counts):
