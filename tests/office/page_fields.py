@@ -38,6 +38,17 @@ PASTE = """{ const clipboardData = new DataTransfer(); const place = cells()[%d]
 async def check_faults(page, counts, pictures):
     """A wrong field is reported in the trader's units at the field, and nothing is sent."""
     before = len(await read_cells(page, "commands-table"))
+    await check_faults_at_fields(page, counts)
+    await click(page, "input[value=block]")
+    await check_faults_of_block(page, counts)
+    await check_unfilled_volumes(page, counts)
+    await check_faults_of_grid(page, counts)
+    await check_shown_faults(page, counts, pictures)
+    await page.evaluate("change(null)")
+    counts.check("a wrong field sends nothing", len(await read_cells(page, "commands-table")) == before)
+
+
+async def check_faults_at_fields(page, counts):
     counts.check("right values are right", await page.evaluate(RIGHT) == "400000 -50000 1250 1 99999 - ABCDEFGHIJ-9 ")
     await click(page, "input[value=hour]")
     counts.check(
@@ -56,7 +67,9 @@ async def check_faults(page, counts, pictures):
     await type_into(page, "name", "NEW")
     gone = await page.evaluate("[byId('name-fault').textContent, byId('message').textContent, byId('name').ariaInvalid]")
     counts.check(f"a fault goes when its field is changed: {gone}", gone == ["", "", None])
-    await click(page, "input[value=block]")
+
+
+async def check_faults_of_block(page, counts):
     wrong = [("group", "G_1", "1 to 12 of the characters"), ("group", "EVENING-PEAK-1", "14 characters")]
     for name, words, fault in (*wrong, ("fill-volume", "0", "from 0.1 to 9999.9 MW")):
         await type_into(page, name, words)
@@ -64,6 +77,10 @@ async def check_faults(page, counts, pictures):
         is_marked, told = await page.evaluate(MARKED % name)
         counts.check(f"{name} {words} is told at its field: {told}", is_marked == "true" and fault in told)
     await type_into(page, "group", "")
+
+
+async def check_unfilled_volumes(page, counts):
+    """A volume for several periods that isn't filled in yet, or can't be."""
     await choose(page, "fill-volume", 30)
     await choose(page, "fill-from", 11)
     await choose(page, "fill-to", 12)
@@ -87,6 +104,10 @@ async def check_faults(page, counts, pictures):
     told = await read_text(page, "fill-fault")
     counts.check(f"also if its periods are the wrong way round: {told}", told == "Period 11 is after period 10: 30 MW isn't filled in.")
     await choose(page, "fill-volume", "")
+
+
+async def check_faults_of_grid(page, counts):
+    """A volume of a period, and cells of a spreadsheet that are pasted."""
     await click(page, "#enter")
     counts.check("a block without volumes", "at least one period" in await read_text(page, "grid-fault"))
     await page.evaluate("cells()[4].focus()")
@@ -104,6 +125,10 @@ async def check_faults(page, counts, pictures):
     pasted, told = await page.evaluate("[cells().map((one) => one.value).join(''), byId('grid-fault').textContent]")
     too_many = "3 volumes from period 23 on go past the last period, 24: nothing is pasted."
     counts.check(f"but not past the last period: {told}", told == too_many and pasted == "12,5")
+
+
+async def check_shown_faults(page, counts, pictures):
+    """Several faults at once, in a picture and on a small screen."""
     await click(page, "#clear")
     await type_into(page, "fill-volume", "5")
     await choose(page, "fill-from", 9)
@@ -122,5 +147,3 @@ async def check_faults(page, counts, pictures):
         "a fault is on a small screen", all([await page.evaluate(ON_SCREEN % name) for name in ("volume", "volume-fault", "message")])
     )
     await page.set_screen_size(1_280, "light")
-    await page.evaluate("change(null)")
-    counts.check("a wrong field sends nothing", len(await read_cells(page, "commands-table")) == before)
