@@ -137,6 +137,8 @@ class LaunchTests(DamCase):
         self.run_and_assert_stale("dam_cli", "high", "left", "low", "right")
         self.at.write("HANDLES", "Handles allowed: Threads.\n")
         self.assertEqual(self.at.run_dam("x"), (0, "words: x\n", ""))
+        os.remove(f"{self.at.top}/HANDLES")
+        self.run_and_assert_stale("dam_cli", "high", "left", "low", "right")
 
     def test_a_removed_source(self):
         self.at.write("crates/low/src/more.rt", "")
@@ -238,6 +240,7 @@ class LaunchTests(DamCase):
             status, out, error = self.at.run_dam(*words, env=lacks)
             self.assertEqual((status, out), (70, ""))
             self.assertIn("there is no python3 on the path", error)
+        self.at.write("HANDLES", "Handles allowed: Threads.\n")
         self.prove_program_and_assert()
         self.assertEqual(self.at.run_dam("x", given="text", env=lacks), (0, "words: x\ntext", ""))
 
