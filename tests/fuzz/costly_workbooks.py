@@ -66,6 +66,14 @@ def rows_of_names(count, first=0):
     return [b"<row>", *(b"<c t='str'><v>%s</v></c>" % each.encode() for each in texts), b"</row>"]
 
 
+def styles_of_fonts(count):
+    """As many fonts and fills as there may be, each with a colour of its own, and a format of each pair."""
+    fonts = "".join(f'<font><color theme="5" tint="0.{at}"/><sz val="11"/></font>' for at in range(count))
+    fills = "".join(f'<fill><patternFill patternType="solid"><fgColor theme="6" tint="0.{at}"/></patternFill></fill>' for at in range(count))
+    formats = "".join(f'<xf fontId="{at % count}" fillId="{at % count}"/>' for at in range(30_000))
+    return f'<styleSheet xmlns="{MAIN[0]}"><fonts>{fonts}</fonts><fills>{fills}</fills><cellXfs>{formats}</cellXfs></styleSheet>'.encode()
+
+
 def conditions(count):
     """Conditional formats that change nothing."""
     return (b"<conditionalFormatting sqref='E2'><cfRule dxfId='%d'/></conditionalFormatting>" % (at % 90 + 300) for at in range(count))
@@ -173,6 +181,7 @@ LARGE = {
     "fractions": ("", lambda: table_workbook(rows_of_small_numbers(299_000), **{STYLES: b"".join(styles_of_formats(1, FRACTION))})),
     "texts of first rows": ("in the first rows of its sheets", lambda: workbook_of_sheets([rows_of_names(16_000)] * 40)),
     "texts like names": (None, lambda: workbook_of_sheets([rows_of_names(16_000, 16_000 * at) for at in range(3)])),
+    "fonts, fills and formats": ("", lambda: table_workbook(rows_of_numbers(spelled_style, 150_000), **{STYLES: styles_of_fonts(20_000)})),
     "fractions, and conditions": ("", lambda: workbook_of_sheet(
         OPEN, rows_of_small_numbers(299_000), b"</sheetData>", *conditions(400_000), b"</worksheet>", **{STYLES: styles_of_conditions(300)})),
     "fractions in first rows": (None, lambda: workbook_of_sheets(

@@ -922,6 +922,43 @@ class Unlike(unittest.TestCase):
         with self.assertRaisesRegex(order_table.BadOrders, said):
             order_table.parse_tables([("", made.workbook_of_sheet(heads, order(2, "K1"), made.CLOSE, **parts))], 24)
 
+    def test_cells_that_a_font_hides(self):
+        """White on white, and the like, symbols in place of letters, or a size that can't be read: as white digits of a format."""
+        fills = "".join(f"<fill>{fill}</fill>" for fill in (
+            "<patternFill patternType='none'/>", "<patternFill patternType='gray125'/>", "<patternFill patternType='solid'><fgColor rgb='FF203040'/><bgColor indexed='64'/></patternFill>",
+            "<patternFill patternType='solid'><fgColor theme='0'/></patternFill>", "<gradientFill><stop><color rgb='FFFFFFFF'/></stop></gradientFill>",
+            "<patternFill patternType='solid'><fgColor theme='1'/></patternFill>", "<patternFill/>", "<patternFill patternType='solid'><fgColor theme='4' tint='0.4'/></patternFill>",
+        ))  # fmt: skip
+        white = "<color rgb='FFFFFFFF'/>"
+        for font, fill, is_hidden in (
+            (white, 0, True), (white, 3, True), (white, 6, True), (white, 1, False), (white, 2, False), (white, 4, False), (white, 5, False), (white, 9, True),
+            ("<color rgb='FEFDF0'/>", 0, True), ("<color theme='0'/>", 0, True), ("<color theme='0' tint='-0.0499'/>", 0, True), ("<color indexed='9'/>", 0, True),
+            ("<color theme=' 0 ' tint='-0.35'/>", 0, False), ("<color rgb='FFEF00FF'/>", 0, False), ("<color theme='1'/>", 0, False), ("<color auto='1'/>", 0, False),
+            ("<color indexed='8'/>", 0, False), ("<color theme='1'/>", 5, True), ("", 5, True), ("<color rgb='00203040'/>", 2, True), ("", 2, False),
+            ("<color theme='4' tint='0.4'/>", 7, True), ("<color theme='4'/>", 7, False), ("<color theme='1' tint='0.99'/>", 0, True),
+            ("<sz val='1'/>", 0, True), ("<sz val='3.5'/>", 0, True), ("<sz val='4'/>", 0, False), ("<sz val='x'/>", 0, False), ("<sz val='8'/>", 2, False),
+            ("<name val='Wingdings'/>", 0, True), ("<sz val='11'/><name val=' SYMBOL '/>", 0, True), ("<name val='Calibri'/><charset val='2'/>", 0, True),
+            ("<name val='Calibri'/><family val='2'/><charset val='0'/>", 0, False),
+        ):  # fmt: skip
+            parts = f"<fonts><font/><font>{font}</font></fonts><fills>{fills}</fills><cellXfs><xf/><xf fontId='1' fillId='{fill}'/></cellXfs>"
+            parts = {made.STYLES: f'<styleSheet xmlns="{made.MAIN[0]}">{parts}</styleSheet>'.encode()}
+            parts[made.SHARED] = f'<sst xmlns="{made.MAIN[0]}"><si><t>8</t></si></sst>'.encode()
+            for letter, name in (("B", "order"), ("E", "price_eur_mwh"), ("F", "periods"), ("I", "group"), ("J", "note")):
+                for kind in ("", ' t="s"', ' t="str"'):
+                    value = 0 if "t=\"s\"" in kind else 8
+                    _, said = self.read(parts, **{letter: f'<c s="1"{kind}><v>{value}</v></c>'})
+                    fault = f"line 2, column {name}: '8' is hidden by the colour, the size or the symbols of its font: clear its formats"
+                    with self.subTest(font, fill=fill, kind=kind, letter=letter):
+                        self.assertEqual(said, fault if is_hidden and letter != "J" else None)
+        heads = made.OPEN.replace(b"<c t='inlineStr'><is><t>group<", b"<c s='1' t='inlineStr'><is><t>group<")
+        parts[made.STYLES] = parts[made.STYLES].replace(b"<name val='Calibri'/>", b"<name val='Wingdings'/>")
+        with self.assertRaisesRegex(order_table.BadOrders, "^line 1, column 9: 'group' is hidden by the colour"):
+            order_table.parse_tables([("", made.workbook_of_sheet(heads, order(2, "K1"), made.CLOSE, **parts))], 24)
+        for form, things in (("<fonts>{}</fonts>", "fonts"), ("<fills>{}</fills>", "fills")):
+            many = f'<styleSheet xmlns="{made.MAIN[0]}">{form.format(f"<{things[:-1]}/>" * 20_001)}</styleSheet>'
+            with self.assertRaisesRegex(order_table.BadOrders, f"it has more than 20,000 {things}"):
+                order_table.parse_tables([("", made.workbook_of_sheet(made.OPEN, order(2, "K1"), made.CLOSE, **{made.STYLES: many.encode()}))], 24)
+
     def test_cells_that_are_shown_from_right_to_left(self):
         """Excel shows 10;20 as 20;10 then, but not if only the columns of the sheet go from right to left."""
         cells = "".join(f"<xf>{'' if number is None else f'<alignment readingOrder={number}/>'}</xf>" for number in (None, '"0"', '"1"', '"2"', '" 02"'))
@@ -966,6 +1003,8 @@ class Unlike(unittest.TestCase):
         for font, is_read in (
             ("<strike/>", False), ("<b/><strike val='1'/><vertAlign val='baseline'/>", False), ("<vertAlign val='superscript'/><sz val='8'/>", False),
             ("<vertAlign val='subscript'/><strike val='false'/>", False), ("<rFont/><strike val='0'/><u/>", True), ("<vertAlign val='baseline'/>", True),
+            ("<color rgb='FFFFFFFF'/>", False), ("<sz val='1'/>", False), ("<rFont val='Wingdings 2'/>", False), ("<charset val='2'/>", False),
+            ("<b/><color theme='1'/><sz val='11'/><rFont val='Arial'/><family val='2'/><charset val='1'/>", True),
         ):  # fmt: skip
             runs = f"<r><t>9</t></r><r><rPr>{font}</rPr><t>2</t></r>"
             parts = {made.SHARED: f'<sst xmlns="{made.MAIN[0]}"><si>{runs}</si><si><t>92</t></si></sst>'.encode()}

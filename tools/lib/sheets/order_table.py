@@ -8,7 +8,7 @@ from typing import NamedTuple
 
 from ..base import rules, text
 from ..journal import book, fields, journal
-from ..workbooks.cells import Struck, Styled, Uncomputed
+from ..workbooks.cells import Struck, Styled, Uncomputed, Unseen
 from ..workbooks.first_rows import ALIKE
 from . import cell_values, kinds, shapes, sheets
 from .cell_values import BadOrders
@@ -60,7 +60,7 @@ def places_and_unused_or_refuse(line, header, needed, further):
     for at, (name, cell) in enumerate(zip(names, header), 1):
         if name in places or name in further and names.index(name) < at - 1:
             wrong.append(f"line {line}, column {at}: the column {text.quoted(name)} appears twice")
-        elif isinstance(cell, (Struck, Styled, Uncomputed)):
+        elif isinstance(cell, (Struck, Styled, Uncomputed, Unseen)):
             wrong.append(f"line {line}, column {at}: {cell.fault_words()}")
         elif name in ORDER + RESULT:
             places[name] = at - 1

@@ -78,6 +78,13 @@ class Struck(Changed):
     kind, remedy = "struck out", "remove its row, or clear its formats"
 
 
+class Unseen(Changed):
+    """A text or number in the colour of its cell, or in a font of symbols or one that is too small to be read."""
+
+    __slots__ = ()
+    kind, remedy = "hidden by the colour, the size or the symbols of its font", "clear its formats"
+
+
 class Reversed(Changed):
     """A text or number that Excel shows from right to left, so that its parts change places."""
 
@@ -140,6 +147,12 @@ class StruckString(int):
     __slots__ = ()
 
 
+class UnseenString(int):
+    """The number of a shared string whose cell hides it by its font."""
+
+    __slots__ = ()
+
+
 class ReversedString(int):
     """The number of a shared string whose cell is shown from right to left."""
 
@@ -198,8 +211,8 @@ class Kept:
 
 
 # The kinds of cells: before each cell of a packed row stands a half of a character, which no text has, and says its kind.
-NUMBERS_SHOWN = Formatted, Price, Power, Percentage, Changed, Currency, Repeated, Struck, Reversed, Hidden, Rounded, Worded, Shortened
-CELLS = str, int, StyledString, StruckString, ReversedString, Uncomputed, Volatile, Date, *NUMBERS_SHOWN, Styled, Truth
+NUMBERS_SHOWN = Formatted, Price, Power, Percentage, Changed, Currency, Repeated, Struck, Unseen, Reversed, Hidden, Rounded, Worded, Shortened
+CELLS = str, int, StyledString, StruckString, UnseenString, ReversedString, Uncomputed, Volatile, Date, *NUMBERS_SHOWN, Styled, Truth
 HALVES = {kind: chr(0xD800 + at) for at, kind in enumerate(CELLS)}
 PACKED = re.compile("([\ud800-\udfff])([^\ud800-\udfff]*)")
 

@@ -217,8 +217,40 @@ def length_or_refuse(name):
 
 
 # What a font may have: of these, the ones that change what a text means, and others.
-FONT = "strike*|vertAlign*"
-OF_FONTS = {ANY_OTHERS, *"b i condense extend outline shadow u sz color name rFont family charset scheme".split()}
+FONT_PARTS = {"strike", "vertAlign", "color", "sz", "name", "rFont", "charset"}
+FONT = "|".join(f"{name}*" for name in sorted(FONT_PARTS))
+OF_FONTS = {ANY_OTHERS, *"b i condense extend outline shadow u family scheme".split()}
+PAPER, BLACK = "FFFFFF", "000000"
+LEAST_SIZE = 4  # of a font, in points
+SYMBOLS = {
+    "wingdings", "wingdings 2", "wingdings 3", "webdings", "symbol", "marlett", "mt extra", "zapfdingbats", "zapf dingbats",
+    "itc zapf dingbats", "opensymbol", "segoe mdl2 assets", "segoe fluent icons", "bookshelf symbol 7",
+}  # fmt: skip
+OF_SYMBOLS = "2"  # the characters of a font of symbols
+
+
+def colour_or_none(attributes):
+    """A colour, of which all that look white are one; None of the one that a program chooses."""
+    rgb, theme, number = (attributes.get(name, "").strip(BLANK) for name in ("rgb", "theme", "indexed"))
+    if COLOUR.fullmatch(rgb):
+        return PAPER if all(byte >= 0xF0 for byte in bytes.fromhex(rgb[-6:])) else rgb[-6:].upper()
+    tint = attributes.get("tint", "0").strip(BLANK)
+    if theme:
+        change = float(tint) if TINT.fullmatch(tint) else 0
+        is_white = theme == "0" and change >= -0.06 or theme == "1" and change > 0.93
+        return PAPER if is_white else BLACK if theme == "1" and not change else f"theme {theme} {change}"[:40]
+    return PAPER if number in ("1", "9", "65") else BLACK if number in ("0", "8", "64") else f"indexed {number}"[:40] if number else None
+
+
+def is_unreadable(name, attributes):
+    """Whether an element of a font makes it one of symbols, or too small to be read."""
+    value = attributes.get("val", "").strip(BLANK)
+    if name == "sz":
+        return bool(TINT.fullmatch(value)) and float(value) < LEAST_SIZE
+    return value == OF_SYMBOLS if name == "charset" else value.lower() in SYMBOLS
+
+
+COLOUR, TINT = re.compile("(?:[0-9A-Fa-f]{2})?[0-9A-Fa-f]{6}"), re.compile(r"[+-]?[0-9]*\.?[0-9]+(?:[eE][+-]?[0-9]{1,2})?")
 
 
 def strikes_out(attributes):
@@ -245,6 +277,19 @@ class Texts(Part):
     def open_vertAlign(self, attributes):
         """A digit above or below the line is no digit of a number."""
         self.is_marked = self.is_marked or attributes.get("val", "").strip(BLANK) != "baseline"
+
+    def open_color(self, attributes):
+        """A white part of a text isn't seen."""
+        self.is_marked = self.is_marked or colour_or_none(attributes) == PAPER
+
+    def open_sz(self, attributes):
+        self.is_marked = self.is_marked or is_unreadable("sz", attributes)
+
+    def open_rFont(self, attributes):
+        self.is_marked = self.is_marked or is_unreadable("rFont", attributes)
+
+    def open_charset(self, attributes):
+        self.is_marked = self.is_marked or is_unreadable("charset", attributes)
 
     def open_t(self, _):
         around = self.within[-2]

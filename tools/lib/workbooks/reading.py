@@ -103,7 +103,7 @@ class Workbook(Part):
             package.parse_into_or_refuse(part, styles)
         self.formats, self.styled = styles.cell_formats(), styles.styled_formats()
         self.struck, self.conditional, self.has_striking_tables = styles.struck, styles.conditional, styles.has_striking_tables
-        self.from_right = styles.from_right
+        self.from_right, self.unseen = styles.from_right, styles.unseen
 
     def parse_relations(self, owner):
         relations = Relations(owner)

@@ -6,11 +6,11 @@ import re
 
 from ..base import text
 from .cells import Date, Hidden, Kept, Numbers, Reversed, ReversedString, Rows, Struck, StruckString, Styled, StyledString, Truth
-from .cells import Uncomputed, Volatile, changes_from_right, column_name, column_number, trimmed, unescaped
+from .cells import Uncomputed, Unseen, UnseenString, Volatile, changes_from_right, column_name, column_number, trimmed, unescaped
 from .formulas import has_name, has_volatile_function
 from .limits import LAST_COLUMN, LAST_ROW, MOST_CELLS, MOST_ELEMENTS, MOST_OF_FORMULAS, MOST_TEXT, BadWorkbook
 from .limits import broken_error, memory_size, too_many_error
-from .part import ANY_OTHERS, EXTENSIONS, FONT, OF_FONTS, TRUTHS, Texts, strikes_out, truth_word_or_none, unsigned_number_or_none
+from .part import ANY_OTHERS, EXTENSIONS, FONT, FONT_PARTS, OF_FONTS, TRUTHS, Texts, strikes_out, truth_word_or_none, unsigned_number_or_none
 from .styles import A_NUMBER_FORMAT, A_STRIKING_FONT, digits_text, general_text
 
 NUMBER = re.compile(r"[+-]?(?:[0-9]+(?:\.[0-9]*)?|\.[0-9]+)(?:[eE][+-]?[0-9]{1,3})?")
@@ -40,7 +40,7 @@ class Strings(Texts):
     ROOT = "sst"
     PLACES = {"": ROOT, ROOT: "si* extLst", "si": Texts.TEXT, "r": Texts.RUN, "rPr": FONT, "rPh": Texts.PRONOUNCED}
     BETWEEN = {"rPr": OF_FONTS}
-    ELSEWHERE = {"rPr", "strike", "vertAlign"}
+    ELSEWHERE = {"rPr", *FONT_PARTS}
 
     def __init__(self, needed):
         super().__init__()
@@ -94,7 +94,7 @@ class Sheet(Texts):
         "sheetView": {ANY_OTHERS, *"pane selection pivotSelection".split()},
         "conditionalFormatting": {ANY_OTHERS}, "cfRule": {ANY_OTHERS, *"formula colorScale".split()},
         **dict.fromkeys(["dataBar", "iconSet"], {ANY_OTHERS, "cfvo", "color"}), "rPr": OF_FONTS}  # fmt: skip
-    ELSEWHERE = {"dataBar", "iconSet", "rPr", "strike", "vertAlign"}
+    ELSEWHERE = {"dataBar", "iconSet", "rPr", *FONT_PARTS}
 
     def __init__(self, name, part, book, most):
         super().__init__()
@@ -237,9 +237,9 @@ class Sheet(Texts):
         if kind == "s":
             if not WHOLE.fullmatch(value) or not 0 <= int(value) < MOST_ELEMENTS:
                 raise self.error_of(f"it has no string {text.quoted(value)}")
-            return self.text_kind_or_refuse(int, StyledString, StruckString, ReversedString)(value)
+            return self.text_kind_or_refuse(int, StyledString, StruckString, UnseenString, ReversedString)(value)
         if kind in ("str", "inlineStr"):
-            words, of_text = unescaped(value), self.text_kind_or_refuse(str, Styled, Struck, Reversed)
+            words, of_text = unescaped(value), self.text_kind_or_refuse(str, Styled, Struck, Unseen, Reversed)
             return words if of_text is Reversed and not changes_from_right(words) else of_text(words)
         if kind == "e" and value:
             return value
@@ -249,11 +249,13 @@ class Sheet(Texts):
             return Date(found[1])
         raise self.error_of(f"{text.quoted(value)} isn't of its type, {text.quoted(kind)}")
 
-    def text_kind_or_refuse(self, plain, styled, struck, from_right):
-        """Of the kinds of a text, the one that the cell is: shown as it is, in another way, struck out, or from right to left."""
+    def text_kind_or_refuse(self, plain, styled, struck, unseen, from_right):
+        """Of the kinds of a text, the one that the cell is: shown as it is, in another way, struck out, unseen, or from right to left."""
         number = self.style_number_or_refuse()
         if number in self.book.struck:
             return struck
+        if number in self.book.unseen:
+            return unseen
         if self.is_marked or number in self.book.styled:
             return styled
         return from_right if number in self.book.from_right else plain
@@ -382,6 +384,8 @@ def shared_text(cell, words, is_marked):
     """The text of a cell with a shared string."""
     if isinstance(cell, StruckString):
         return Struck(words)
+    if isinstance(cell, UnseenString):
+        return Unseen(words)
     if is_marked or isinstance(cell, StyledString):
         return Styled(words)
     return Reversed(words) if isinstance(cell, ReversedString) and changes_from_right(words) else words

@@ -7,9 +7,10 @@ import unicodedata
 from fractions import Fraction
 
 from ..base import text
-from .cells import Changed, Currency, Date, Formatted, Percentage, Power, Price, Repeated, Rounded, Shortened, Struck, Worded
-from .limits import LONGEST_FORMAT, MOST_FORMATS, MOST_OF_FORMATS, MOST_OWN_FORMATS, broken_error, too_many_error
-from .part import ANY_OTHERS, BLANK, FONT, OF_FONTS, Part, strikes_out, unsigned_number_or_none
+from .cells import Changed, Currency, Date, Formatted, Percentage, Power, Price, Repeated, Rounded, Shortened, Struck, Unseen, Worded
+from .limits import LONGEST_FORMAT, MOST_FONTS, MOST_FORMATS, MOST_OF_FORMATS, MOST_OWN_FORMATS, broken_error, too_many_error
+from .part import ANY_OTHERS, BLACK, BLANK, FONT, FONT_PARTS, OF_FONTS, PAPER, Part, colour_or_none, is_unreadable, strikes_out
+from .part import unsigned_number_or_none
 
 # The numbers of Excel's own formats: of all digits, of dates and times, of percentages, of the currency of each system, and of some digits.
 GENERAL_FORMATS, GENERAL_CODES = (0, 49), ("general", "@")
@@ -294,6 +295,7 @@ def format_number_or_refuse(attributes):
     return number
 
 
+PATTERN = ""  # the colour of a fill that has several, or one that isn't told
 FROM_RIGHT = 2  # the reading order of an alignment: from right to left
 
 # Why the format of a condition changes what is shown.
@@ -306,10 +308,13 @@ class Styles(Part):
     ROOT = "styleSheet"
     PLACES = {
         "": ROOT,
-        ROOT: "numFmts fonts cellXfs dxfs tableStyles extLst",
+        ROOT: "numFmts fonts fills cellXfs dxfs tableStyles extLst",
         "numFmts": "numFmt*",
         "fonts": "font*",
         "font": FONT,
+        "fills": "fill*",
+        "fill": "patternFill|gradientFill",
+        "patternFill": "fgColor bgColor",
         "cellXfs": "xf*",
         "xf": "alignment extLst",
         "dxfs": "dxf*",
@@ -318,13 +323,16 @@ class Styles(Part):
         "tableStyle": "tableStyleElement*",
     }
     BETWEEN = {
-        ROOT: {ANY_OTHERS, *"fills borders cellStyleXfs cellStyles colors".split()},
+        ROOT: {ANY_OTHERS, *"borders cellStyleXfs cellStyles colors".split()},
         "xf": {ANY_OTHERS, "protection"},
         "dxf": {ANY_OTHERS, *"fill alignment border protection".split()},
         "fonts": {ANY_OTHERS},
+        "fills": {ANY_OTHERS},
+        "fill": {ANY_OTHERS},
+        "gradientFill": {ANY_OTHERS, "stop"},
         "font": OF_FONTS,
     }
-    ELSEWHERE = {"numFmt", "xf", "alignment", "dxfs", "dxf", "font", "strike", "vertAlign"}
+    ELSEWHERE = {"numFmt", "xf", "alignment", "dxfs", "dxf", "font", *FONT_PARTS, "fill", "patternFill", "gradientFill", "fgColor", "bgColor"}
 
     def __init__(self):
         super().__init__()
@@ -337,6 +345,9 @@ class Styles(Part):
         self.styled = set()  # the numbers of formats that show texts in another way
         self.fonts, self.struck_fonts = 0, set()  # how many fonts there are, and those that strike out
         self.struck = set()  # the formats with one of these
+        self.colours, self.unreadable = {}, set()  # of fonts the colours, and those that can't be read
+        self.fills, self.backgrounds, self.is_solid = 0, {}, False  # how many fills there are, and their colours
+        self.unseen = set()  # the formats that hide texts and numbers by these
         self.conditions, self.conditional = 0, {}  # how many formats of conditions there are, and why some change what is shown
         self.has_striking_tables = False  # whether a style of tables strikes out
 
@@ -365,12 +376,47 @@ class Styles(Part):
     def open_font(self, _):
         if self.within[-2] == "fonts":
             self.fonts += 1
+            if self.fonts > MOST_FONTS:
+                raise too_many_error(MOST_FONTS, "fonts")
 
     def open_strike(self, attributes):
         if strikes_out(attributes) and self.within[-3] == "fonts":
             self.struck_fonts.add(self.fonts - 1)
         elif strikes_out(attributes):
             self.conditional[self.conditions - 1] = A_STRIKING_FONT
+
+    def open_color(self, attributes):
+        colour = colour_or_none(attributes)
+        if self.within[-3] == "fonts" and colour:
+            self.colours[self.fonts - 1] = colour
+
+    def open_sz(self, attributes):
+        if self.within[-3] == "fonts" and is_unreadable(self.within[-1], attributes):
+            self.unreadable.add(self.fonts - 1)
+
+    open_name = open_charset = open_sz
+
+    def open_fill(self, _):
+        self.fills += 1
+        if self.fills > MOST_FONTS:
+            raise too_many_error(MOST_FONTS, "fills")
+
+    def open_patternFill(self, attributes):
+        pattern = attributes.get("patternType", "none").strip(BLANK)
+        self.is_solid = pattern == "solid"
+        if pattern != "none":
+            self.backgrounds[self.fills - 1] = PATTERN
+
+    def open_gradientFill(self, _):
+        self.backgrounds[self.fills - 1] = PATTERN
+
+    def open_fgColor(self, attributes):
+        if self.is_solid:
+            self.backgrounds[self.fills - 1] = colour_or_none(attributes) or PATTERN
+
+    def hides_by_font(self, font, fill):
+        """Whether the font of a format can't be read, or has the colour of its fill."""
+        return font in self.unreadable or self.colours.get(font, BLACK) == self.backgrounds.get(fill, PAPER)
 
     def open_dxf(self, _):
         self.conditions += 1
@@ -381,8 +427,11 @@ class Styles(Part):
         self.has_striking_tables = self.has_striking_tables or kind == A_STRIKING_FONT
 
     def open_xf(self, attributes):
-        if unsigned_number_or_none(attributes.get("fontId", "0")) in self.struck_fonts:
+        font, fill = (unsigned_number_or_none(attributes.get(name, "0")) for name in ("fontId", "fillId"))
+        if font in self.struck_fonts:
             self.struck.add(len(self.formats))
+        if self.hides_by_font(font, fill):
+            self.unseen.add(len(self.formats))
         self.formats.append(format_number_or_refuse(attributes))
         if len(self.formats) > MOST_FORMATS:
             raise too_many_error(MOST_FORMATS, "formats of cells")
@@ -395,7 +444,7 @@ class Styles(Part):
             self.from_right.add(len(self.formats) - 1)
 
     def cell_formats(self):
-        made = [Struck if at in self.struck else self.shown.get(number, Formatted) for at, number in enumerate(self.formats)]
+        made = [Struck if at in self.struck else Unseen if at in self.unseen else self.shown.get(number, Formatted) for at, number in enumerate(self.formats)]
         return [Repeated if at in self.filled and shown not in (Date, Percentage) else shown for at, shown in enumerate(made)]
 
     def styled_formats(self):
