@@ -12,7 +12,6 @@ use Rattle.dam_blocks.specs.Eligible.{IsEligible}
 use Rattle.dam_bound.specs.Relaxed.{without_rows}
 use Rattle.dam_bound.specs.NetLimits.{AreLimits}
 use Rattle.dam_bound.specs.declared.net_limits.NetLimit.{NetLimit}
-use Rattle.dam_bound.specs.declared.net_limits.NetLimits.{NetLimits}
 use Rattle.dam_search.specs.declared.conflicts.Conflicts.{Conflicts}
 use Rattle.dam_search.specs.inside.Conflicts.{AcceptsAll, AcceptsNone, Needs, IsNeededBy, Excludes, AreConflicts, IsSetOf, are_two_of_group, is_other_of_group}
 use Rattle.dam_search.proofs.Sets.{accepts-none, passes_test}
@@ -62,15 +61,14 @@ nothing_accepted j n found e on =
 
 pub no_conflicts : (problem : ProblemState) (conflicts : Conflicts) → conflicts.needs ≡ replicate most_blocks empty_selection
     → conflicts.needed_by ≡ replicate most_blocks empty_selection → conflicts.excludes ≡ replicate most_blocks empty_selection
-    → AreLimits problem conflicts.limits.limits → AreConflicts problem conflicts
-no_conflicts problem conflicts e f h limits = record {
+    → AreConflicts problem conflicts
+no_conflicts problem conflicts e f h = record {
   needs = λ place places at selection w eligible on j among.
       absurd (nothing_accepted j place places (ap (λ (rs : List (List Bool)). slice_get rs place) (sym e) ∙ at) among);
   needed_by = λ place places at selection w eligible j among on.
       absurd (nothing_accepted j place places (ap (λ (rs : List (List Bool)). slice_get rs place) (sym f) ∙ at) among);
   excludes = λ place places at selection w eligible on j among.
       absurd (nothing_accepted j place places (ap (λ (rs : List (List Bool)). slice_get rs place) (sym h) ∙ at) among);
-  limits = limits;
 }
 
 -- ---- the rows of one block more
@@ -171,9 +169,9 @@ pub conflicts_more : ConflictLaws → (problem : ProblemState) (blocks : List Bl
     → IsSetOf (length blocks) (λ at. descends blocks place at) descendants
     → Excludes problem place others
     → after.needs ≡ slice_set before.needs place ancestors → after.needed_by ≡ slice_set before.needed_by place descendants
-    → after.excludes ≡ slice_set before.excludes place others → after.limits ≡ before.limits
+    → after.excludes ≡ slice_set before.excludes place others
     → AreConflicts problem before → AreConflicts problem after
-conflicts_more laws problem blocks before after place ancestors descendants others is same a d o e f h kept are = record {
+conflicts_more laws problem blocks before after place ancestors descendants others is same a d o e f h are = record {
   needs = one_row_more (Needs problem) before.needs after.needs place ancestors e
       (needs_ancestors laws problem place ancestors is
       (subst (λ (bs : List Block). IsSetOf (length bs) (λ at. descends bs at place) ancestors) same a)) are.needs;
@@ -181,7 +179,6 @@ conflicts_more laws problem blocks before after place ancestors descendants othe
       (needed_by_descendants laws problem place descendants is
       (subst (λ (bs : List Block). IsSetOf (length bs) (λ at. descends bs place at) descendants) same d)) are.needed_by;
   excludes = one_row_more (Excludes problem) before.excludes after.excludes place others h o are.excludes;
-  limits = subst (λ (l : NetLimits). AreLimits problem l.limits) (sym kept) are.limits;
 }
 
 -- ---- what a row forbids

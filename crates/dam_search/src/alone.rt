@@ -55,11 +55,13 @@ fn search_alone_priced<P: PricedProblem>(
         return search_alone_by_walk(problem, prefix_walk, first_welfare, nodes);
     }
     let conflicts = &Conflicts::of(problem, priced);
+    let limits = &priced.net_limits();
     let order = &decision_order(alloc, problem, 0)?;
     let price_walk = &PriceWalk {
         problem,
         priced,
         conflicts,
+        limits,
         depth: 0,
         order,
     };

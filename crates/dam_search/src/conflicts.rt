@@ -9,11 +9,11 @@ ghost use Rattle.dam_search.specs.inside.Conflicts.{AcceptsAll, AcceptsNone, Are
 use crate::priced_problem::PricedProblem;
 use dam_blocks::{Block, Problem, Selection, are_of_one_group};
 use dam_book::MOST_BLOCKS;
-use dam_bound::{NetLimits, ancestors_of, descendants_of};
+use dam_bound::{ancestors_of, descendants_of};
 use std::alloc::Allocator;
 
-/// Decisions that rule each other out, by links, by exclusive groups, by prices and by net volumes. A search asks
-/// for them at each of its nodes, so they are made once, as sets of places and as limits.
+/// Decisions that rule each other out, by links, by exclusive groups and by prices. A search asks for them at each of its
+/// nodes, so they are made once, as sets of places.
 #[derive(Drop)]
 pub(crate) struct Conflicts {
     /// For each block those that it descends from. It can't be accepted without them.
@@ -22,12 +22,10 @@ pub(crate) struct Conflicts {
     needed_by: [Selection; MOST_BLOCKS],
     /// For each block the others of its exclusive group, and its rivals by prices. They can't be accepted with it.
     excludes: [Selection; MOST_BLOCKS],
-    /// Limits on the net volumes of eligible selections.
-    pub(crate) limits: NetLimits,
 }
 
 impl Conflicts {
-    /// The conflicts of a problem's blocks. The priced problem says which blocks are rivals, and has the limits.
+    /// The conflicts of a problem's blocks. The priced problem says which blocks are rivals.
     pub(crate) fn of<A: Allocator, P: PricedProblem>(problem: &Problem<A>, priced: &P) -> Conflicts
         requires { P.problem priced.now ≡ without_rows problem.now }
         ensures { AreConflicts problem.now result }
@@ -38,7 +36,6 @@ impl Conflicts {
             needs: [Selection::none(); MOST_BLOCKS],
             needed_by: [Selection::none(); MOST_BLOCKS],
             excludes: [Selection::none(); MOST_BLOCKS],
-            limits: priced.net_limits(),
         };
         for place in 0..blocks.len() {
             conflicts.needs[place] = ancestors_of(blocks, place);

@@ -36,6 +36,7 @@ mod priced_problem;
 mod root;
 mod view;
 mod walk_state;
+mod welfare;
 mod whole_search;
 mod words;
 mod worker;

@@ -7,6 +7,7 @@ ghost use Rattle.dam_blocks.specs.Selection.{accepts, choice};
 ghost use Rattle.dam_blocks.specs.Eligible.{IsEligible};
 ghost use Rattle.dam_bound.specs.Relaxed.{without_rows};
 ghost use Rattle.dam_bound.specs.Open.{IsOpen};
+ghost use Rattle.dam_bound.specs.NetLimits.{AreLimits};
 ghost use Rattle.dam_search.specs.Piece.{IsMatched, Rises, welfare_found, IsSound};
 ghost use Rattle.dam_search.specs.inside.Conflicts.{AcceptsAll, AcceptsNone, AreConflicts, IsSetOf};
 ghost use Rattle.dam_search.specs.inside.PriceWalk.{IsNode, IsBounded, IsReady, IsSlack, IsWalkedOpen, IsDecisionOrder, with_place_if};
@@ -20,8 +21,9 @@ use crate::piece_walk::PieceWalk;
 use crate::priced_problem::PricedProblem;
 use crate::root::{slack_of_piece, write_pricing_of_piece};
 use crate::walk_state::{WalkState, bound_equals, bound_reaches, ranks_above_found};
+use crate::welfare::{signed_welfare, solution_of};
 use dam_blocks::{Problem, Selection, Solution, admissible, ranks_above};
-use dam_bound::{ClassPrices, Pricing, Slack};
+use dam_bound::{ClassPrices, NetLimits, Pricing, Slack};
 use dam_plan::Nodes;
 use std::alloc::Allocator;
 
@@ -34,18 +36,21 @@ pub(crate) struct PriceWalk<'a, A: Allocator, P: PricedProblem> {
     pub(crate) problem: &'a Problem<A>,
     pub(crate) priced: &'a P,
     pub(crate) conflicts: &'a Conflicts,
+    /// Limits on the net volumes of eligible selections.
+    pub(crate) limits: &'a NetLimits,
     /// The depth of the cutting.
     pub(crate) depth: usize,
     /// The places from the depth on, in the order in which they are decided.
     pub(crate) order: &'a [u8],
     ghost same: { P.problem priced.now ≡ without_rows problem.now },
     ghost are_conflicts: { AreConflicts problem.now conflicts.now },
+    ghost are_limits: { AreLimits (P.problem priced.now) limits.now.limits },
     ghost is_order: { IsDecisionOrder depth (length problem.now.blocks) order.now },
 }
 
 /// The selection with its welfare, if that is at least the value read and the selection, if it is eligible, is the best
 /// so far. The welfare of an eligible selection is never below 0.
-fn better_than_found(selection: Selection, welfare: i64, found: &WalkState) -> Option<Solution>
+fn solution_if_better(selection: Selection, welfare: i64, found: &WalkState) -> Option<Solution>
     ensures none { IfNone result
         ((welfare <ℤ pos found.now.incumbent_read) ⊎ IsMatched welfare selection found.now.best) }
     ensures some { IfSome result (λ b. (b.selection ≡ selection) × (pos b.welfare ≡ welfare)
@@ -54,10 +59,7 @@ fn better_than_found(selection: Selection, welfare: i64, found: &WalkState) -> O
     if welfare < 0 {
         return None;
     }
-    let best = Solution {
-        selection,
-        welfare: welfare as u64,
-    };
+    let best = solution_of(selection, welfare);
     if found.incumbent_read <= best.welfare && ranks_above_found(&best, &found.best) {
         Some(best)
     } else {
@@ -120,13 +122,13 @@ impl<A: Allocator, P: PricedProblem> PriceWalk<'_, A, P> {
         let Some(welfare) = self.priced.clear_selection(
             selection,
             pricing,
-            found.incumbent_read as i64,
+            signed_welfare(found.incumbent_read),
             &mut prices,
         )
         else {
             return;
         };
-        let Some(best) = better_than_found(selection, welfare, found) else {
+        let Some(best) = solution_if_better(selection, welfare, found) else {
             return;
         };
         if !admissible(self.problem, selection) {
@@ -163,7 +165,7 @@ impl<A: Allocator, P: PricedProblem> PriceWalk<'_, A, P> {
         requires node { IsNode node.now.accepted node.now.rejected node.now.left.now }
         requires bounded { IsBounded (P.problem self.now.priced.now) node.now.pricing.now
             node.now.accepted node.now.left.now node.now.bound }
-        requires slack { IsSlack self.now.problem.now self.now.conflicts.now.limits.limits
+        requires slack { IsSlack self.now.problem.now self.now.limits.now.limits
             node.now.accepted node.now.left.now node.now.slack.now }
         requires ready { IsReady
             (I.greatest_read incumbent.old) (I.greatest_offer incumbent.old) found.old }
@@ -195,7 +197,7 @@ impl<A: Allocator, P: PricedProblem> PriceWalk<'_, A, P> {
         requires node { IsNode node.now.accepted node.now.rejected node.now.left.now }
         requires bounded { IsBounded (P.problem self.now.priced.now) node.now.pricing.now
             node.now.accepted node.now.left.now node.now.bound }
-        requires slack { IsSlack self.now.problem.now self.now.conflicts.now.limits.limits
+        requires slack { IsSlack self.now.problem.now self.now.limits.now.limits
             node.now.accepted node.now.left.now node.now.slack.now }
         requires reached { (pos found.old.incumbent_read ≤ℤ node.now.bound) × (found.old.incumbent_read < 2 ^ 63) }
         requires ready { IsReady
@@ -236,7 +238,7 @@ impl<A: Allocator, P: PricedProblem> PriceWalk<'_, A, P> {
         requires node { IsNode node.now.accepted node.now.rejected node.now.left.now }
         requires bounded { IsBounded (P.problem self.now.priced.now) node.now.pricing.now
             node.now.accepted node.now.left.now node.now.bound }
-        requires slack { IsSlack self.now.problem.now self.now.conflicts.now.limits.limits
+        requires slack { IsSlack self.now.problem.now self.now.limits.now.limits
             node.now.accepted node.now.left.now node.now.slack.now }
         requires reached { (pos found.old.incumbent_read ≤ℤ node.now.bound) × (found.old.incumbent_read < 2 ^ 63) }
         requires ready { IsReady
@@ -274,7 +276,7 @@ impl<A: Allocator, P: PricedProblem> PriceWalk<'_, A, P> {
         requires node { IsNode node.now.accepted node.now.rejected node.now.left.now }
         requires bounded { IsBounded (P.problem self.now.priced.now) node.now.pricing.now
             node.now.accepted node.now.left.now node.now.bound }
-        requires slack { IsSlack self.now.problem.now self.now.conflicts.now.limits.limits
+        requires slack { IsSlack self.now.problem.now self.now.limits.now.limits
             node.now.accepted node.now.left.now node.now.slack.now }
         requires reached { pos 0 ≤ℤ node.now.bound }
         requires ready { IsReady
@@ -289,8 +291,7 @@ impl<A: Allocator, P: PricedProblem> PriceWalk<'_, A, P> {
         if self.forbids(node, place, accept) {
             return;
         }
-        let limits = &self.conflicts.limits;
-        let Some(slack) = limits.slack_after(node.slack, place, accept) else {
+        let Some(slack) = self.limits.slack_after(node.slack, place, accept) else {
             return;
         };
         let gain = node.pricing.gains[place];
@@ -338,7 +339,7 @@ impl<A: Allocator, P: PricedProblem> PriceWalk<'_, A, P> {
         if !admissible(self.problem, accepted) {
             return PieceAnswer::nothing_in(piece);
         }
-        let Some(slack) = slack_of_piece(&self.conflicts.limits, accepted, self.depth) else {
+        let Some(slack) = slack_of_piece(self.limits, accepted, self.depth) else {
             return PieceAnswer::nothing_in(piece);
         };
         let mut pricing = Pricing::placeholder();

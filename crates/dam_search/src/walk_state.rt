@@ -1,6 +1,7 @@
 ghost use Rattle.std.specs.Prelude.{◌≡◌, pos, Some, IsTrue, ◌↔◌, ◌≤ℤ◌, MatchBool};
 ghost use Rattle.dam_search.specs.Piece.{IsMatched, Rises};
 
+use crate::welfare::unsigned_welfare;
 use dam_blocks::{Solution, ranks_above};
 use dam_plan::Nodes;
 
@@ -29,12 +30,12 @@ pub(crate) fn ranks_above_found(candidate: &Solution, best: &Option<Solution>) -
 pub(crate) fn bound_reaches(bound: i64, value: u64) -> bool
     ensures { IsTrue result ↔ (pos value ≤ℤ bound) }
 {
-    bound >= 0 && value <= bound as u64
+    bound >= 0 && value <= unsigned_welfare(bound)
 }
 
 /// Whether the bound equals the value.
 pub(crate) fn bound_equals(bound: i64, value: u64) -> bool
     ensures { IsTrue result ↔ (bound ≡ pos value) }
 {
-    bound >= 0 && bound as u64 == value
+    bound >= 0 && unsigned_welfare(bound) == value
 }

@@ -1,6 +1,6 @@
 //! The search by several workers. `alone` has the same on the calling thread.
 
-ghost use Rattle.std.specs.Prelude.{◌≡◌, min, true, length};
+ghost use Rattle.std.specs.Prelude.{◌≡◌, min, length};
 ghost use Rattle.dam_bound.specs.Relaxed.{without_rows};
 ghost use Rattle.dam_search.specs.Answer.{IsReached};
 ghost use Rattle.dam_search.specs.Search.{IsSearched};
@@ -21,34 +21,17 @@ use dam_plan::{Plan, Turnstile};
 use std::alloc::Global;
 use std::thread::Threads;
 
-/// The result of the walk's problem, if this welfare is offered before any worker starts.
+/// The result of the task's problem.
 fn search_by_walk<R: Threads + Sync, W: PieceWalk + Sync, T: Turnstile + Sync>(
     rt: &R,
-    alloc: Global,
-    problem: &Problem,
-    walk: &W,
-    depth: usize,
-    plan: Plan,
-    first_welfare: u64,
+    task: &Task<W>,
     turnstile: &T,
 ) -> Result<Solution, SearchFault>
-    requires same { W.problem walk.now ≡ problem.now }
-    requires depth { depth ≡ min plan.cut (length problem.now.blocks) }
-    requires suits { W.suits walk.now depth plan.nodes ≡ true }
-    requires reached { IsReached problem.now first_welfare }
-    ensures { IsSearched problem.now depth plan.nodes result }
+    requires reached { IsReached task.now.problem.now task.now.first_welfare }
+    ensures { IsSearched task.now.problem.now task.now.depth task.now.nodes result }
 {
-    let task = Task {
-        alloc,
-        problem,
-        walk,
-        depth,
-        nodes: plan.nodes(),
-        workers: plan.workers(),
-        first_welfare,
-    };
-    let walked = walk_all_pieces(rt, &task, turnstile)?;
-    collected(problem, task.depth, task.nodes, &walked.answers)
+    let walked = walk_all_pieces(rt, task, turnstile)?;
+    collected(task.problem, task.depth, task.nodes, &walked.answers)
 }
 
 /// The result of the problem, by the walk that suits the plan.
@@ -65,39 +48,42 @@ fn search_priced<R: Threads + Sync, P: PricedProblem + Sync, T: Turnstile + Sync
 {
     let first_welfare = first_selection(problem, priced).welfare;
     let depth = plan.depth(problem.block_count());
-    if limit_can_bind(problem, depth, plan.nodes()) {
+    let (nodes, workers) = (plan.nodes(), plan.workers());
+    if limit_can_bind(problem, depth, nodes) {
         let relaxed = &Relaxed::build(alloc, problem)?;
         let prefix_walk = &PrefixWalk { problem, relaxed };
-        return search_by_walk(
-            rt,
+        let task = Task {
             alloc,
             problem,
-            prefix_walk,
+            walk: prefix_walk,
             depth,
-            plan,
+            nodes,
+            workers,
             first_welfare,
-            turnstile,
-        );
+        };
+        return search_by_walk(rt, &task, turnstile);
     }
     let conflicts = &Conflicts::of(problem, priced);
+    let limits = &priced.net_limits();
     let order = &decision_order(alloc, problem, depth)?;
     let price_walk = &PriceWalk {
         problem,
         priced,
         conflicts,
+        limits,
         depth,
         order,
     };
-    search_by_walk(
-        rt,
+    let task = Task {
         alloc,
         problem,
-        price_walk,
+        walk: price_walk,
         depth,
-        plan,
+        nodes,
+        workers,
         first_welfare,
-        turnstile,
-    )
+    };
+    search_by_walk(rt, &task, turnstile)
 }
 
 /// The result of a problem (`IsResult`): the eligible selection that no eligible one ranks above. Ties go to the one

@@ -39,6 +39,9 @@ pub(crate) struct Task<'a, W: PieceWalk> {
     /// The welfare that is offered before any worker starts.
     pub(crate) first_welfare: u64,
     ghost inside: { depth ≤ length problem.now.blocks },
+    ghost few: { depth ≤ most_cut },
+    ghost some_worker: { 1 ≤ workers },
+    ghost few_workers: { workers ≤ most_workers },
     ghost same: { W.problem walk.now ≡ problem.now },
     ghost suits: { W.suits walk.now depth nodes ≡ true },
 }
@@ -173,9 +176,6 @@ pub(crate) fn walk_all_pieces<R: Threads + Sync, W: PieceWalk + Sync, T: Turnsti
     task: &Task<W>,
     turnstile: &T,
 ) -> Result<WalkedPieces, AllocError>
-    requires few { task.now.depth ≤ most_cut }
-    requires some_worker { 1 ≤ task.now.workers }
-    requires few_workers { task.now.workers ≤ most_workers }
     ensures { IfOk result (λ walked. AreAllAnswers task.now.problem.now task.now.depth
         task.now.nodes task.now.first_welfare walked.answers.items) }
 {

@@ -4,7 +4,6 @@ use Rattle.dam_blocks.specs.declared.problem.Block.{Block}
 use Rattle.dam_blocks.specs.Problem.{ProblemState}
 use Rattle.dam_blocks.specs.Selection.{accepts, are_of_one_group}
 use Rattle.dam_blocks.specs.Eligible.{IsEligible}
-use Rattle.dam_bound.specs.NetLimits.{AreLimits}
 use Rattle.dam_search.specs.declared.conflicts.Conflicts.{Conflicts}
 
 -- the selection accepts all of these places
@@ -43,7 +42,7 @@ abbrev pub Excludes : ProblemState → ℕ → List Bool → Type 0
 Excludes problem place places = (selection : List Bool) (w : ℤ) → IsEligible problem selection w
     → accepts selection place ≡ true → AcceptsNone places selection
 
--- what each place needs, is needed by and excludes, and the limits
+-- what each place needs, is needed by and excludes
 pub record AreConflicts (problem : ProblemState) (conflicts : Conflicts) : Type 0 where
   pub needs : (place : ℕ) (places : List Bool) → slice_get conflicts.needs place ≡ Some places
       → Needs problem place places
@@ -51,4 +50,3 @@ pub record AreConflicts (problem : ProblemState) (conflicts : Conflicts) : Type 
       → IsNeededBy problem place places
   pub excludes : (place : ℕ) (places : List Bool) → slice_get conflicts.excludes place ≡ Some places
       → Excludes problem place places
-  pub limits : AreLimits problem conflicts.limits.limits

@@ -55,7 +55,7 @@ decide-slack_after-requires-clause-place g t c =
 pub decide-returns-in_default-clause-walked : goal.decide-returns-in_default-clause-walked
 decide-returns-in_default-clause-walked g t c =
     let problem = c.args.self.now.problem.now in let node = c.args.node.now in
-    let limits = c.args.self.now.conflicts.now.limits.limits in
+    let limits = c.args.self.now.limits.now.limits in
     let accept = c.args.accept in let place = c.args.place in let left = c.args.left.now in
     let is = subst (λ (xs : List ℕ). IsNode node.accepted node.rejected xs) c.requires.split c.requires.node in
     let slack = subst (λ (xs : List ℕ). IsSlack problem limits node.accepted xs c.args.node.now.slack.now) c.requires.split c.requires.slack in
@@ -83,7 +83,7 @@ decide-visit-requires g t c κs within =
     (bounded_is relaxed node.pricing.now _ next.accepted left next.left.now _ next.bound ensured.accepted ensured.left bound
     (bounded_after accept relaxed node.pricing.now node.accepted node.rejected place left node.bound is bounded)) in
     let long = ap (λ (xs : List ℕ). length xs) ensured.left in
-    let limits = c.args.self.now.conflicts.now.limits.limits in
+    let limits = c.args.self.now.limits.now.limits in
     let had = subst (λ (xs : List ℕ). IsSlack c.args.self.now.problem.now limits node.accepted xs node.slack.now) c.requires.split c.requires.slack in
     let slack' : IsSlack c.args.self.now.problem.now limits next.accepted next.left.now next.slack.now =
     subst (λ (s : Slack). IsSlack c.args.self.now.problem.now limits next.accepted next.left.now s) (sym ensured.slack)

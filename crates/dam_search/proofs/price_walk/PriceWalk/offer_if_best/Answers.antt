@@ -17,17 +17,17 @@ returns-in_default-clause-walked g c =
     let problem = c.args.self.now.problem.now in let relaxed = g.P.PricedProblem.problem c.args.self.now.priced.now in let found = c.args.found.now in
     walked_nothing problem c.args.selection [] _ _ found c.requires.ready
     (covers_leaf problem relaxed c.args.selection found.best found.incumbent_read c.requires.long c.args.self.now.same
-    (λ w is e. (let under = c.clear_selection.ensures.none c.in_default.is w e in inl (omega (arith, ints, under, c.requires.fits)))))
+    (λ w is e. (let under = c.clear_selection.ensures.none c.in_default.is w e in inl (omega (arith, ints, under, c.signed_welfare.ensures)))))
 
-pub returns-in_default-better_than_found-clause-walked : goal.returns-in_default-better_than_found-clause-walked
-returns-in_default-better_than_found-clause-walked g c =
+pub returns-in_default-solution_if_better-clause-walked : goal.returns-in_default-solution_if_better-clause-walked
+returns-in_default-solution_if_better-clause-walked g c =
     let problem = c.args.self.now.problem.now in let relaxed = g.P.PricedProblem.problem c.args.self.now.priced.now in let found = c.args.found.now in
     let fits : SFits w64 c.in-Some.welfare = search rules in
     let value = to_z-of_z w64 c.in-Some.welfare fits in
     walked_nothing problem c.args.selection [] _ _ found c.requires.ready
     (covers_leaf problem relaxed c.args.selection found.best found.incumbent_read c.requires.long c.args.self.now.same
     (λ w is e. (let same = one_welfare _ w c.in-Some.welfare e c.in-Some.ensures.some.0 in
-    subst (λ (z : ℤ). (z <ℤ pos found.incumbent_read) ⊎ IsMatched z c.args.selection found.best) (value ∙ sym same) c.in_default-better_than_found.ensures.none)))
+    subst (λ (z : ℤ). (z <ℤ pos found.incumbent_read) ⊎ IsMatched z c.args.selection found.best) (value ∙ sym same) c.in_default-solution_if_better.ensures.none)))
 
 pub returns-then-not-admissible-clause-walked : goal.returns-then-not-admissible-clause-walked
 returns-then-not-admissible-clause-walked g c =
@@ -46,10 +46,10 @@ returns-then-has_loss-clause-walked g c =
 pub returns-clause-walked : goal.returns-clause-walked
 returns-clause-walked g c =
     let problem = c.args.self.now.problem.now in let relaxed = g.P.PricedProblem.problem c.args.self.now.priced.now in let found = c.args.found.now in
-    let best = c.in-Some-better_than_found.best in let selection = c.args.selection in
+    let best = c.in-Some-solution_if_better.best in let selection = c.args.selection in
     let fits : SFits w64 c.in-Some.welfare = search rules in
     let value = to_z-of_z w64 c.in-Some.welfare fits in
-    let now = c.in-Some-better_than_found.ensures.some in
+    let now = c.in-Some-solution_if_better.ensures.some in
     let welfare = with_rows problem relaxed selection c.in-Some.welfare c.args.self.now.same c.in-Some.ensures.some.0 in
     let is = eligible_leaf problem relaxed selection c.has_loss.result c.in-Some.welfare c.args.self.now.same c.requires.long c.if-has_loss.false
     c.has_loss.ensures (c.admissible.ensures.0 (search rules)) welfare (c.balanced_selections_have_prices.ensures problem selection c.in-Some.welfare c.use_invariant.ensures welfare) in

@@ -5,6 +5,7 @@ use Rattle.dam_search.specs.declared.answer.PieceAnswer.{PieceAnswer}
 use Rattle.dam_search.specs.Piece.{IsSound}
 use Rattle.dam_search.proofs.Opens.{all_within}
 use Rattle.dam_search.proofs.FirstNode.{piece_node, piece_sound}
+use Rattle.dam_search.proofs.RulingOut.{limits_with_rows}
 use Rattle.dam_search.proofs.Sets.{is_apart}
 use Rattle.dam_search.proofs.Slacks.{piece_slack, nothing_sound}
 use Rattle.dam_search.proofs.price_walk.PriceWalk.walk_by_prices.Goals as goal
@@ -27,8 +28,9 @@ visit-requires-clause-node g c =
 
 pub visit-requires-clause-slack : goal.visit-requires-clause-slack
 visit-requires-clause-slack g c =
-    piece_slack c.args.self.now.problem.now c.args.self.now.conflicts.now.limits.limits c.args.self.now.depth (length c.args.self.now.problem.now.blocks) c.choice-accepted.result
-    c.args.self.now.order.now c.in-Some.slack c.args.self.now.is_order c.args.self.now.are_conflicts.limits c.in-Some.ensures.slacks c.in-Some.ensures.some
+    piece_slack c.args.self.now.problem.now c.args.self.now.limits.now.limits c.args.self.now.depth (length c.args.self.now.problem.now.blocks) c.choice-accepted.result
+    c.args.self.now.order.now c.in-Some.slack c.args.self.now.is_order
+    (limits_with_rows c.args.self.now.problem.now _ _ c.args.self.now.same c.args.self.now.are_limits) c.in-Some.ensures.slacks c.in-Some.ensures.some
 
 pub returns-then-not-admissible-clause-sound : goal.returns-then-not-admissible-clause-sound
 returns-then-not-admissible-clause-sound g c =
@@ -46,8 +48,9 @@ returns-in_default-clause-sound g c =
     let few = c.use_invariant.ensures.few_blocks in let deep = c.requires.depth in
     let prefix = choice c.args.self.now.depth c.args.piece in
     subst (λ (a : PieceAnswer). IsSound c.args.self.now.problem.now prefix a.best a.incumbent_read a.done) (sym c.nothing_in-in_default.ensures)
-    (nothing_sound c.args.self.now.problem.now c.args.self.now.conflicts.now.limits.limits c.args.self.now.depth c.args.piece c.choice-accepted.result c.args.self.now.order.now
-    c.choice-accepted.ensures (omega (arith, few, deep)) c.args.self.now.is_order c.args.self.now.are_conflicts.limits (c.slack_of_piece.ensures.none c.in_default.is))
+    (nothing_sound c.args.self.now.problem.now c.args.self.now.limits.now.limits c.args.self.now.depth c.args.piece c.choice-accepted.result c.args.self.now.order.now
+    c.choice-accepted.ensures (omega (arith, few, deep)) c.args.self.now.is_order
+    (limits_with_rows c.args.self.now.problem.now _ _ c.args.self.now.same c.args.self.now.are_limits) (c.slack_of_piece.ensures.none c.in_default.is))
 
 pub returns-clause-sound : goal.returns-clause-sound
 returns-clause-sound g c =
