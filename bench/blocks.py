@@ -18,7 +18,7 @@ from figures import Figures
 from running import TWIN, make_audit_command_or_none
 
 DEFAULT = ["2", "3"]  # the default plan: workers, and how many of the first blocks are cut
-MOST = {"before": MOST_OF_BEFORE, THE_TWIN: 2, "enumeration": 0.1}  # times as long
+MOST_OF_OTHERS = {"before": MOST_OF_BEFORE, THE_TWIN: 2, "enumeration": 0.1}  # times as long
 MOST_TOGETHER = {"alone": 12, "before": 1}
 
 
@@ -26,7 +26,7 @@ def write_book_and_record(figures, drawn):
     book = write_timed_book("blocks", drawn)
     twin = [TWIN, *DEFAULT] if drawn in make_family.BOOKS else None
     book.run_and_note_seconds_or_exit({"enumeration": make_audit_command_or_none(book.path)}, twin)
-    book.record_clear(figures, MOST_OF_DEEP, MOST)
+    book.record_clear(figures, MOST_OF_DEEP, MOST_OF_OTHERS)
     book.run_and_record_peers(figures)
     return book
 

@@ -14,7 +14,7 @@ from figures import Figures
 from running import TWIN, run_or_exit, run_to_file_or_exit
 
 BLOCKS = (8, 12, 16, 20, 24)
-MOST = 2 ** (BLOCKS[-1] + 1) // 100  # nodes
+MOST_NODES = 2 ** (BLOCKS[-1] + 1) // 100  # nodes
 PERIODS = {24: "1", 96: "4"}  # and how many of them an hour has
 BASE = "base"
 FAMILIES = [*make_family.FAMILIES, BASE]
@@ -33,9 +33,9 @@ def write_book_and_measure_nodes(family, periods, blocks):
 def record_nodes(figures, family, periods, counts):
     """Prints the nodes of a family's books: those of the greatest, and in the details the others."""
     *smaller, most = ("?" if nodes is None else f"{nodes:,}" for nodes in counts)
-    holds = counts[-1] is not None and counts[-1] <= MOST
+    holds = counts[-1] is not None and counts[-1] <= MOST_NODES
     detail = "; ".join(f"{nodes} with {blocks}" for blocks, nodes in zip(BLOCKS, smaller))
-    figures.record(f"{family}, {periods} periods: nodes with {BLOCKS[-1]} blocks", most, f"at most {MOST:,}", holds, detail)
+    figures.record(f"{family}, {periods} periods: nodes with {BLOCKS[-1]} blocks", most, f"at most {MOST_NODES:,}", holds, detail)
 
 
 def write_picture_if_possible(nodes):

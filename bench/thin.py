@@ -19,7 +19,7 @@ from clearing import MOST_OF_BEFORE, BooksTogether, parse_kinds_or_exit, write_t
 from figures import Figures
 from running import make_audit_command_or_none
 
-MOST = 3.0  # seconds
+MOST_SECONDS = 3.0  # seconds
 MOST_OF_SUM_BEFORE, ONE_IN = 1 / 6, 20
 MOST_OF_ENUMERATION = {True: 0.5, False: 0.1}  # by whether the market is thin
 BOOKS = make_blocks.THIN + make_blocks.HARDEST + make_blocks.BOUND + make_family.THIN + make_blocks.DEEP
@@ -28,7 +28,7 @@ BOOKS = make_blocks.THIN + make_blocks.HARDEST + make_blocks.BOUND + make_family
 def write_book_and_record(figures, drawn):
     book = write_timed_book("thin", drawn)
     book.run_and_note_seconds_or_exit({"enumeration": make_audit_command_or_none(book.path)})
-    book.record_clear(figures, MOST, {"before": MOST_OF_BEFORE, "enumeration": MOST_OF_ENUMERATION[drawn.is_thin]})
+    book.record_clear(figures, MOST_SECONDS, {"before": MOST_OF_BEFORE, "enumeration": MOST_OF_ENUMERATION[drawn.is_thin]})
     if not drawn.is_thin:
         book.run_and_record_peers(figures)
     return book
@@ -38,9 +38,9 @@ def main():
     figures = Figures("out/thin.tsv")
     kinds = parse_kinds_or_exit(BOOKS)
     books = [write_book_and_record(figures, each) for each in BOOKS if each.kind in kinds]
-    BooksTogether("wide and mixed books", [book for book in books if not book.drawn.is_thin]).record_sums(figures, MOST, {})
+    BooksTogether("wide and mixed books", [book for book in books if not book.drawn.is_thin]).record_sums(figures, MOST_SECONDS, {})
     thin = BooksTogether("all thin books", [book for book in books if book.drawn.is_thin])
-    thin.record_sums(figures, MOST, {"before": MOST_OF_SUM_BEFORE})
+    thin.record_sums(figures, MOST_SECONDS, {"before": MOST_OF_SUM_BEFORE})
     thin.record_slower(figures, ONE_IN)
 
 

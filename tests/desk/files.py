@@ -16,13 +16,13 @@ import journals
 import kills
 import streams
 from device import ABOVE_ANY_CALL, DESK, INPUT, LOCKED_LINE, OUTPUT, SECONDS, STREAM, SYNC, WRITE, RefusedFileCalls
-from images import HEAD, MOST, is_at_rest, parse_marked_lines_or_none
+from images import HEAD, MOST_FILE_BYTES, is_at_rest, parse_marked_lines_or_none
 from journals import CLOSE, rules
 from shared.preload import HostileProgram
 from shared.printed import Printed
 
 DAY = b"day,24,,,,,,,\n"
-NO_JOURNAL, TOO_LONG = b"file: the file isn't a desk's journal\n", b"file: the file has more than %d bytes\n" % MOST
+NO_JOURNAL, TOO_LONG = b"file: the file isn't a desk's journal\n", b"file: the file has more than %d bytes\n" % MOST_FILE_BYTES
 NO_FILE, FULL = b"file: it isn't a regular file with one name, or FILE-wal next to it isn't\n", b"file: the journal is full\n"
 OWN_OUTPUT = b"file: standard output goes to it\n"
 DATABASE, NOT_WRITTEN = b"file: a database's files have its name\n", b"file: its lines aren't as a desk writes them\n"
@@ -76,8 +76,8 @@ def refused_files():
         ("half a head", HEAD[:6]), ("a new file and more", b"-dam-desk 1\n--"),
     ]:  # fmt: skip
         yield about, bytes_, NO_JOURNAL
-    yield "a byte too many", file_of_records(DAY).ljust(MOST + 1), TOO_LONG
-    yield "no room for a mark", HEAD + b"+".ljust(MOST - len(HEAD) - 1, b"A") + b"\n", FULL
+    yield "a byte too many", file_of_records(DAY).ljust(MOST_FILE_BYTES + 1), TOO_LONG
+    yield "no room for a mark", HEAD + b"+".ljust(MOST_FILE_BYTES - len(HEAD) - 1, b"A") + b"\n", FULL
     for about, records, why in [
         ("no day", [close], b"the first record is not a day"), ("a word", [b"x\n"], b"the first record is not a day"),
         ("a broken command", [DAY, close, b"cancel,A,a,,,,,,\n"], b"field 3 of record 3 is bad"),
@@ -274,11 +274,11 @@ class FileTests:
 
     def check_longest_file(self):
         """A file of the greatest length, most of which doesn't count."""
-        file = write_desk_file(self.desk.make_folder(), file_of_records(DAY).ljust(MOST))
+        file = write_desk_file(self.desk.make_folder(), file_of_records(DAY).ljust(MOST_FILE_BYTES))
         self.check_run("a file of the greatest length", self.run_on_text([file]), 0, b"day,24\n1,done\n", b"")
         held = parse_marked_lines_or_none(file.read_bytes())
         self.counts.check("a file of the greatest length holds both lines", held == b"+" + DAY + b"+" + CLOSE)
-        file.write_bytes((file_of_records(DAY) + b"\n" * 9).ljust(MOST, b"+"))
+        file.write_bytes((file_of_records(DAY) + b"\n" * 9).ljust(MOST_FILE_BYTES, b"+"))
         self.check_run("a file with line ends after its mark", self.run_on_text([file]), 0, b"day,24\n1,done\n", b"")
         self.counts.check("a file with line ends after its mark is at rest", is_at_rest(file.read_bytes()))
 

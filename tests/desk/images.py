@@ -11,7 +11,7 @@ from device import CUT, INPUT, OUTPUT, SYNC, WRITE
 
 HEAD = b"+dam-desk 1\n"
 AFTER_FIRST = HEAD[1:] + b"-"
-MOST = 16_777_216  # bytes of a file
+MOST_FILE_BYTES = 16_777_216  # bytes of a file
 LINES = re.compile(rb"(?:\+[^\n]*\n)*")
 # Lines that nobody has given, with a mark each, as garbage of a torn write.
 GARBAGE = b"\n+cancel,A,NEVER,,,,,,\n" * 400
@@ -20,11 +20,11 @@ ANSWER = re.compile(rb"(?:day|(\d+)),")
 
 def parse_marked_lines_or_none(file):
     """The lines that a file stands for, each with its mark; None if it isn't a journal."""
-    if len(file) > MOST:
+    if len(file) > MOST_FILE_BYTES:
         return None
     if file.startswith(HEAD):
         lines = LINES.match(file, len(HEAD))[0]
-        return lines if len(HEAD) + len(lines) < MOST else None
+        return lines if len(HEAD) + len(lines) < MOST_FILE_BYTES else None
     return b"" if is_unmade(file) else None
 
 

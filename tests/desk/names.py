@@ -17,8 +17,8 @@ from shared.records import journal_text, capture_colliding_names, submits_of
 from lib.base import rules
 
 ABOUT = ["in a new file", "in a file that is opened again", "in a printed journal"]
-MILLIONS = [31.2, 22.0, 22.1]  # instructions that were counted with other names
-FULL = 71.9  # and with a full journal
+MILLIONS_OF_OTHERS = [31.2, 22.0, 22.1]  # instructions that were counted with other names
+MILLIONS_OF_FULL_JOURNAL = 71.9
 SOME = 1_000  # of the names, on other days
 FIXED = RefusedCalls("random", first=3, error=errno.ENOSYS)  # a file draws twice before
 
@@ -45,7 +45,7 @@ def check_names(counts, desk, dam, whole):
         took = f"names that collide {about} take {taken / by_others:.1f} times the instructions of others"
         print(took, flush=True)
         counts.check(took, taken < TIMES * by_others)
-    for about, taken, millions in zip(ABOUT, usual, MILLIONS):
+    for about, taken, millions in zip(ABOUT, usual, MILLIONS_OF_OTHERS):
         check_and_print_millions(counts, f"other names {about} take", taken, millions)
     some = submits_of(capture_colliding_names(desk.room, SOME))
     for periods in set(rules.DAYS) - {24}:
@@ -54,7 +54,7 @@ def check_names(counts, desk, dam, whole):
             took = f"{SOME:,} names that collide {about}, on {periods} periods, take {taken / by_others:.1f} times the instructions of"
             counts.check(f"{took} {records.ORDERS:,} others", taken < by_others)
     full = measure_instructions(program, [desk.make_folder() / "day.desk"], journal_text(records.full_journal()), DRAWN)
-    check_and_print_millions(counts, "a full journal takes", full, FULL)
+    check_and_print_millions(counts, "a full journal takes", full, MILLIONS_OF_FULL_JOURNAL)
     took = f"with the fixed seed, they take {fixed.result() / usual[0]:.1f} times those"
     print(took, flush=True)
     counts.check(took, fixed.result() > TIMES * usual[0])

@@ -9,7 +9,7 @@ import time
 import kills
 from device import CUT, DESK, INPUT, OUTPUT, READ, SYNC, WRITE
 from files import BATCH, DAY, file_of_records
-from images import AFTER_FIRST, HEAD, MOST, is_at_rest, parse_marked_lines_or_none
+from images import AFTER_FIRST, HEAD, MOST_FILE_BYTES, is_at_rest, parse_marked_lines_or_none
 from journals import CLOSE, Journal, longest_records, rules
 
 TORN = [round(1.5**power) for power in range(1, 41)]  # bytes after the lines of a file, up to as many as there may be
@@ -31,7 +31,7 @@ def files_with_calls():
     yield "one byte", HEAD[:1], CREATED
     yield "a file that was never made whole", b"-" + AFTER_FIRST, CREATED[2:]
     yield "a file at rest", file_of_records(DAY), []
-    yield "a file of the greatest length", file_of_records(DAY).ljust(MOST), []
+    yield "a file of the greatest length", file_of_records(DAY).ljust(MOST_FILE_BYTES), []
     yield "no mark at the end", file_of_records(DAY)[:-1], calls_of_repair(end)
     yield "a torn line", file_of_records(DAY)[:-1] + b"+canc", calls_of_repair(end)
     full = file_of_records(DAY, *[CLOSE] * (rules.MOST_RECORDS - 2))
@@ -39,7 +39,7 @@ def files_with_calls():
     yield "a long journal and a torn line", full[:-1] + b"\n\n", calls_of_repair(len(full) - 1, 1)
     yield "a journal of long records", file_of_records(*longest_records(rules.MOST_RECORDS - 2)), []
     for count in TORN:
-        if end + count <= MOST:
+        if end + count <= MOST_FILE_BYTES:
             yield f"{count:,} line feeds after the lines", file_of_records(DAY)[:-1] + b"\n" * count, calls_of_repair(end, count - 1)
 
 

@@ -5,7 +5,7 @@ import signal
 import sys
 import time
 
-from repository import IGNORING, PROGRAM, DamCase
+from repository import IGNORING_SIGCHLD, PROGRAM, DamCase
 
 
 class LaunchTests(DamCase):
@@ -49,7 +49,7 @@ class LaunchTests(DamCase):
 
     def test_the_status_if_sigchld_is_ignored(self):
         for status in (0, 3):
-            ran = self.at.run(sys.executable, "-c", IGNORING, f"{self.at.top}/tools/unproved", "ends", str(status))
+            ran = self.at.run(sys.executable, "-c", IGNORING_SIGCHLD, f"{self.at.top}/tools/unproved", "ends", str(status))
             self.assertEqual(ran[:2], (status, f"words: ends {status}\n"))
 
     def test_the_program_has_the_same_streams(self):

@@ -7,7 +7,7 @@ import subprocess
 import sys
 import time
 
-from repository import FORKING, IGNORING, LIBRARIES, PROGRAM, TOP, RepositoryCase, TerminalRun
+from repository import FORKING, IGNORING_SIGCHLD, LIBRARIES, PROGRAM, TOP, RepositoryCase, TerminalRun
 
 
 class ProveTests(RepositoryCase):
@@ -30,7 +30,7 @@ class ProveTests(RepositoryCase):
             self.assertEqual(self.at.read(f"crates/{name}/out/rlib/{name}.rlib/checked"), name)
 
     def test_proofs_end_if_sigchld_is_ignored(self):
-        words = sys.executable, "-c", IGNORING, f"{self.at.top}/tools/prove", "dam_cli"
+        words = sys.executable, "-c", IGNORING_SIGCHLD, f"{self.at.top}/tools/prove", "dam_cli"
         self.assertEqual(self.at.run(*words)[0], 0)
         self.at.write("crates/dam_cli/src/main.rt", f"{PROGRAM}# REFUSED")
         self.assertEqual(self.at.run(*words)[0], 1)

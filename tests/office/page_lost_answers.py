@@ -10,9 +10,9 @@ UNSURE = "The office can't be reached. We don't know whether GONE was entered: l
 # And once the office answers.
 NOT_YET = "The office answers again. GONE isn't among your commands so far: send it again, it can't be entered twice."
 # Enters a command as another tab does, under the number that this one would use.
-OTHER = """fetch(`${own('commands')}/${state.next}`, { method: 'PUT', headers: { Authorization: `Bearer ${state.token}`,
+ENTER_IN_OTHER_TAB = """fetch(`${own('commands')}/${state.next}`, { method: 'PUT', headers: { Authorization: `Bearer ${state.token}`,
   'Content-Type': 'application/json' }, body: JSON.stringify([%s]) }).then((answer) => answer.ok)"""
-GONE = "{ what: 'submit', order: 'GONE', kind: 'hour', side: 'sell', price: 100, volumes: [[1, 10]] }"
+SUBMIT_GONE = "{ what: 'submit', order: 'GONE', kind: 'hour', side: 'sell', price: 100, volumes: [[1, 10]] }"
 
 
 async def check_lost_answer(page, counts):
@@ -39,7 +39,7 @@ async def check_lost_answer(page, counts):
     await page.evaluate("fetch = real; setTimeout = timeout; change(null)")
     await page.evaluate("look()")
     counts.check(f"until the office answers: {await read_text(page, 'message')}", await read_text(page, "message") == NOT_YET)
-    counts.check("an order that comes late", await page.evaluate(OTHER % GONE))
+    counts.check("an order that comes late", await page.evaluate(ENTER_IN_OTHER_TAB % SUBMIT_GONE))
     await wait_for_message(page, "GONE entered: sell, 1.0 MW in period 1, at 1.00 EUR/MWh. It is on the disk, with a signed receipt.")
     counts.check("is told by the next look", await page.evaluate("byId('message').className") == "right")
     await page.evaluate("enter([{ what: 'cancel', order: 'GONE' }])")
@@ -60,7 +60,7 @@ async def check_two_tabs(page, counts):
     await click(page, '[aria-label="Amend ONCE"]')
     await page.evaluate("look()")
     counts.check("an order that stays as it is isn't overtaken", await read_text(page, "overtaken") == "")
-    counts.check("another tab amends", await page.evaluate(OTHER % (AMEND_AT_PRICE % 900)))
+    counts.check("another tab amends", await page.evaluate(ENTER_IN_OTHER_TAB % (AMEND_AT_PRICE % 900)))
     await page.wait_until("byId('overtaken').textContent")
     told = await read_text(page, "overtaken")
     words = "ONCE was changed in the meantime: in the book its limit is 9.00 EUR/MWh, and its volumes by period are 1: 1.0 MW."
@@ -84,10 +84,10 @@ async def check_two_tabs(page, counts):
     same = "ONCE wasn't amended: another command of yours came first. Look in Your commands, and send it again."
     counts.check(f"commands at the same time: {await read_text(page, 'message')}", await read_text(page, "message") == same)
     counts.check("and sent again", await page.evaluate("enter([%s])" % (AMEND_AT_PRICE % 100)))
-    counts.check("another tab enters", await page.evaluate(OTHER % GONE))
+    counts.check("another tab enters", await page.evaluate(ENTER_IN_OTHER_TAB % SUBMIT_GONE))
     await page.wait_until("inBook('GONE')")
     await click(page, '[aria-label="Amend GONE"]')
-    counts.check("another tab cancels", await page.evaluate(OTHER % "{ what: 'cancel', order: 'GONE' }"))
+    counts.check("another tab cancels", await page.evaluate(ENTER_IN_OTHER_TAB % "{ what: 'cancel', order: 'GONE' }"))
     await page.wait_until("byId('overtaken').textContent === `GONE isn't in the book any more.`")
     await click(page, "#keep")
     counts.check("a form that is left has no such words", await read_text(page, "overtaken") == "")

@@ -22,9 +22,9 @@ except ImportError:  # without python3-cryptography
     pass
 
 KEYS = ["--key", "key.pem.pub"]
-TREES = "the operator signed two trees of 2026-11-28 with"
-HASHES = "the operator signed two hashes of"
-TWICE = "two journals, or one journal twice"
+TWO_TREES = "the operator signed two trees of 2026-11-28 with"
+TWO_HASHES = "the operator signed two hashes of"
+OR_ONE_TWICE = "two journals, or one journal twice"
 ENTRY = "submit,TOWN,K{},hour,buy,{},8:10,,"
 
 
@@ -89,7 +89,7 @@ class Contradictions(InFolder):
         ):
             with self.subTest(words):
                 lines, last = self.capture_lines(1, *words, *KEYS)
-                said = f"{place}: {TREES} {count} entries: two journals, or one journal twice; the other one is in {other}"
+                said = f"{place}: {TWO_TREES} {count} entries: two journals, or one journal twice; the other one is in {other}"
                 self.assertIn(said, lines)
                 self.assertTrue(last.startswith("wrong: "), last)
                 record = json.loads(self.run_tool(1, *words, *KEYS, "--json"))
@@ -139,7 +139,8 @@ class Contradictions(InFolder):
         self.capture_lines(4, "verify", path, "--head", "C.head", *KEYS)
         self.append_receipts("fork.jsonl", "A", 2)
         lines, _ = self.capture_lines(1, "verify", self.append_receipts("fork.jsonl", "B2", 2), "--head", "C.head", *KEYS)
-        self.assertEqual(lines[-1], f"fork.jsonl line 2: {HASHES} entry 1 of 2026-11-28: {TWICE}; the other one is in fork.jsonl line 1")
+        said = f"fork.jsonl line 2: {TWO_HASHES} entry 1 of 2026-11-28: {OR_ONE_TWICE}; the other one is in fork.jsonl line 1"
+        self.assertEqual(lines[-1], said)
         seal, signed = grown(self.key, [100] * 7, (7,))
         Path("again.jsonl").write_bytes(lines_of(seal, signed[7])[1])
         lines, _ = self.capture_lines(1, "verify", path, "again.jsonl", "--head", "C.head", *KEYS)
@@ -162,7 +163,7 @@ class Contradictions(InFolder):
         self.assertEqual(last, "wrong: 1 receipt right; 1 receipt wrong; the head of 2026-11-28 with 6 entries")
         Path("changed.jsonl").write_bytes(Path("F.receipts").read_bytes().splitlines(keepends=True)[0].replace(b",100,", b",101,"))
         lines, _ = self.capture_lines(1, "verify", "changed.jsonl", "--head", "C.head", *KEYS)
-        self.assertIn(f"changed.jsonl line 1: {TREES} 18 entries: two journals, or one journal twice; the other one is in C.head", lines)
+        self.assertIn(f"changed.jsonl line 1: {TWO_TREES} 18 entries: two journals, or one journal twice; the other one is in C.head", lines)
 
     def test_the_later_head(self):
         """It is one that the operator signed, of this day."""
@@ -222,7 +223,7 @@ class Contradictions(InFolder):
         self.assertEqual((lines[0], last), (said, "undecided: 2 heads of 1 day"))
         # Its heads are the operator's all the same.
         lines, _ = self.capture_lines(1, "heads", "C2.head", "--extension", "no.extension", *KEYS)
-        self.assertIn(f"C2.head: {TREES} 18 entries: two journals, or one journal twice; the other one is in no.extension", lines)
+        self.assertIn(f"C2.head: {TWO_TREES} 18 entries: two journals, or one journal twice; the other one is in no.extension", lines)
         self.run_tool(0, "keys", "other.pem")
         lines, last = self.capture_lines(1, "heads", "A.head", "--extension", "no.extension", "--key", "other.pem.pub")
         self.assertEqual(last, "wrong: 0 heads of 0 days")
@@ -314,10 +315,10 @@ class Contradictions(InFolder):
                 words = [word for one in words for word in (["--extension", one] if one.endswith(".extension") else [one])]
                 lines, last = self.capture_lines(1, *words, *KEYS)
                 self.assertTrue(last.startswith("wrong: "))
-                told = [line for line in lines if HASHES in line or TREES in line]
+                told = [line for line in lines if TWO_HASHES in line or TWO_TREES in line]
                 self.assertEqual(len(told), 1, lines)
                 where = f"is in {other}" if other else "follows from left8-9.extension, left11-13.extension"
-                self.assertEqual(told, [f"{place}: {HASHES} {entries} of 2026-11-28: {TWICE}; the other one {where}"])
+                self.assertEqual(told, [f"{place}: {TWO_HASHES} {entries} of 2026-11-28: {OR_ONE_TWICE}; the other one {where}"])
         for words in (
             ["heads", "left9.head", "right18.head"],
             ["heads", "left7.head", "--extension", "right16-18.extension"],
@@ -334,8 +335,8 @@ class Contradictions(InFolder):
         left, right = (heads.parse_value_and_is_written(data, heads.parse_extension)[0] for data in both)
         Path("mixed.extension").write_bytes(heads.line_bytes_of(right._replace(old=left.old)))
         lines, _ = self.capture_lines(1, "heads", "left7.head", "--extension", "mixed.extension", *KEYS)
-        said = f"mixed.extension: {HASHES} entries 1 to 7 of 2026-11-28: {TWICE}; the other one is in mixed.extension"
-        self.assertEqual([line for line in lines if HASHES in line], [said])
+        said = f"mixed.extension: {TWO_HASHES} entries 1 to 7 of 2026-11-28: {OR_ONE_TWICE}; the other one is in mixed.extension"
+        self.assertEqual([line for line in lines if TWO_HASHES in line], [said])
         Path("mixed.extension").write_bytes(heads.line_bytes_of(left._replace(new=right.new)))  # the earlier head's: anyone can make one
         self.capture_lines(4, "heads", "left7.head", "--extension", "mixed.extension", *KEYS)
 
@@ -377,7 +378,7 @@ class Contradictions(InFolder):
                 files = ["A.head", "A2.head"]
                 files.insert(place, name)
                 lines, last = self.capture_lines(1, "heads", *files, *KEYS)
-                self.assertIn(f"A2.head: {TREES} 6 entries: {TWICE}; the other one is in A.head", lines)
+                self.assertIn(f"A2.head: {TWO_TREES} 6 entries: {OR_ONE_TWICE}; the other one is in A.head", lines)
                 self.assertIn(bad[name == "none.json"].format("a head"), lines)
                 self.assertEqual(last, "wrong: 2 heads of 1 day")
             lines, last = self.capture_lines(1, "heads", "A.head", "A2.head", "--extension", name, *KEYS)
@@ -410,7 +411,7 @@ class Contradictions(InFolder):
             prices = [first] + [100] * 5
             Path(f"{name}.csv").write_text("".join(f"{ENTRY.format(number, price)}\n" for number, price in enumerate(prices, 1)))
         own = ["--sent", "mine.csv", "--participant", "TOWN"]
-        trees = f"{TREES} 6 entries: two journals, or one journal twice"
+        trees = f"{TWO_TREES} 6 entries: two journals, or one journal twice"
         lines, last = self.capture_lines(1, "verify", "A.receipts", "--head", "A2.head", *own, *KEYS)
         entries = [f"entry {number} of the head of 2026-11-28 with 6 entries: {ENTRY.format(number, 100)}, done" for number in range(1, 7)]
         said = [f"A.receipts line {number}: {entry}; the published head contradicts it: {trees}" for number, entry in enumerate(entries, 1)]

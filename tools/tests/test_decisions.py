@@ -29,7 +29,7 @@ def best_of(data):
     return Plain(read).best()
 
 # Behind the blocks that would be accepted too.
-IF = "were added and the other blocks stayed as they are,"
+IF_ADDED_WORDS = "were added and the other blocks stayed as they are,"
 
 
 class Hand(unittest.TestCase):
@@ -61,13 +61,13 @@ class Hand(unittest.TestCase):
             [
                 (
                     decisions.PARADOX,
-                    f"with RUN it would gain 2,440.00 EUR at the prices, but if both {IF}"
+                    f"with RUN it would gain 2,440.00 EUR at the prices, but if both {IF_ADDED_WORDS}"
                     " the block itself would lose 1,060.00 EUR together with its accepted descendants and A,RUN would lose"
                     f" 980.00 EUR, {end}",
                 ),
                 (
                     decisions.PARADOX,
-                    f"with START it would gain 2,440.00 EUR at the prices, but if both {IF}"
+                    f"with START it would gain 2,440.00 EUR at the prices, but if both {IF_ADDED_WORDS}"
                     " the block itself would lose 980.00 EUR and A,START would lose 1,060.00 EUR together with its accepted"
                     f" descendants, {end}",
                 ),
@@ -120,7 +120,7 @@ class Hand(unittest.TestCase):
                 (
                     decisions.REJECTED,
                     "would gain 250.00 EUR at the prices, but its parent P, without which it can't be accepted, would lose 50.00"
-                    f" EUR even with it; if both {IF} A,P would lose 250.00"
+                    f" EUR even with it; if both {IF_ADDED_WORDS} A,P would lose 250.00"
                     " EUR together with its accepted descendants, and the welfare would be 250.00 EUR less",
                 ),
             ],
@@ -142,11 +142,11 @@ class Hand(unittest.TestCase):
             "submit,A,D,block,sell,6800,3:100,P,",
         )
         found = kinds_and_words(data, ())
-        said = f"with C2 and D it would gain 70.00 EUR at the prices, but if all 3 {IF}"
+        said = f"with C2 and D it would gain 70.00 EUR at the prices, but if all 3 {IF_ADDED_WORDS}"
         self.assertTrue(found[0][1].startswith(said), found[0])
         # C1 with P and D would lose 30 EUR.
         self.assertIn("would gain 50.00 EUR at the prices, but its parent P, without which it can't be", found[1][1])
-        self.assertIn(f"accepted, would lose 30.00 EUR even with C1 and D; if all 3 {IF}", found[1][1])
+        self.assertIn(f"accepted, would lose 30.00 EUR even with C1 and D; if all 3 {IF_ADDED_WORDS}", found[1][1])
 
     def test_a_rival_of_the_parent(self):
         # R saves 400 EUR; P would lose 300 EUR at the price of 70, and C gain 500: 200 EUR, and with C at 60 EUR nothing.
@@ -191,7 +191,7 @@ class Hand(unittest.TestCase):
         why = "would gain 59.00 EUR at the prices, but A,K1 offers the same and stands earlier in the book"
         self.assertEqual(kinds_and_words(data, {0})[1], (decisions.PARADOX, why))
         other = data.replace(b"submit,B,K1,block,sell,100", b"submit,B,K1,block,sell,101")
-        unmatched = f"if it {IF} period 8 wouldn't balance: 1.0 MW would have no buyer"
+        unmatched = f"if it {IF_ADDED_WORDS} period 8 wouldn't balance: 1.0 MW would have no buyer"
         self.assertIn(unmatched, kinds_and_words(other, {0})[1][1])
         # Of results that accept the later one, it isn't the reason: they aren't the best.
         self.assertIn(unmatched, kinds_and_words(data, {1})[0][1])
@@ -233,7 +233,7 @@ class Hand(unittest.TestCase):
         self.assertEqual(kinds[5:], [decisions.REJECTED, decisions.ACCEPTED, decisions.REJECTED, decisions.PARADOX])
         self.assertIn("would lose 8,050.00 EUR at the prices", found[5].why)
         self.assertIn("in its place the welfare would be 5,120.00 EUR less", found[7].why)
-        why = f", but if it {IF} the block itself would lose 270.00 EUR, though the welfare would be 2,810.00 EUR greater"
+        why = f", but if it {IF_ADDED_WORDS} the block itself would lose 270.00 EUR, though the welfare would be 2,810.00 EUR greater"
         self.assertIn(why, found[8].why)
 
     def test_a_period_that_would_not_balance(self):
@@ -244,10 +244,10 @@ class Hand(unittest.TestCase):
             "submit,A,K3,block,sell,100,1:30,,",
         )
         found = kinds_and_words(data, ())
-        self.assertTrue(found[2][1].endswith(f"{IF} period 1 wouldn't balance: 2.0 MW would have no buyer"))
+        self.assertTrue(found[2][1].endswith(f"{IF_ADDED_WORDS} period 1 wouldn't balance: 2.0 MW would have no buyer"))
         self.assertEqual(found[2][0], decisions.PARADOX)
         data = journal_of("submit,A,S1,hour,sell,1,1:3,,", "submit,A,S2,hour,sell,1,2:7,,", "submit,A,K,block,buy,9,1:3;2:10,,")
-        self.assertTrue(kinds_and_words(data, ())[0][1].endswith(f"{IF} period 2 wouldn't balance: 0.3 MW would have no seller"))
+        self.assertTrue(kinds_and_words(data, ())[0][1].endswith(f"{IF_ADDED_WORDS} period 2 wouldn't balance: 0.3 MW would have no seller"))
 
     def test_the_volume_that_finds_no_other_side(self):
         """With so much less of the block in the period, and not with a tenth more, the period balances."""

@@ -29,11 +29,12 @@ from lib.tool import command, modules
 from lib.base.progress import Progress
 from lib.runs import by_program, errors
 
-RUN = "from lib.base import ending; ending.guard_tool('audit'); from lib.tool import command; command.run_and_exit('audit', lambda: CALL)"
-IGNORING = "import os, signal, sys; signal.signal(signal.SIGCHLD, signal.SIG_IGN); os.execv(sys.argv[1], sys.argv[1:])"
+GUARD = "from lib.base import ending; ending.guard_tool('audit')"
+CODE_OF_CALL = f"{GUARD}; from lib.tool import command; command.run_and_exit('audit', lambda: CALL)"
+IGNORING_SIGCHLD = "import os, signal, sys; signal.signal(signal.SIGCHLD, signal.SIG_IGN); os.execv(sys.argv[1], sys.argv[1:])"
 SECONDS = 60
 # A run of a tool that gets Ctrl-C as soon as it imports a module.
-IMPORTING = """
+CODE_OF_INTERRUPTED_IMPORT = """
 import builtins, os, signal, sys
 sys.dont_write_bytecode, path, sought, real = True, sys.argv[1], sys.argv[2], builtins.__import__
 def imported(name, *words, **more):
@@ -45,7 +46,7 @@ builtins.__import__, sys.argv = imported, [path, "--help"]
 exec(compile(open(path).read(), path, "exec"), {"__name__": "__main__", "__file__": path})
 """
 # A signal comes while an object goes away, some times.
-GOING = """
+CODE_OF_SIGNALS = """
 import os, sys, time, weakref
 from lib.base import ending
 ending.guard_tool("audit")
@@ -63,7 +64,7 @@ def main():
 command.run_and_exit("audit", main)
 """
 # A run that begins what a signal has to end.
-BEGUN = """
+CODE_OF_AUDITS = """
 import os, sys, time
 from pathlib import Path
 from lib.base import ending
@@ -80,7 +81,7 @@ def main():
 command.run_and_exit("audit", main)
 """
 # A run that has no memory for the rows of a sheet, and prints how many temporary files there are then.
-SHEET = """
+CODE_WITHOUT_MEMORY = """
 import os
 from lib.base import ending
 ending.guard_tool("table")
@@ -96,7 +97,7 @@ def main():
     sheets.workbook_bytes_or_refuse({"periods": [["period"], [1]]})
 command.run_and_exit("table", main)
 """
-WORKER = "import os, sys, time; open(os.path.dirname(sys.argv[0]) + '/pids', 'a').write(f'{os.getpid()}\\n'); time.sleep(600)"
+SLEEPING_TOOL = "import os, sys, time; open(os.path.dirname(sys.argv[0]) + '/pids', 'a').write(f'{os.getpid()}\\n'); time.sleep(600)"
 PACKAGES = {"audit": [], "lint": [], "plot": ["matplotlib"], "report": ["matplotlib", "jinja2"], "table": []}
 
 
@@ -137,7 +138,7 @@ class Failing(unittest.TestCase):
     """A failure gets one line, and a traceback only if it is asked for."""
 
     def run_failing(self, call, **environment):
-        words = [sys.executable, "-B", "-c", RUN.replace("CALL", call)]
+        words = [sys.executable, "-B", "-c", CODE_OF_CALL.replace("CALL", call)]
         ran = subprocess.run(words, cwd=TOOLS, capture_output=True, text=True, env=environment)
         return ran.returncode, ran.stdout, ran.stderr
 
@@ -176,7 +177,7 @@ class Failing(unittest.TestCase):
     def test_memory_for_a_sheet(self):
         """Its temporary file is removed, too."""
         with tempfile.TemporaryDirectory() as room:
-            words = [sys.executable, "-B", "-c", SHEET]
+            words = [sys.executable, "-B", "-c", CODE_WITHOUT_MEMORY]
             ran = subprocess.run(words, cwd=TOOLS, capture_output=True, text=True, env={**os.environ, "TMPDIR": room})
             self.assertEqual((ran.returncode, ran.stdout, ran.stderr), (command.FAILED, "1\n", "table: out of memory\n"))
             self.assertEqual(os.listdir(room), [])
@@ -339,7 +340,7 @@ class Interrupted(unittest.TestCase):
                 is_launchers = name in ("prove", "unproved")
                 late = ("lib.crates",) if is_launchers else ("lib.tool", "argparse")
                 for module in ("sys", "lib.base", *late):
-                    words = [sys.executable, "-I", "-S", "-B", "-c", IMPORTING, TOOLS / name, module]
+                    words = [sys.executable, "-I", "-S", "-B", "-c", CODE_OF_INTERRUPTED_IMPORT, TOOLS / name, module]
                     ran = subprocess.run(words, capture_output=True, text=True, stdin=subprocess.DEVNULL)
                     said = f"{'dam' if name == 'unproved' else name}: interrupted\n"
                     right = (command.INTERRUPTED, "", said) if module in late else (-signal.SIGINT, "", "")
@@ -352,14 +353,14 @@ class Interrupted(unittest.TestCase):
         for number, said in ((signal.SIGTERM, "ended by SIGTERM"), (signal.SIGHUP, "ended by SIGHUP"), (signal.SIGINT, "interrupted")):
             self.addCleanup(signal.signal, number, signal.signal(number, signal.SIG_DFL))  # whatever this process ignores
             for times in (1, 3):
-                words = [sys.executable, "-B", "-c", GOING, str(int(number)), str(times)]
+                words = [sys.executable, "-B", "-c", CODE_OF_SIGNALS, str(int(number)), str(times)]
                 ran = subprocess.run(words, cwd=TOOLS, capture_output=True, text=True, timeout=SECONDS)
                 self.assertEqual((ran.returncode, ran.stdout, ran.stderr), (128 + number, "", f"audit: {said}\n"), times)
 
     def test_an_ignored_interrupt_stays_ignored(self):
         code = "import os, signal, sys; signal.signal(signal.SIGINT, signal.SIG_IGN); os.execv(sys.executable, [sys.executable, *sys.argv[1:]])"
         for module in ("sys", "argparse"):
-            words = [sys.executable, "-c", code, "-I", "-S", "-B", "-c", IMPORTING, TOOLS / "lint", module]
+            words = [sys.executable, "-c", code, "-I", "-S", "-B", "-c", CODE_OF_INTERRUPTED_IMPORT, TOOLS / "lint", module]
             ran = subprocess.run(words, capture_output=True, text=True, stdin=subprocess.DEVNULL)
             self.assertEqual((ran.returncode, ran.stdout[:6], ran.stderr), (0, "usage:", ""), module)
 
@@ -371,8 +372,8 @@ class Interrupted(unittest.TestCase):
             with self.subTest(said), tempfile.TemporaryDirectory() as folder:
                 tool, pids, room = Path(folder, "tool"), Path(folder, "pids"), Path(folder, "room")
                 room.mkdir()
-                tool.write_text(WORKER)
-                words = [sys.executable, "-B", "-c", BEGUN, tool]
+                tool.write_text(SLEEPING_TOOL)
+                words = [sys.executable, "-B", "-c", CODE_OF_AUDITS, tool]
                 running = subprocess.Popen(words, stderr=subprocess.PIPE, cwd=TOOLS, text=True, env={**os.environ, "TMPDIR": str(room)})
                 self.assertEqual(self.children_of(running, pids, 3), 3)
                 self.assertEqual(len(list(room.iterdir())), 1)
@@ -456,8 +457,8 @@ class Interrupted(unittest.TestCase):
         for sent in itertools.chain(itertools.combinations(said, 2), [said]):
             with self.subTest(sent), tempfile.TemporaryDirectory() as folder:
                 tool, pids = Path(folder, "tool"), Path(folder, "pids")
-                tool.write_text(WORKER)
-                running = subprocess.Popen([sys.executable, "-B", "-c", BEGUN, tool], stderr=subprocess.PIPE, cwd=TOOLS, text=True)
+                tool.write_text(SLEEPING_TOOL)
+                running = subprocess.Popen([sys.executable, "-B", "-c", CODE_OF_AUDITS, tool], stderr=subprocess.PIPE, cwd=TOOLS, text=True)
                 self.assertEqual(self.children_of(running, pids, 3), 3)
                 for number in (signal.SIGSTOP, *sent, signal.SIGCONT):
                     running.send_signal(number)
@@ -575,7 +576,7 @@ class Children(unittest.TestCase):
         with tempfile.TemporaryDirectory() as folder:
             Path(folder, "a.csv").write_bytes(AUCTION.read_bytes())
             Path(folder, "a.txt").write_bytes(AUCTION_RESULTS.read_bytes().replace(b"welfare,3", b"welfare,4"))
-            ran = subprocess.run([sys.executable, "-c", IGNORING, TOOLS / "audit", "--days", folder], capture_output=True, text=True)
+            ran = subprocess.run([sys.executable, "-c", IGNORING_SIGCHLD, TOOLS / "audit", "--days", folder], capture_output=True, text=True)
             self.assertEqual((ran.stdout.splitlines()[1].split()[:2], ran.returncode), (["a", "wrong"], command.DIFFERS), ran.stderr)
 
     def test_runs_of_the_program(self):

@@ -22,7 +22,7 @@ PACKAGES = ("jinja2", "matplotlib", "numpy", "openpyxl", "pandas", "scipy", "tqd
 # What a stranger may have put into the folder in which a tool is started.
 STRANGER = 'import os\nos.write(1, b"a stranger\'s module runs\\n")\nopen("ran", "a").write(__name__)\n'
 # It starts again with Debian's Python, as one that lacks a package, and then says whether that one's packages are found.
-AGAIN = """
+CODE_OF_SECOND_START = """
 import os
 import sys
 from unittest import mock
@@ -42,7 +42,7 @@ else:
 SETTINGS = {"version": 1, "handlers": {"x": {"()": "os.mkdir", "path": "ran"}}}
 OF_DASK = {"DASK_LOGGING": json.dumps(SETTINGS)}, {"DASK_DISTRIBUTED": "5"}, {"DASK_INTERNAL_INHERIT_CONFIG": "zzz"}
 # It prints settings of dask as a tool has them.
-SHOWN = """
+CODE_OF_SETTINGS = """
 import sys
 
 sys.path.insert(0, {tools!r})
@@ -162,7 +162,7 @@ class Isolation(unittest.TestCase):
         program = self.folder / "program"
         self.write_dask_settings(distributed={"client": {"preload": ["ran"]}, "comm": {"tls": {"client": {"cert": "a.pem"}}}})
         for address, cert in (("tcp://a:1", None), ("tls://a:1", "a.pem")):
-            program.write_text(SHOWN.format(tools=str(TOOLS), address=address))
+            program.write_text(CODE_OF_SETTINGS.format(tools=str(TOOLS), address=address))
             environment = {**os.environ, "HOME": str(self.folder)}
             ran = subprocess.run([sys.executable, "-I", program], env=environment, capture_output=True, text=True)
             self.assertEqual((ran.stdout, ran.stderr), (f"[] {{'key': None, 'cert': {cert!r}}}\n", ""), address)
@@ -274,7 +274,7 @@ class Isolation(unittest.TestCase):
         """A tool finds them late; a program of the tests, which starts without -S, from its beginning."""
         program = self.folder / "program"
         for flags, first in ((["-S"], "from lib.base import ending; ending.guard_tool('program')"), ([], "")):
-            program.write_text(AGAIN.format(tools=str(TOOLS), first=first))
+            program.write_text(CODE_OF_SECOND_START.format(tools=str(TOOLS), first=first))
             ran = subprocess.run([sys.executable, "-I", *flags, program], capture_output=True, text=True)
             self.assertEqual((ran.stdout, ran.stderr), ("True\n", ""), flags)
 

@@ -10,7 +10,7 @@ from lib.journal import book
 from lib.results import results, selection
 
 PAGE = TOP / "docs" / "MARKET.md"
-MOST = 8_192  # bytes
+MOST_PAGE_BYTES = 8_192  # bytes
 FUNCTION = re.compile(r"^pub fn (\w+)\(\)\n(.*?)^\{", re.M | re.S)
 MIDDLE = (rules.LOWEST_PRICE + rules.HIGHEST_PRICE) // 2  # the price of a period without orders
 CITED = re.compile(r"`((?:\w+::)*)(\w+)`(?: \(([^)]*)\))?")
@@ -79,7 +79,7 @@ def cleared(*submits):
 
 class Market(unittest.TestCase):
     def test_the_page_is_short(self):
-        self.assertLessEqual(len(PAGE.read_bytes()), MOST)
+        self.assertLessEqual(len(PAGE.read_bytes()), MOST_PAGE_BYTES)
 
     def test_each_law_and_clause_is_on_the_page(self):
         laws, on_page = functions(), {}

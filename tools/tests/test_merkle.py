@@ -6,8 +6,8 @@ import support  # noqa: F401  (the path of lib)
 
 from lib.seal import merkle
 
-MOST = 300
-LEAVES = [merkle.leaf_hash(b"leaf %d" % number) for number in range(MOST)]
+MOST_LEAVES = 300
+LEAVES = [merkle.leaf_hash(b"leaf %d" % number) for number in range(MOST_LEAVES)]
 # The inputs, and the roots of the first leaves, that implementations of Certificate Transparency share.
 KNOWN_LEAVES = ["", "00", "10", "2021", "3031", "40414243", "5051525354555657", "606162636465666768696a6b6c6d6e6f"]
 KNOWN_ROOTS = [
@@ -60,7 +60,7 @@ def proof_by_definition(old, leaves, is_whole=True):
 class Merkle(unittest.TestCase):
     def setUp(self):
         self.tree = merkle.Tree(LEAVES)
-        self.roots = [self.tree.root(size) for size in range(MOST + 1)]
+        self.roots = [self.tree.root(size) for size in range(MOST_LEAVES + 1)]
 
     def test_known_answers(self):
         tree = merkle.Tree()
@@ -71,7 +71,7 @@ class Merkle(unittest.TestCase):
         self.assertEqual(roots, KNOWN_ROOTS)
 
     def test_roots(self):
-        for size in range(MOST + 1):
+        for size in range(MOST_LEAVES + 1):
             self.assertEqual(self.roots[size], root_by_definition(LEAVES[:size]))
             self.assertEqual(merkle.Tree(LEAVES[:size]).root(), self.roots[size])
 
@@ -84,7 +84,7 @@ class Merkle(unittest.TestCase):
                 self.assertEqual(self.tree.consistency_proof(old, size), proof_by_definition(old, leaves))
 
     def test_each_path(self):
-        for size in range(1, MOST + 1):
+        for size in range(1, MOST_LEAVES + 1):
             for place in range(size):
                 path = self.tree.inclusion_proof(place, size)
                 self.assertEqual(merkle.root_of_inclusion_or_none(LEAVES[place], place, size, path), self.roots[size])
@@ -104,7 +104,7 @@ class Merkle(unittest.TestCase):
                 self.assertIsNone(merkle.root_of_inclusion_or_none(LEAVES[place], -1, size, path))
 
     def test_each_pair_of_sizes(self):
-        for size in range(MOST + 1):
+        for size in range(MOST_LEAVES + 1):
             for old in range(size + 1):
                 path = self.tree.consistency_proof(old, size)
                 self.assertTrue(merkle.is_consistent(old, self.roots[old], size, self.roots[size], path), (old, size))

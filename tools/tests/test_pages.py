@@ -18,7 +18,7 @@ from shared.pages import read_links, read_prose
 CRATES = sorted(path for path in (TOP / "crates").iterdir() if (path / "src").is_dir())
 PAGES = [TOP / "README.md", TOP / "CHANGELOG.md", *sorted((TOP / "docs").glob("*.md")), *sorted((TOP / "crates").glob("*/*.md"))]
 PAGES += [TOP / "crates" / "CHECKLISTS.md", TOP / "tests" / "RUNS.md", *(TOP / folder / "NOTES.md" for folder in ("crates", "tests", "tools", "package"))]
-MOST = 200  # characters of a cell
+MOST_CELL_CHARACTERS = 200  # characters of a cell
 WIDEST = 140  # columns of a line that isn't of a table
 # The files with comments, which are as wide at most.
 COMMENTED = ["check", "dam", "bench/run", "library/build", "library/dam.h", "library/heap.c"]
@@ -130,7 +130,7 @@ class Pages(unittest.TestCase):
                 if line.startswith("|"):
                     for cell in line.strip("|").split("|"):
                         with self.subTest(page=page.name, cell=cell[:40]):
-                            self.assertLessEqual(len(cell.strip()), MOST)
+                            self.assertLessEqual(len(cell.strip()), MOST_CELL_CHARACTERS)
 
     def test_tables_have_a_head(self):
         for page in PAGES:

@@ -5,7 +5,7 @@ from .faults import Fault, subject_fault
 
 # If more than this part of the lines is wrong, the results seem to be of another journal. A block that is accepted and should not be
 # makes many lines wrong.
-MOST, MOST_WITH_A_FAULT = 1 / 2, 3 / 4
+MOST_WRONG, MOST_WRONG_WITH_FAULT = 1 / 2, 3 / 4
 
 
 def limit_words(row, price):
@@ -25,7 +25,7 @@ def results_and_faults(problem, data):
         return None, wrong
     follows = selection.outcome(problem, published.accepted)
     wrong += selection_faults(problem, published, follows)
-    most = MOST_WITH_A_FAULT if wrong else MOST
+    most = MOST_WRONG_WITH_FAULT if wrong else MOST_WRONG
     wrong += welfare_faults(problem, published, follows)
     wrong += period_faults(problem, published, follows)
     wrong += hourly_faults(problem, published, follows)
