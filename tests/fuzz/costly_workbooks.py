@@ -69,7 +69,8 @@ def rows_of_names(count, first=0):
 def styles_of_fonts(count):
     """As many fonts and fills as there may be, each with a colour of its own, and a format of each pair."""
     fonts = "".join(f'<font><color theme="5" tint="0.{at}"/><sz val="11"/></font>' for at in range(count))
-    fills = "".join(f'<fill><patternFill patternType="solid"><fgColor theme="6" tint="0.{at}"/></patternFill></fill>' for at in range(count))
+    fill = '<fill><patternFill patternType="solid"><fgColor theme="6" tint="0.{}"/></patternFill></fill>'
+    fills = "".join(map(fill.format, range(count)))
     formats = "".join(f'<xf fontId="{at % count}" fillId="{at % count}"/>' for at in range(30_000))
     return f'<styleSheet xmlns="{MAIN[0]}"><fonts>{fonts}</fonts><fills>{fills}</fills><cellXfs>{formats}</cellXfs></styleSheet>'.encode()
 
@@ -183,7 +184,8 @@ LARGE = {
     "texts like names": (None, lambda: workbook_of_sheets([rows_of_names(16_000, 16_000 * at) for at in range(3)])),
     "fonts, fills and formats": ("", lambda: table_workbook(rows_of_numbers(spelled_style, 150_000), **{STYLES: styles_of_fonts(20_000)})),
     "fractions, and conditions": ("", lambda: workbook_of_sheet(
-        OPEN, rows_of_small_numbers(299_000), b"</sheetData>", *conditions(400_000), b"</worksheet>", **{STYLES: styles_of_conditions(300)})),
+        OPEN, rows_of_small_numbers(299_000), b"</sheetData>", conditions(400_000), b"</worksheet>",
+        **{STYLES: styles_of_conditions(300)})),
     "fractions in first rows": (None, lambda: workbook_of_sheets(
         [[b"<row>", b"<c s='0'><v>1.23456789012345E-300</v></c>" * 2**14, b"</row>"]] * 45, b"".join(styles_of_formats(1, FRACTION)))),
     "long formulas": ("", lambda: table_workbook(

@@ -46,7 +46,8 @@ def parse_rows_and_add_notes(data, needed=(), notes=None, most=None, is_long=Fal
     """The rows of a table, each with the number of its first line; and whether a comma may be the decimal point. A text is separated by
     commas, semicolons or tabs, whichever its header has most of. Of a workbook it is the sheet `orders`, or else the only one that has the
     needed columns. It isn't read further if it has more than `most` rows after its first one. Notes say which sheet was read, that a text
-    isn't in UTF-8, and that formulas may get other values. The rows of a workbook are kept packed, and of a text that may be long not at all."""
+    isn't in UTF-8, and that formulas may get other values. The rows of a workbook are kept packed, and of a text that may be long not at
+    all."""
     notes = [] if notes is None else notes
     if not is_workbook(data):
         found = Text(data, notes, most, MANY if is_long or most is None else 1)

@@ -211,7 +211,8 @@ class Kept:
 
 
 # The kinds of cells: before each cell of a packed row stands a half of a character, which no text has, and says its kind.
-NUMBERS_SHOWN = Formatted, Price, Power, Percentage, Changed, Currency, Repeated, Struck, Unseen, Reversed, Hidden, Rounded, Worded, Shortened
+NUMBERS_CHANGED = Changed, Currency, Repeated, Struck, Unseen, Reversed, Hidden, Rounded, Worded
+NUMBERS_SHOWN = Formatted, Price, Power, Percentage, *NUMBERS_CHANGED, Shortened
 CELLS = str, int, StyledString, StruckString, UnseenString, ReversedString, Uncomputed, Volatile, Date, *NUMBERS_SHOWN, Styled, Truth
 HALVES = {kind: chr(0xD800 + at) for at, kind in enumerate(CELLS)}
 PACKED = re.compile("([\ud800-\udfff])([^\ud800-\udfff]*)")

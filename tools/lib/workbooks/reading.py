@@ -36,8 +36,8 @@ def parse_rows_and_notes(data, preferred, needed=(), most=None):
     notes = [note] if note else []
     if sheet.first_formula and book.is_computed and not book.is_current:
         row, column = sheet.first_formula
-        words = f"the values of formulas, such as that of cell {column_name(column)}{row}, are as saved by another program or an older Excel"
-        notes.append(f"{words}: Excel computes them again once it opens the workbook")
+        words = f"the values of formulas, such as that of cell {column_name(column)}{row}, are as saved by another program or an older"
+        notes.append(f"{words} Excel: Excel computes them again once it opens the workbook")
     return sheet.rows_or_refuse(book.parse_strings(sheet.needed)), notes
 
 
@@ -175,11 +175,12 @@ class Workbook(Part):
         others = [text.quoted(other) for other in sheets if other != name and other not in empty]
         more = f" and {len(others) - MOST_NAMED:,} more" if len(others) > MOST_NAMED else ""
         passed = f", but not {', '.join(others[:MOST_NAMED])}{more}" if others else ""
-        return name, sheets[name], f"of {len(sheets)} sheets, {text.quoted(name)} was read{', a hidden one' * (name in self.hidden)}{passed}"
+        hidden = ", a hidden one" if name in self.hidden else ""
+        return name, sheets[name], f"of {len(sheets)} sheets, {text.quoted(name)} was read{hidden}{passed}"
 
     def find_sheet_and_empty_or_refuse(self, sheets, needed, preferred):
-        """The first sheet with the needed names in its first row, or else the first one, and those that are empty. One that can't be read may
-        have the names too: before that sheet it is a fault. One that isn't read is a fault if it has headings as these."""
+        """The first sheet with the needed names in its first row, or else the first one, and those that are empty. One that can't be read
+        may have the names too: before that sheet it is a fault. One that isn't read is a fault if it has headings as these."""
         tables, names, heads = [name for name in sorted(sheets, key=self.hidden.__contains__) if sheets[name]], Names(needed), 0
         if not needed:
             return tables[0], []

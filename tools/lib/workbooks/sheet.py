@@ -10,7 +10,8 @@ from .cells import Uncomputed, Unseen, UnseenString, Volatile, changes_from_righ
 from .formulas import has_name, has_volatile_function
 from .limits import LAST_COLUMN, LAST_ROW, MOST_CELLS, MOST_ELEMENTS, MOST_OF_FORMULAS, MOST_TEXT, BadWorkbook
 from .limits import broken_error, memory_size, too_many_error
-from .part import ANY_OTHERS, EXTENSIONS, FONT, FONT_PARTS, OF_FONTS, TRUTHS, Texts, strikes_out, truth_word_or_none, unsigned_number_or_none
+from .part import ANY_OTHERS, EXTENSIONS, FONT, FONT_PARTS, OF_FONTS, TRUTHS, Texts, strikes_out, truth_word_or_none
+from .part import unsigned_number_or_none
 from .styles import A_NUMBER_FORMAT, A_STRIKING_FONT, digits_text, general_text
 
 NUMBER = re.compile(r"[+-]?(?:[0-9]+(?:\.[0-9]*)?|\.[0-9]+)(?:[eE][+-]?[0-9]{1,3})?")

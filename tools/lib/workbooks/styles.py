@@ -332,7 +332,8 @@ class Styles(Part):
         "gradientFill": {ANY_OTHERS, "stop"},
         "font": OF_FONTS,
     }
-    ELSEWHERE = {"numFmt", "xf", "alignment", "dxfs", "dxf", "font", *FONT_PARTS, "fill", "patternFill", "gradientFill", "fgColor", "bgColor"}
+    OF_FILLS = {"fill", "patternFill", "gradientFill", "fgColor", "bgColor"}
+    ELSEWHERE = {"numFmt", "xf", "alignment", "dxfs", "dxf", "font", *FONT_PARTS, *OF_FILLS}
 
     def __init__(self):
         super().__init__()
@@ -444,7 +445,10 @@ class Styles(Part):
             self.from_right.add(len(self.formats) - 1)
 
     def cell_formats(self):
-        made = [Struck if at in self.struck else Unseen if at in self.unseen else self.shown.get(number, Formatted) for at, number in enumerate(self.formats)]
+        made = [self.shown.get(number, Formatted) for number in self.formats]
+        for kind, formats in ((Unseen, self.unseen), (Struck, self.struck)):
+            for at in formats:
+                made[at] = kind
         return [Repeated if at in self.filled and shown not in (Date, Percentage) else shown for at, shown in enumerate(made)]
 
     def styled_formats(self):
