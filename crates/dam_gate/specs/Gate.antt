@@ -10,7 +10,7 @@ use Rattle.dam_gate.specs.declared.keeper.BeginFault.TheVariants.{BadDay, Memory
 use Rattle.dam_gate.specs.declared.keeper.KeeperFault.{KeeperFault}
 use Rattle.dam_gate.specs.declared.keeper.KeeperFault.TheVariants.{JournalFull as KeeperFull, Memory as KeeperMemory}
 use Rattle.dam_gate.specs.declared.gate.GateFault.{GateFault}
-use Rattle.dam_gate.specs.declared.gate.GateFault.TheVariants.{NotYours, JournalFull, Memory, NoVersion}
+use Rattle.dam_gate.specs.declared.gate.GateFault.TheVariants.{NotYours, JournalFull, Memory, Stopped}
 use Rattle.dam_gate.specs.declared.pass.Look.{Look}
 use Rattle.dam_gate.specs.Journal.{IsHistory}
 use Rattle.dam_book.specs.Command.{is_journal_full}
@@ -33,14 +33,14 @@ gate_fault_of (KeeperFull n) = JournalFull n
 gate_fault_of KeeperMemory = Memory
 
 -- the faults that a gate may answer to the command of a pass in place of its entry: the pass may not give it; or, if it
--- may, a journal of as many entries is full for it, memory ran out, or no version could be shown. Other threads may
+-- may, a journal of as many entries is full for it, memory ran out, or the gate has stopped. Other threads may
 -- change the journal, so this doesn't mention one, and doesn't say that there was room if one of the last two is the
 -- answer
 abbrev pub IsGateFault : AccountState → Command → GateFault → Type 0
 IsGateFault p c NotYours = is_own p.holder c ≡ false
 IsGateFault p c (JournalFull held) = (is_own p.holder c ≡ true) × (held ≤ most_entries) × (is_journal_full held c ≡ true)
 IsGateFault p c Memory = is_own p.holder c ≡ true
-IsGateFault p c NoVersion = is_own p.holder c ≡ true
+IsGateFault p c Stopped = is_own p.holder c ≡ true
 
 -- the history is one that a journal of a day with this number of periods may hold; it ends with the entry, and before
 -- that begins with all that the pass had seen and learnt of

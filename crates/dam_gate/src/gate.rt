@@ -34,10 +34,11 @@ pub enum GateFault {
     /// Memory ran out.
     #[error("out of memory")]
     Memory,
-    /// The history has an entry that the journal lacks, or the slot of the version was taken, so the version of the command
-    /// couldn't be shown. In the tests a call never leaves a gate in this state.
-    #[error("no version could be shown")]
-    NoVersion,
+    /// The gate has stopped: its history has an entry that its journal lacks, so no version can be shown any more, and
+    /// each later call fails. No clause rules this out, but no test reaches it. A caller needn't tell it from other faults:
+    /// only after `Memory` may a call succeed if it is made again.
+    #[error("the gate has stopped")]
+    Stopped,
 }
 
 impl From<AllocError> for GateFault {

@@ -1,4 +1,5 @@
-ghost use Rattle.std.specs.Prelude.{◌≡◌, ◌⊎◌, ◌<◌, ◌≤◌, ◌+◌, ◌∷◌, ◌++◌, [], false, length, option_copied, IfOk, IfErr, OnOk, OnErr};
+ghost use Rattle.std.specs.Prelude.{◌≡◌, ◌⊎◌, ◌<◌, ◌≤◌, ◌+◌, ◌∷◌, ◌++◌, [], false, length, option_copied, IfOk, IfErr, IfSome, IfNone, OnOk, OnErr, OnSome};
+ghost use Rattle.std.specs.Arc.{arc_value};
 ghost use mathlib.Core.List.{IsPrefix};
 ghost use Rattle.dam_book.specs.Limits.{most_entries};
 ghost use Rattle.dam_gate.specs.Gate.{IsKeeperFault};
@@ -7,18 +8,18 @@ ghost use Rattle.dam_book.specs.Command.{is_journal_full};
 ghost use Rattle.dam_gate.specs.Pass.{knowing_nothing};
 ghost use Rattle.dam_gate.specs.inside.Keeper.{SaysWhetherFull};
 ghost use Rattle.dam_gate.specs.inside.Locked.{IsPassFault, entry_of};
-ghost use Rattle.dam_gate.specs.inside.Shown.{IsAtMostNext, IsNext, IsNoteOf, slot_name};
+ghost use Rattle.dam_gate.specs.inside.Shown.{IsAtMostNext, IsNext, IsNoteOf, name_after, slot_name};
 ghost use Rattle.left_right.specs.Handles.{pending, published};
 
 use crate::gate::{GateFault, PassFault};
 use crate::history::{EntryCounter, History};
 use crate::journal::Journal;
-use crate::keeper::{Keeper, KeeperFault, PreparedStep};
+use crate::keeper::{Keeper, KeeperFault};
 use crate::limits::MOST_PASSES;
 use crate::opening::{Answered, GateName, NamedOpening, Opening};
 use crate::pass::{FIRST_RECEIPTS, Pass};
 use crate::version::{NextShown, Shown, Slot, Version, filled_slot};
-use dam_book::{Command, DayLength, PackedCommand, Participant, Reply, Seed};
+use dam_book::{Book, Command, DayLength, PackedCommand, PackedEntry, Participant, Reply, Seed};
 use left_right::{Absorb, WriteHandle};
 use once_cell::race::{Note as CellNote, OnceBox};
 use std::alloc::{AllocError, Global};
@@ -154,41 +155,49 @@ fn release_earlier_version<J: GateName, R: Wait + Drop>(
     let _shown = writer.publish();
 }
 
-/// The history after the step, whose version is then in the slot, as the note of its cell shows.
+/// The history after the entry. Its version is then in the slot, as the note of the slot's cell shows, and the writer has
+/// published the slots that waited. `None` if the gate has stopped: the history goes on in another way, the slot was full,
+/// or the writer didn't publish.
 ///
 /// The next version takes the place of the present one in its box, because no memory may be refused once the history
 /// has gone on.
-fn extend_history_and_fill<J: GateName>(
+fn extend_history_and_show<J: GateName, R: Wait + Drop>(
     entry_counter: &EntryCounter<J>,
     history: &History<J>,
     seen: &History<J>,
     learnt: &History<J>,
-    prepared: &PreparedStep,
+    entry: &PackedEntry,
+    book: Arc<Book, Global>,
     slot: &Slot<J>,
     mut version: Box<Version<J>>,
-) -> Result<(History<J>, CellNote<Version<J>>), GateFault>
+    writer: &mut WriteHandle<Shown<J>, NextShown<J>, R>,
+) -> Option<(History<J>, CellNote<Version<J>>)>
     requires journal { IsJournal
-        (record { entries = history.now ++ prepared.now.entry ∷ []; book = prepared.now.book }) }
-    requires day { prepared.now.book.periods ≡ J.opening.periods }
-    ensures history { IfOk result (λ r. r.0 ≡ history.now ++ prepared.now.entry ∷ []) }
-    ensures shown { IfOk result (λ r. IsNoteOf (slot_name slot.now)
-        (record { entries = history.now ++ prepared.now.entry ∷ []; book = prepared.now.book })
-        r.1) }
-    ensures seen { OnOk result (IsPrefix seen.now history.now) }
-    ensures learnt { OnOk result (IsPrefix learnt.now history.now) }
-    ensures fault { IfErr result (λ fault.
-        (fault ≡ GateFault.Memory) ⊎ (fault ≡ GateFault.NoVersion)) }
+        (record { entries = history.now ++ entry.now ∷ []; book = arc_value book }) }
+    requires day { (arc_value book).periods ≡ J.opening.periods }
+    ensures history { IfSome result (λ r. r.0 ≡ history.now ++ entry.now ∷ []) }
+    ensures shown { IfSome result (λ r. IsNoteOf (slot_name slot.now)
+        (record { entries = history.now ++ entry.now ∷ []; book = arc_value book }) r.1) }
+    ensures seen { OnSome result (IsPrefix seen.now history.now) }
+    ensures learnt { OnSome result (IsPrefix learnt.now history.now) }
+    ensures published { OnSome result (slot_name (published writer.new).slot
+        ≡ name_after (slot_name (published writer.old).slot) (pending writer.old)) }
+    ensures waiting { OnSome result (pending writer.new ≡ []) }
+    ensures unpublished { IfNone result (published writer.new ≡ published writer.old) }
+    ensures still_waiting { IfNone result (pending writer.new ≡ pending writer.old) }
 {
-    let book = prepared.clone_book_handle()?;
-    let Some(after) = entry_counter.add_entry(history, seen, learnt, prepared.entry()) else {
-        return Err(GateFault::NoVersion);
+    let Some(after) = entry_counter.add_entry(history, seen, learnt, entry) else {
+        return None;
     };
     *version = Version::new(book, after.copy());
     let mut note = slot.note();
     if slot.set_as(version, &mut note).is_err() {
-        return Err(GateFault::NoVersion);
+        return None;
     }
-    Ok((after, note))
+    if writer.publish().is_err() {
+        return None;
+    }
+    Some((after, note))
 }
 
 impl<J: GateName, R: Wait + Drop> Locked<J, R> {
@@ -347,28 +356,30 @@ impl<J: GateName, R: Wait + Drop> Locked<J, R> {
         ensures uncounted { OnErr result (part.new.amount ≡ part.old.amount) }
         ensures err { OnErr result (self.new ≡ self.old) }
         ensures fault { IfErr result (λ fault.
-            (fault ≡ GateFault.Memory) ⊎ (fault ≡ GateFault.NoVersion)) }
+            (fault ≡ GateFault.Memory) ⊎ (fault ≡ GateFault.Stopped)) }
     {
         let _held = self.keeper.len(); // for the proof: the invariant of a journal
         let prepared = self.keeper.prepare_packed(command)?;
         let version = version_of(self.alloc, &self.keeper, &self.history)?;
         let slot = stage_next_slot(self.alloc, &mut self.writer, &mut self.staged_slot)?;
-        let (after, shown_note) = extend_history_and_fill(
+        let entry = prepared.entry();
+        let book = prepared.clone_book_handle()?;
+        let Some((after, shown_note)) = extend_history_and_show(
             &self.entry_counter,
             &self.history,
             seen,
             learnt,
-            &prepared,
+            entry,
+            book,
             &slot,
             version,
-        )?;
-        if self.writer.publish().is_err() {
-            return Err(GateFault::NoVersion);
-        }
+            &mut self.writer,
+        ) else {
+            return Err(GateFault::Stopped);
+        };
         release_earlier_version(&mut self.writer);
         self.staged_slot = None;
         self.shown_note = shown_note;
-        let entry = prepared.entry();
         let answer = (entry.number(), entry.reply());
         self.keeper.append_prepared(prepared);
         self.answered_calls.add(part, 1);

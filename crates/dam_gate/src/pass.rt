@@ -235,7 +235,7 @@ impl<J: GateName> Pass<J> {
             (IsPrefix self.old.learnt locked.old.journal.entries) }
         ensures err { OnErr result ((locked.new ≡ locked.old) × (self.new ≡ self.old)) }
         ensures fault { IfErr result (λ fault.
-            (fault ≡ GateFault.Memory) ⊎ (fault ≡ GateFault.NoVersion)) }
+            (fault ≡ GateFault.Memory) ⊎ (fault ≡ GateFault.Stopped)) }
     {
         let _held = locked.len(); // for the proof: the invariant of a journal
         self.receipts.reserve(1)?;

@@ -9,8 +9,8 @@ use Rattle.dam_gate.specs.inside.Locked.{LockedState, entry_of}
 use Rattle.dam_gate.proofs.Histories.{book_after-periods, journal_after_is}
 use Rattle.dam_gate.proofs.locked.Locked.journal_and_publish.Goals as goal
 
-pub extend_history_and_fill-requires-clause-journal : goal.extend_history_and_fill-requires-clause-journal
-extend_history_and_fill-requires-clause-journal g c =
+pub extend_history_and_show-requires-clause-journal : goal.extend_history_and_show-requires-clause-journal
+extend_history_and_show-requires-clause-journal g c =
     let j : JournalState = c.self.inside.keeper.journal in
     let command = c.args.command in
     let prepared = c.in_ok-prepared.ensures.prepared in
@@ -20,15 +20,15 @@ extend_history_and_fill-requires-clause-journal g c =
     ∙ ap (λ (x : JournalState). book_after x.book command) same in
     let left : is_journal_full (length j.entries) command ≡ false = ap (λ (x : JournalState). is_journal_full (length x.entries) command) (sym same)
     ∙ prepared.left in
-    rw (c.self.invariant.0, entry, book) (journal_after_is j command c.len-held.ensures.valid left)
+    rw (c.self.invariant.0, c.entry-entry.ensures, entry, c.in_ok-book.ensures, book) (journal_after_is j command c.len-held.ensures.valid left)
 
-pub extend_history_and_fill-requires-clause-day : goal.extend_history_and_fill-requires-clause-day
-extend_history_and_fill-requires-clause-day g c =
+pub extend_history_and_show-requires-clause-day : goal.extend_history_and_show-requires-clause-day
+extend_history_and_show-requires-clause-day g c =
     let j : JournalState = c.self.inside.keeper.journal in
     let command = c.args.command in
     let book : c.in_ok-prepared.prepared.book ≡ book_after j.book command =
     c.in_ok-prepared.ensures.prepared.book ∙ ap (λ (x : JournalState). book_after x.book command) c.prepare_packed.ensures.journal in
-    ap (λ (b : BookState). b.periods) book ∙ (book_after-periods j.book command ∙ c.self.invariant.1)
+    ap (λ (b : BookState). b.periods) (c.in_ok-book.ensures ∙ book) ∙ (book_after-periods j.book command ∙ c.self.invariant.1)
 
 pub returns-clause-entry : goal.returns-clause-entry
 returns-clause-entry g c =
@@ -42,7 +42,7 @@ pub returns-clause-history : goal.returns-clause-history
 returns-clause-history g c =
     rw (
       ← c.self.view_is,
-      c.in_ok-after.ensures.history,
+      c.in-Some.ensures.history,
       c.self.invariant.0,
       c.number.ensures,
       c.reply.ensures,
@@ -71,9 +71,9 @@ pub returns-in_err-slot-clause-err : goal.returns-in_err-slot-clause-err
 returns-in_err-slot-clause-err g c =
     when_refused c.from_residual-in_err-slot.result (ap (with_journal c.self.inside.issued) c.prepare_packed.ensures.journal ∙ c.self.view_is)
 
-pub returns-in_err-after-clause-err : goal.returns-in_err-after-clause-err
-returns-in_err-after-clause-err g c =
-    when_refused c.from_residual-in_err-after.result (ap (with_journal c.self.inside.issued) c.prepare_packed.ensures.journal ∙ c.self.view_is)
+pub returns-in_err-book-clause-err : goal.returns-in_err-book-clause-err
+returns-in_err-book-clause-err g c =
+    when_refused c.from_residual-in_err-book.result (ap (with_journal c.self.inside.issued) c.prepare_packed.ensures.journal ∙ c.self.view_is)
 
 pub invariant_of-self : goal.invariant_of-self
 invariant_of-self g c = rw c.prepare_packed.ensures.journal c.self.invariant
