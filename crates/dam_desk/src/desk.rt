@@ -84,7 +84,7 @@ impl<D: Disk> Desk<D> {
         journals_grow();
         let _safe = self.store.is_broken(); // for the proof: what an open store has is safe
         self.intake.enter_batch(bytes)?;
-        let batch = self.intake.make_batch()?;
+        let batch = self.intake.batch_of_records()?;
         self.store.append(&batch)?;
         let answers = self.intake.answers.as_slice();
         write_text(writer, answers)?;

@@ -19,7 +19,7 @@ use crate::reading::{Said, read_input_line};
 use crate::text_lines::first_line;
 use dam_book::laws::runs_grow;
 use dam_book::{Command, DayLength, PackedEntry, Seed};
-use dam_store::Batch;
+use dam_store::{Batch, BatchFault};
 use std::alloc::{AllocError, Global};
 
 /// The day that a desk has, the line that has begun, and the batch.
@@ -209,8 +209,8 @@ impl Intake {
         day.apply_and_append_entry(number, command, &mut self.entries, &mut self.answers)
     }
 
-    /// Makes the batch of the records that are entered.
-    pub(crate) fn make_batch(&self) -> Result<Batch, AllocError>
+    /// The batch of the records that are entered.
+    pub(crate) fn batch_of_records(&self) -> Result<Batch, AllocError>
         ensures { IfOk result (λ batch. text_of batch ≡ entered_text self.now) }
     {
         let Some(day) = &self.day else {
@@ -249,12 +249,12 @@ fn push_lines(batch: &mut Batch, text: &[u8]) -> Result<(), AllocError>
     Ok(())
 }
 
-/// Adds a line. Only memory can be refused for it: a written record has no newline and no zero byte.
+/// Adds a line. A written record has no newline and no zero byte, so it is never refused as `NotALine`.
 fn push_line(batch: &mut Batch, line: &[u8]) -> Result<(), AllocError>
     ensures { OnOk result (batch.new ≡ batch.old ++ line.now ∷ []) }
 {
     match batch.push(line) {
         Ok(()) => Ok(()),
-        Err(_) => Err(AllocError),
+        Err(BatchFault::Memory | BatchFault::NotALine) => Err(AllocError),
     }
 }

@@ -6,7 +6,7 @@ use Rattle.dam_desk.specs.inside.Intake.{records_text}
 use Rattle.dam_desk.specs.inside.TextLines.{is_ended}
 use Rattle.dam_desk.specs.declared.desk_day.Day.{Day}
 use Rattle.dam_desk.proofs.Texts.{ended_records}
-use Rattle.dam_desk.proofs.intake.Intake.make_batch.Goals as goal
+use Rattle.dam_desk.proofs.intake.Intake.batch_of_records.Goals as goal
 
 pub returns : goal.returns
 returns c =
