@@ -96,8 +96,8 @@ fn rule_of_journal(fault: JournalFault) -> Option<Rule>
         }
         JournalFault::FieldCount(_) =>
             "a record has nine fields, and so eight commas, as in close,,,,,,,,",
-        JournalFault::BadField(1, field) => rule_of_day(field),
-        JournalFault::BadField(_, field) => return Some(rule_of_command(field)),
+        JournalFault::BadField { record: 1, field } => rule_of_day(field),
+        JournalFault::BadField { field, .. } => return Some(rule_of_command(field)),
         JournalFault::Memory => return None,
     };
     Some(Rule::Plain(text))

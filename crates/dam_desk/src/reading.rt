@@ -33,7 +33,7 @@ fn line_fault(before: usize, fault: JournalFault) -> Result<InputLineFault, Allo
         JournalFault::TooManyRecords => Ok(InputLineFault::NotOneRecord),
         JournalFault::NotDay => Ok(InputLineFault::NotDay),
         JournalFault::FieldCount(_) => Ok(InputLineFault::FieldCount),
-        JournalFault::BadField(_, field) => Ok(InputLineFault::BadField(field)),
+        JournalFault::BadField { field, .. } => Ok(InputLineFault::BadField(field)),
         JournalFault::Memory => Err(AllocError),
     }
 }

@@ -32,7 +32,7 @@ pub enum RunFault {
     /// that it is the least such piece.
     Unfinished { piece: u32, visited: Nodes },
     /// The answers of the search's workers lack this piece or repeat it. The search never answers so, and
-    /// so no run does.
+    /// so no run does. Its line has the word `Collected`.
     AnswerMissingOrRepeated { piece: u32 },
     /// Memory ran out.
     Memory,

@@ -93,7 +93,7 @@ fn input_fault_line(fault: JournalFault) -> ArrayString<ROOM>
             "input: FieldCount in record ",
             record as u64,
         ),
-        JournalFault::BadField(record, field) => bad_field_line(record, field),
+        JournalFault::BadField { record, field } => bad_field_line(record, field),
         JournalFault::Memory => line_of_words("memory"),
     }
 }

@@ -1,4 +1,4 @@
-ghost use Rattle.std.specs.Prelude.{◌≡◌, ◌≢◌, ◌<◌, [], ◌∷◌, true, false, codes, decimal, drop, IfSome, MatchOption, MatchResult};
+ghost use Rattle.std.specs.Prelude.{◌≡◌, ◌≢◌, ◌<◌, [], ◌∷◌, true, false, codes, drop, IfSome, MatchOption, MatchResult};
 ghost use Rattle.dam_book.specs.Period.{IsPeriod};
 ghost use Rattle.dam_book.specs.Quantity.{IsQuantity};
 ghost use Rattle.std.specs.Result.{IsErrAnd};
@@ -8,7 +8,7 @@ ghost use Rattle.dam_book.specs.Fields.{volumes_text};
 ghost use Rattle.dam_book.specs.Book.{is_day};
 ghost use Rattle.dam_results.specs.Records.{day_row, optional_text, side_word};
 ghost use Rattle.dam_results.specs.inside.NineFields.{fields_in, ChecksEmpty, ReadsCommand};
-ghost use Rattle.dam_results.specs.Rules.{OneOf, Periods, OneVolume, NameOrEmpty, Obeys, IsLeastBroken, day_rules, hour_rules, block_rules, submit_of, submit_rules, amend_rules, cancel_rules, close_rules, command_rules};
+ghost use Rattle.dam_results.specs.Rules.{OneOf, OneVolume, NameOrEmpty, Obeys, IsLeastBroken, day_rules, hour_rules, block_rules, submit_of, submit_rules, amend_rules, cancel_rules, close_rules, command_rules};
 
 use crate::nine_fields::NineFields;
 use dam_book::{
@@ -48,14 +48,6 @@ fn check_no_order(row: &NineFields) -> Result<(), usize>
     check_empty(row.price, 6)?;
     check_empty(row.volumes, 7)?;
     check_no_family(row)
-}
-
-fn read_periods(field: &[u8]) -> Option<DayLength>
-    ensures { MatchOption result
-        (¬ (Obeys Periods field.now))
-        (λ periods. (is_day periods ≡ true) × (field.now ≡ decimal periods)) }
-{
-    read_day_length(field)
 }
 
 fn read_side(field: &[u8]) -> Option<Side>
@@ -104,7 +96,7 @@ pub(crate) fn read_day(row: &NineFields) -> Result<DayLength, usize>
         (λ periods. (is_day periods ≡ true) × (fields_in row.now ≡ day_row periods))
         (IsLeastBroken day_rules (fields_in row.now)) }
 {
-    let periods = read_periods(row.who).ok_or(2usize)?;
+    let periods = read_day_length(row.who).ok_or(2usize)?;
     check_empty(row.name, 3)?;
     check_no_order(row)?;
     Ok(periods)

@@ -67,9 +67,9 @@ pub enum JournalFault {
     /// The record of this number doesn't have nine fields.
     #[error("record {0} does not have nine fields")]
     FieldCount(usize),
-    /// In the record of the first number, the field of the second is the least that breaks its rule.
-    #[error("field {1} of record {0} is bad")]
-    BadField(usize, usize),
+    /// In this record, this field is the least that breaks its rule.
+    #[error("field {field} of record {record} is bad")]
+    BadField { record: usize, field: usize },
     /// Memory ran out; it may stand in place of any fault of a record, of `NotDay`, or of a journal.
     #[error("out of memory")]
     Memory,
@@ -126,7 +126,7 @@ fn read_day_fields(fields: &[Field]) -> Result<DayLength, JournalFault>
     let Some(row) = NineFields::of(fields) else {
         return Err(JournalFault::FieldCount(1));
     };
-    read_day(&row).map_err(|field| JournalFault::BadField(1, field))
+    read_day(&row).map_err(|field| JournalFault::BadField { record: 1, field })
 }
 
 /// The fields of a later record, if its number is within the limit and it has nine.
@@ -174,12 +174,12 @@ fn take_record<T: FromJournal>(
         (λ fault. (fault ≡ JournalFault.Memory)
         ⊎ IsRecordFault (number + 1) (fields_of fields.now) fault) }
 {
-    let record_number = number as usize + 1;
-    let row = later_fields(record_number, fields)?;
+    let record = number as usize + 1;
+    let row = later_fields(record, fields)?;
     let mut command = Command::Close;
     match read_command(&row, &mut command) {
         Ok(()) => made.take_command(number, &command)?,
-        Err(field) => return Err(JournalFault::BadField(record_number, field)),
+        Err(field) => return Err(JournalFault::BadField { record, field }),
     }
     Ok(())
 }

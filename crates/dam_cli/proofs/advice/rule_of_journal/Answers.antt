@@ -16,5 +16,5 @@ returns-clause-limits c =
       | in-FieldCount w ↦ (rw w.in-FieldCount.is tt)
       | in-BadField-eq1-default w ↦
           (let day = w.in-BadField-eq1-default in
-          rw (day.is, w.text-is) (λ first. w.rule_of_day-text.ensures.days, λ command. absurd (command (sym day.field-0-is ∙ day.field-0-test))))
+          rw (day.is, w.text-is) (λ first. w.rule_of_day-text.ensures.days, λ command. absurd (command (sym day.record-is ∙ day.record-test))))
     ]
