@@ -19,6 +19,7 @@ SHARED, STATIC = "library/out/libdam.so.1", "library/out/libdam.a"
 BUILT = {PROGRAM: "dam_cli", DESK: "dam_desk", SHARED: sources.LIBRARY, STATIC: sources.LIBRARY}
 MADE_BY = {PROGRAM: "./dam prove", DESK: "./dam prove", SHARED: "library/build", STATIC: "library/build"}
 CHECKED = TOP / "out" / "check.json"
+NOT_TOTALS = OSError, ValueError, KeyError, TypeError, RecursionError  # faults of a file that no check wrote
 SHOWN = 3  # changes that are named
 # The commands that make a package, with Debian's package of each.
 NEEDED = {
@@ -83,21 +84,30 @@ def require_present_builds():
             raise command.Stop(f"{fault}: run {MADE_BY[name]}")
 
 
-def read_totals_or_stop(path, commit):
-    """The totals of a check of this commit. If no file is named, that is the last check of this clone, or None if it was of another
-    commit."""
+def read_totals_or_raise(path):
+    """The totals that a check wrote, and its commit."""
+    totals = json.loads(Path(path).read_text(encoding="utf-8"))
+    return totals, totals["commit"]
+
+
+def read_last_totals_or_none(commit):
+    """The totals of the last check of this clone; None if there is none, or if it was of another commit."""
     try:
-        told = json.loads(Path(path or CHECKED).read_text(encoding="utf-8"))
-        of = told["commit"]
-    except (OSError, ValueError, KeyError, TypeError, RecursionError):
-        if path is None:
-            return None
-        raise command.Stop(f"{command.shown(path)} isn't what ./check writes to out/check.json") from None
-    if of == commit:
-        return told
-    if path is None:
+        totals, of = read_totals_or_raise(CHECKED)
+    except NOT_TOTALS:
         return None
-    raise command.Stop(f"{command.shown(path)} is of {'changed files' if of is None else f'commit {of}'}, and this clone of {commit}")
+    return totals if of == commit else None
+
+
+def read_totals_or_stop(path, commit):
+    """The totals of a check of this commit."""
+    try:
+        totals, of = read_totals_or_raise(path)
+    except NOT_TOTALS:
+        raise command.Stop(f"{command.shown(path)} isn't what ./check writes to out/check.json") from None
+    if of != commit:
+        raise command.Stop(f"{command.shown(path)} is of {'changed files' if of is None else f'commit {of}'}, and this clone of {commit}")
+    return totals
 
 
 def require_commands():

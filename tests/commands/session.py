@@ -206,7 +206,9 @@ def run_and_check_commands(counts, name, reader, room):
         finally:
             children.kill_group(process)
     ended = process.returncode
-    printed = {step.quoted: check_step_and_return_output(counts, step, room / str(number), ended) for number, step in enumerate(made)}
+    printed = {}
+    for number, step in enumerate(made):
+        printed[step.quoted] = check_step_and_return_output_or_none(counts, step, room / str(number), ended)
     return {quoted: shown for quoted, shown in printed.items() if quoted and shown}
 
 
@@ -221,8 +223,8 @@ def exiting_at_signals():
             signal.signal(number, action)
 
 
-def check_step_and_return_output(counts, step, at, status):
-    """Checks a step by its files, and returns its output."""
+def check_step_and_return_output_or_none(counts, step, at, status):
+    """Checks a step by its files, and returns its output; None if it wasn't run."""
     if not Path(f"{at}.out").exists():
         counts.check(f"{step.about}: not run, since one before it failed", False)
         return None

@@ -1,8 +1,11 @@
 """The packages of tools/lib: each imports only those that its docstring names, nothing private crosses, and no two import each other.
-And the modules of all folders: no definition hides another one, and each name that is asked of a module is one that it defines."""
+And the files in Python of all folders: no definition hides another one, the names of functions tell generators and None, and each name
+that is asked of a module is one that it defines."""
 
 import ast
 import collections
+import functools
+import itertools
 import re
 import unittest
 from pathlib import Path
@@ -12,7 +15,6 @@ from support import TOP
 
 LIB = TOP / "tools" / "lib"
 PACKAGES = sorted(path.parent.name for path in LIB.glob("*/__init__.py"))
-MODULES = [*LIB.rglob("*.py"), *(TOP / "bench").glob("*.py"), *(TOP / "tests").rglob("*.py"), *(TOP / "tools" / "tests").glob("*.py")]
 # Code that asks for stale names, each once, and for names that modules have, or that no module is asked for.
 STALE = """
 import compare
@@ -54,6 +56,22 @@ def end(): return None
 @contextlib.contextmanager
 def opening_and_return(): yield 1
 """
+# Definitions, of which the last A, b, C, E and F hide others. C is bound to two numbers, and D twice to one.
+HIDDEN = """
+def a(): pass
+class A:
+    def b(self): pass
+    def a(self): pass
+    def b(self): pass
+    F = 1
+    F = 2
+class A: pass
+C, D = 1, (2, 3)
+C: int = 2
+(D, E), (G, *H) = ((2, 3), 4), (5, 6)
+def E(): pass
+I, J = J, I = read()
+"""
 NONE = re.compile("_or_none$|^try_|_or_note_faults?$")  # the names of functions that may return None
 # What may be None with another name: a string of a table by its number, as of a dictionary; a part of a workbook, or a fault if it has
 # two; a value of JSON, of which null is one.
@@ -73,6 +91,12 @@ def files_in_python():
     for path in [*TOP.iterdir(), *(path for folder in folders for path in folder.rglob("*"))]:
         if path.is_file() and (path.suffix == ".py" or not path.suffix and re.match(rb"#!.*python", path.read_bytes()[:80])):
             yield path.resolve()
+
+
+@functools.cache
+def parsed_files():
+    """The path in the clone of each file in Python, and its tree."""
+    return [(str(path.relative_to(TOP)), ast.parse(path.read_text())) for path in files_in_python()]
 
 
 def imports(path):
@@ -96,12 +120,35 @@ def private_names(tree):
             yield f"{node.value.id}.{node.attr}"
 
 
+def bound_values(target, value):
+    """Each name of a target, and the text of its value; or of the whole value, if that has no part for each name."""
+    if isinstance(target, ast.Name):
+        yield target.id, ast.unparse(value)
+    elif isinstance(target, (ast.Tuple, ast.List)):
+        is_matched = isinstance(value, (ast.Tuple, ast.List)) and len(value.elts) == len(target.elts)
+        for each, part in zip(target.elts, value.elts if is_matched else itertools.repeat(value)):
+            yield from bound_values(each, part)
+    elif isinstance(target, ast.Starred):
+        yield from bound_values(target.value, value)
+
+
+def definitions(body):
+    """The names that a module or a class defines: those of classes and functions, and a constant's once for each of its values."""
+    values = set()
+    for node in body:
+        if isinstance(node, (ast.ClassDef, ast.FunctionDef, ast.AsyncFunctionDef)):
+            yield node.name
+        elif isinstance(node, (ast.Assign, ast.AnnAssign)) and node.value:
+            for target in node.targets if isinstance(node, ast.Assign) else [node.target]:
+                values.update(bound_values(target, node.value))
+    yield from (name for name, _ in sorted(values))
+
+
 def hidden_names(tree):
-    """The names that a module or a class gives to several of its classes or functions, of which the last hides the others."""
+    """The names that a module or a class gives to several of its classes, functions or values, of which the last hides the others."""
     for node in ast.walk(tree):
         if isinstance(node, (ast.Module, ast.ClassDef)):
-            names = [one.name for one in node.body if isinstance(one, (ast.ClassDef, ast.FunctionDef, ast.AsyncFunctionDef))]
-            yield from (name for name, count in collections.Counter(names).items() if count > 1)
+            yield from (name for name, count in collections.Counter(definitions(node.body)).items() if count > 1)
 
 
 def own_nodes(function):
@@ -156,24 +203,22 @@ class Packages(unittest.TestCase):
 
     def test_no_private_name_is_asked_of_another_module(self):
         self.assertEqual(list(private_names(ast.parse("from ..journal import book\nbook._rows, book.rows, self._rows"))), ["book._rows"])
-        for path in MODULES:
-            with self.subTest(path=str(path.relative_to(TOP))):
-                self.assertEqual(list(private_names(ast.parse(path.read_text()))), [])
+        for path, tree in parsed_files():
+            with self.subTest(path=path):
+                self.assertEqual(list(private_names(tree)), [])
 
     def test_no_definition_hides_another(self):
-        twice = "def a(): pass\nclass A:\n    def b(self): pass\n    def a(self): pass\n    def b(self): pass\nclass A: pass\n"
-        self.assertEqual(list(hidden_names(ast.parse(twice))), ["A", "b"])
-        for path in MODULES:
-            with self.subTest(path=str(path.relative_to(TOP))):
-                self.assertEqual(list(hidden_names(ast.parse(path.read_text()))), [])
+        self.assertEqual(sorted(hidden_names(ast.parse(HIDDEN))), ["A", "C", "E", "F", "b"])
+        for path, tree in parsed_files():
+            with self.subTest(path=path):
+                self.assertEqual(list(hidden_names(tree)), [])
 
     def test_names_tell_generators_and_none(self):
         planted = ["add_and_return_lines", "find_file", "answer"]
         self.assertEqual(list(misnamed_functions(ast.parse(MISNAMED))), planted)
-        for path in files_in_python():
-            if path.is_relative_to(TOP / "tools") and not path.is_relative_to(TOP / "tools" / "tests"):
-                with self.subTest(path=str(path.relative_to(TOP))):
-                    self.assertEqual(list(misnamed_functions(ast.parse(path.read_text()))), [])
+        for path, tree in parsed_files():
+            with self.subTest(path=path):
+                self.assertEqual(list(misnamed_functions(tree)), [])
 
     def test_names_asked_of_modules_are_theirs(self):
         """Among others, in this file: the scan finds each stale name of STALE."""

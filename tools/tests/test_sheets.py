@@ -449,16 +449,16 @@ class Tolerance(unittest.TestCase):
             try:
                 plain = lacking.decode("utf-16-le").encode()
             except UnicodeDecodeError:
-                faults[place] = self.fault_of(codecs.BOM_UTF16_LE + lacking)
+                faults[place] = self.fault_words_or_none(codecs.BOM_UTF16_LE + lacking)
                 self.assertIn("isn't in UTF-16", faults[place])
             else:
-                faults[place] = self.fault_of(plain)
-                self.assertEqual(self.fault_of(codecs.BOM_UTF16_LE + lacking), faults[place], place)
+                faults[place] = self.fault_words_or_none(plain)
+                self.assertEqual(self.fault_words_or_none(codecs.BOM_UTF16_LE + lacking), faults[place], place)
         first, second, last = (found.start() for found in re.finditer("\n", rows.replace("\U0001f600", "xx")))
         self.assertIn("it has 19 cells, but the header has 10", faults[2 * second])
         self.assertEqual((faults[2 * last], faults[2 * first] is None), (None, False))
 
-    def fault_of(self, data):
+    def fault_words_or_none(self, data):
         """The fault of a table of orders; None if it has none."""
         try:
             order_table.parse_tables([("", data)], 24)
