@@ -196,8 +196,8 @@ def clear_many(
     by_program.refuse_wrong_timeout(timeout)
     if executor is None and (timeout is not None or where() is None):
         program = by_program.require_program(program)
-    call = functools.partial(engine.run_clear, nodes=nodes or by_library.MOST_NODES, timeout=timeout)
-    return iterate_days(journals, quiet, lambda texts: engine.run_clears(texts, jobs, executor, program, call))
+    call = functools.partial(engine.clear_and_return_answer, nodes=nodes or by_library.MOST_NODES, timeout=timeout)
+    return iterate_days(journals, quiet, lambda texts: engine.iterate_outputs_or_faults(texts, jobs, executor, program, call))
 
 
 def iterate_days(journals: Iterable[JournalSource], quiet: bool, answers: Any) -> Iterator[Day | Fault]:

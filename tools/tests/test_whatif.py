@@ -154,15 +154,15 @@ class Limits(unittest.TestCase):
 class Page(unittest.TestCase):
     """The sentence of a page for each rejected block."""
 
-    def answer(text, running=None):
-        return None, support.results_of(text, best(text))
+    def output(text, running=None):
+        return support.results_of(text, best(text))
 
-    def sentences(self, lines, answer=answer, results=None, *words):
+    def sentences(self, lines, output=output, results=None, *words):
         """The sentences, and the lines on standard error."""
         data = journal_of(*lines)
         day = support.day_of(data, results or support.results_of(data, best(data)))
         told = unittest.mock.patch.object(command, "print_note", lambda _, line: self.notes.append(line))
-        with unittest.mock.patch.object(engine, "run_clear", answer), told:
+        with unittest.mock.patch.object(engine, "clear_and_return_output_or_fault", output), told:
             return limits.capture_rejected_sentences(day, *words)
 
     def setUp(self):
@@ -172,7 +172,7 @@ class Page(unittest.TestCase):
         high = SMALL[0], SMALL[1].replace("4000", "6000")
         sentence = "With a limit of 50.00 EUR/MWh or lower it would have been accepted."
         self.assertEqual(self.sentences(high), {0: sentence})
-        self.assertEqual([self.sentences(high, Page.answer, None, who) for who in ("GEN", "CITY")], [{0: sentence}, {}])
+        self.assertEqual([self.sentences(high, Page.output, None, who) for who in ("GEN", "CITY")], [{0: sentence}, {}])
         low = BUYER[0], BUYER[1].replace("3000", "1999")
         self.assertEqual(self.sentences(low), {0: sentence.replace("50", "20").replace("lower", "higher")})
         self.assertEqual(self.sentences(NEVER)[1], "With no limit would it have been accepted.")
@@ -193,21 +193,21 @@ class Page(unittest.TestCase):
         broken, unit = "the program's results break the rules", "the limit of GEN UNIT wasn't computed"
 
         def fails_later(text, running=None):
-            return (4, "memory") if b"6000" not in text else Page.answer(text)
+            return errors.Fault("memory", 4) if b"6000" not in text else Page.output(text)
 
         def breaks(mark):
             """Results with another welfare, if the journal has a mark."""
-            return lambda text, running=None: (None, Page.answer(text)[1].replace(b"welfare,", b"welfare,1" if mark in text else b"welfare,"))
+            return lambda text, running=None: Page.output(text).replace(b"welfare,", b"welfare,1" if mark in text else b"welfare,")
 
         for why, told, *given in (
-            ("the program couldn't clear the day", f"{words} couldn't clear the day: memory", high, lambda text: (4, "memory")),
+            ("the program couldn't clear the day", f"{words} couldn't clear the day: memory", high, lambda text: errors.Fault("memory", 4)),
             ("a run of the program failed", "the limit of GEN UNIT wasn't computed: memory", high, fails_later),
-            ("the program has other results", f"{words} has other results: see tools/audit --best", SMALL, Page.answer, other),
+            ("the program has other results", f"{words} has other results: see tools/audit --best", SMALL, Page.output, other),
             (broken, f"{words}'s results break the rules: the program's results of the day", high, breaks(b"6000")),
             (broken, f"{unit}: the program's results of the day with a limit of 50.00 EUR/MWh", high, breaks(b"sell,5000,")),
             (broken, f"{unit}: the program's results of the day with a limit of 50.01 EUR/MWh", high, breaks(b"sell,5001,")),
-            ("the results break the rules", None, high, Page.answer, wrong),
-            ("the page was made without limits", None, high, Page.answer, None, None, False),
+            ("the results break the rules", None, high, Page.output, wrong),
+            ("the page was made without limits", None, high, Page.output, None, None, False),
         ):
             self.notes = []
             self.assertEqual(self.sentences(*given), {0: f"Its limit wasn't computed: {why}."})

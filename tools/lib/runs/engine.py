@@ -13,7 +13,8 @@ from . import by_library, by_program, which
 from .by_library import MOST_NODES
 from .errors import Fault, Lost, TimedOut, Unstarted
 
-LATE, UNSTARTED = "late", "unstarted"  # instead of the status of a run that took too long, or that didn't begin
+# How a clearing ended, unless with the status of a run: with an output; too late; before it began; with another fault.
+CLEARED, LATE, UNSTARTED, FAILED = "cleared", "late", "unstarted", "failed"
 AHEAD = 2  # texts for each job that wait for a thread
 MOST_AHEAD = 1_024  # texts that wait for an executor
 
@@ -84,11 +85,10 @@ def running_team(jobs):
         team.end()
 
 
-def run_clear(text, program=None, running=None, nodes=MOST_NODES, timeout=None):
-    """The output of `dam clear` for a journal's text, as a pair of None and these bytes; or else of the status (0 if there is none, LATE
-    of a run that took too long, UNSTARTED of one that didn't begin) and the words of the fault. By the library if there is one, unless a
-    program is named, or a timeout, which only a run of the program can have. The pair has no type of this package, so that any executor
-    can send it."""
+def clear_and_return_answer(text, program=None, running=None, nodes=MOST_NODES, timeout=None):
+    """Clears a journal's text. The answer is a pair: CLEARED and the output of `dam clear` as bytes; or LATE, UNSTARTED, FAILED or the
+    status of a run that failed, and the words of the fault. By the library if there is one, unless a program is named, or a timeout, which
+    only a run of the program can have. The pair has no type of this package, so that any executor can send it."""
     try:
         path = None if program is not None or timeout is not None else which.find_library_or_none()
         if path:
@@ -99,31 +99,35 @@ def run_clear(text, program=None, running=None, nodes=MOST_NODES, timeout=None):
             seconds = by_program.RUN_SECONDS if timeout is None else timeout
             status, out, error_output = by_program.run_program_and_relay_lines(words, text, seconds, running)
             if not status and not by_program.has_results(out):
-                return 0, f"{words[0]} printed no results of this journal"
+                return FAILED, f"{words[0]} printed no results of this journal"
     except TimedOut as fault:
         return LATE, str(fault)
     except Unstarted as fault:
         return UNSTARTED, str(fault)
     except Fault as fault:
-        return 0, str(fault)
-    if not status:
-        return None, out
-    return status, by_program.fault_words(status, error_output)
+        return FAILED, str(fault)
+    return (status, by_program.fault_words(status, error_output)) if status else (CLEARED, out)
 
 
-def result_or_fault(answered):
-    """The bytes of an answer, or its fault, which isn't raised."""
-    status, found = answered
-    if status in (LATE, UNSTARTED):
-        return TimedOut(found) if status == LATE else Unstarted(found)
-    return found if status is None else Fault(found, status or None)
+def output_or_fault(answer):
+    """The output of an answer of `clear_and_return_answer`, or its fault, which isn't raised."""
+    end, found = answer
+    if end == CLEARED:
+        return found
+    faults = {LATE: TimedOut, UNSTARTED: Unstarted, FAILED: Fault}
+    return faults[end](found) if end in faults else Fault(found, end)
+
+
+def clear_and_return_output_or_fault(text, program=None, running=None):
+    """Clears a journal's text, and returns the output of `dam clear`, or the fault, which isn't raised."""
+    return output_or_fault(clear_and_return_answer(text, program, running))
 
 
 def count_processors():
     return len(os.sched_getaffinity(0))
 
 
-def run_clears(texts, jobs=None, executor=None, program=None, call=run_clear):
+def iterate_outputs_or_faults(texts, jobs=None, executor=None, program=None, call=clear_and_return_answer):
     """For each text, in their order, the output of `dam clear` as bytes, or a `Fault`; a text that is a fault already stays one. Texts are
     taken as they are needed, so there may be any number of them. If no more answers are asked for, the runs that are left are ended."""
     if jobs is not None and jobs < 1:
@@ -164,7 +168,7 @@ def wait_for_result_or_fault(future):
     if isinstance(future, Fault):
         return future
     try:
-        return result_or_fault(future.result())
+        return output_or_fault(future.result())
     except Lost:
         raise
     except (Exception, concurrent.futures.CancelledError) as fault:

@@ -211,7 +211,7 @@ def capture_rejected_sentences(day, who=None, is_asked=True):
     places = [place for place, block in enumerate(day.problem.blocks) if place not in day.published.accepted and who in (None, block.who)]
     if not places or day.wrong or not is_asked:
         return dict.fromkeys(places, not_computed_words("the results break the rules" if day.wrong else "the page was made without limits"))
-    own = engine.result_or_fault(engine.run_clear(journal_bytes(day.book.rows, day.problem.periods)))
+    own = engine.clear_and_return_output_or_fault(journal_bytes(day.book.rows, day.problem.periods))
     if words := uncomputable_words_or_none(day, own):
         why, more = words
         command.print_note("report", f"the limits that rejected blocks needed weren't computed: {why}: {more}")
@@ -252,7 +252,7 @@ def uncomputable_words_or_none(day, own):
 
 def capture_sentence(held, block, own, was, running):
     """What a page says of a rejected block, whose day is printed as `own`, and was checked."""
-    search = LimitSearch(held, (block.who, block.name), lambda given: engine.result_or_fault(engine.run_clear(given, running=running)))
+    search = LimitSearch(held, (block.who, block.name), lambda given: engine.clear_and_return_output_or_fault(given, running=running))
     search.keep_output_or_raise(block.order.price, own)
     search.seen[block.order.price] = was
     try:

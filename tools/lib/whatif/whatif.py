@@ -63,7 +63,7 @@ def read_closed_book(args):
 
 def engine_function(program, running=None):
     """The engine that clears a text; a run that fails is a `Fault`."""
-    return lambda given: engine.result_or_fault(engine.run_clear(given, program, running))
+    return lambda given: engine.clear_and_return_output_or_fault(given, program, running)
 
 
 def write_limit_and_return_status(args):
@@ -140,7 +140,7 @@ def write_samples_and_return_status(args, held, key):
     if len(grid) > MOST_LIMITS:
         raise command.Stop(f"{len(grid):,} limits are too many: give a larger --step", command.COMMAND_LINE)
     texts = [search.bytes_with(cents) for cents in grid]
-    with contextlib.closing(engine.run_clears(texts, args.jobs, program=args.program)) as answers:
+    with contextlib.closing(engine.iterate_outputs_or_faults(texts, args.jobs, program=args.program)) as answers:
         for cents, printed in zip(grid, engine.iterate_with_bar(answers, len(grid), "limit")):
             search.keep_output_or_raise(cents, printed)
     rows = [["limit_eur_mwh", "executed_mw", "price_eur_mwh", "surplus_eur", "welfare_eur"]]
@@ -182,7 +182,7 @@ def capture_difference_rows(books, who, program):
     """The differences between the results of two books, as a table: of one participant, or of all."""
     if who is not None and not any(who == owner for one in books for owner, _ in one.rows):
         raise errors.Fault(f"{who or text.quoted(who)} has no order in the book, before or after the changes")
-    printed = list(engine.run_clears([cleared.journal_bytes(one.rows, one.periods) for one in books], program=program))
+    printed = list(engine.iterate_outputs_or_faults([cleared.journal_bytes(one.rows, one.periods) for one in books], program=program))
     for found in printed:
         if isinstance(found, errors.Fault):
             raise found
@@ -217,12 +217,12 @@ def require_asked_blocks(args, held):
 def connecting_executor(args):
     """The executor of the cluster that is named, or None; and the engine that it calls."""
     if args.cluster is None:
-        yield None, engine.run_clear
+        yield None, engine.clear_and_return_answer
         return
     with cluster.connecting(args.cluster) as executor:
         import dam_tools
 
-        yield executor, dam_tools.engine.run_clear  # by the name that it has in the package
+        yield executor, dam_tools.engine.clear_and_return_answer  # by the name that it has in the package
 
 
 def write_scenarios_and_return_status(args):
@@ -302,7 +302,7 @@ def clearing_scenarios(args, held, given, count):
     with contextlib.ExitStack() as ends:
         executor, call = ends.enter_context(connecting_executor(args))
         program = args.program if args.cluster is None else None
-        answers = ends.enter_context(contextlib.closing(engine.run_clears(texts(), args.jobs, executor, program, call)))
+        answers = ends.enter_context(contextlib.closing(engine.iterate_outputs_or_faults(texts(), args.jobs, executor, program, call)))
         before = require_day("the day as it was", held.rows, held.periods, next(answers))
         shown = engine.iterate_with_bar(answers, count, "scenario", args.quiet)
         yield before, ((waiting.popleft(), printed) for printed in shown)
