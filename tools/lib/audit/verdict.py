@@ -48,11 +48,12 @@ class Audit:
         self.inputs = []  # a record of each file
         self.checked = []
         self.day = None  # figures of the day, if its journal could be read
-        self.wrong, self.odd = [], []  # faults, and differences of encoding alone
+        self.sent_faults = []  # differences between the commands that were sent and the journal
+        self.signed_faults = []  # differences from the signed head, earlier heads and receipts
+        self.rule_faults = []  # of the results or replies
+        self.odd = []  # differences of encoding alone
         self.sent = None  # how many commands the participant has in the journal, and how many of them the book refused
         self.notes = []  # on a table of orders that was sent
-        self.unlike = 0  # how many of the faults, the first ones, are of the commands that were sent
-        self.unsigned = 0  # and how many after these are differences from the signed head and the receipts
         self.foreign = []  # receipts and earlier heads that weren't compared
         self.is_signed = True  # whether the key signed the head, if there is one
         self.search = None  # a record of the search for a better selection
@@ -71,7 +72,7 @@ class Audit:
         except command.Stop as fault:
             if fault.status != command.DIFFERS:
                 raise
-            self.is_signed, self.wrong, self.last = False, [Fault(str(fault), "head")], f"{WRONG}: {fault}"
+            self.is_signed, self.signed_faults, self.last = False, [Fault(str(fault), "head")], f"{WRONG}: {fault}"
             return
         if options.sent is not None:
             proof_words = sent.no_proof_words if options.receipts is None else signed.proof_words
@@ -82,6 +83,11 @@ class Audit:
             self.check_replies_and_note(read.periods, reasons, published_data)
         elif published_data is not None:
             self.check_results_and_note(closed, reasons, published_data)
+
+    @property
+    def wrong(self):
+        """All faults but differences of encoding, in the order of the parts."""
+        return [*self.sent_faults, *self.signed_faults, *self.rule_faults]
 
     @property
     def status(self):
@@ -141,9 +147,8 @@ class Audit:
         self.checked.append("replies")
         data, odd = encodings.plain_text_and_faults(published_data)
         self.odd += odd
-        wrong = reply_faults(periods, reasons, data)
-        self.wrong += wrong
-        if wrong:
+        self.rule_faults += reply_faults(periods, reasons, data)
+        if self.rule_faults:
             return
         self.right.append(f"as the rules say: {text.counted(len(reasons), 'reply', 'replies')}{sent.refused_words(reasons)}")
 
@@ -152,14 +157,14 @@ class Audit:
         data, odd = encodings.plain_text_and_faults(published_data)
         self.odd += odd
         if not closed.closed:
-            self.wrong.append(Fault("no command closes the book, so it has no results", "journal"))
+            self.rule_faults.append(Fault("no command closes the book, so it has no results", "journal"))
             return
         problem = selection.Problem(closed)
-        published, wrong = check.results_and_faults(problem, data)
-        self.wrong += wrong
+        published, faults = check.results_and_faults(problem, data)
+        self.rule_faults += faults
         self.checked += ["sums"] if published is not None else []
         self.day.update(day_figures(problem, published))
-        if wrong:
+        if faults:
             self.last = unmade_checks_line_or_none(published is not None, self.options.best)
             return
         how = self.look_for_better_and_note(problem, published) if self.options.best else None
@@ -186,7 +191,7 @@ class Audit:
             self.search["tried"] = whole
         if found is not None:
             words = list(better.better_lines(problem, published, found))
-            self.wrong.append(Fault("\n".join(words), "better"))
+            self.rule_faults.append(Fault("\n".join(words), "better"))
             self.search["better"] = [str(problem.blocks[place]) for place in sorted(found.accepted)]
         return how
 
@@ -209,13 +214,12 @@ class Audit:
         words = f"the commands of {options.participant} aren't compared yet"
         try:
             look = functools.partial(self.progress.show_time_or_raise, words)
-            wrong, right = sent.faults_and_lines_of_sent(own, published, closed, options.participant, look, proof_words)
+            self.sent_faults, right = sent.faults_and_lines_of_sent(own, published, closed, options.participant, look, proof_words)
         except TimeoutError as fault:
             raise command.Stop(str(fault), command.UNDECIDED) from None
         finally:
             self.progress.stop_and_erase()
-        self.wrong, self.unlike = wrong, len(wrong)
-        self.right += right if not wrong else []
+        self.right += [] if self.sent_faults else right
 
     def read_and_note_signed(self, read, reasons):
         """The journal with what the operator signed: its head, and receipts."""
@@ -242,33 +246,30 @@ class Audit:
         self.checked += ["head", "receipts"] if options.receipts is not None else ["head"]
         for path in options.earlier:
             signed.add_earlier_head(path, self.read_and_note_input("earlier", path))
-        wrong = [*signed.head_faults(), *signed.earlier_faults(), *signed.receipt_faults()]
+        self.signed_faults += [*signed.head_faults(), *signed.earlier_faults(), *signed.receipt_faults()]
         right = f"as signed: {signed.head}"
         if signed.earlier:
             right += f", which begins with {text.counted(len(signed.earlier), 'earlier head')}"
         if options.receipts is not None:
             right += f"; {text.counted(len(signed.findings), 'receipt')} of its entries"
-        self.wrong += wrong
         self.foreign = signed.foreign
         self.odd += [Fault(str(finding), "encoding") for finding in signed.odd]
-        self.unsigned = len(wrong)
-        self.right += [] if wrong else [right]
+        self.right += [] if self.signed_faults else [right]
 
     def parts(self):
         """The faults by part, each a headline and its faults; without --sent and --head there is one part, which has no headline."""
         if not self.is_signed:
             return []
         if self.options.sent is None and self.options.head is None:
-            return [(None, self.wrong)]
-        unlike, signed = self.unlike, self.unlike + self.unsigned
-        own, unsigned, rest = self.wrong[:unlike], self.wrong[unlike:signed], self.wrong[signed:]
+            return [(None, self.rule_faults)]
         headlines = [
             self.uncompared_words(),
-            f"not as sent: {text.counted(len(own), 'difference')} in the commands of {self.options.participant}",
-            f"not as signed: {text.counted(len(unsigned), 'difference')} from what the operator signed",
-            f"not as the rules say: {text.counted(len(rest), 'fault')} in the results",
+            f"not as sent: {text.counted(len(self.sent_faults), 'difference')} in the commands of {self.options.participant}",
+            f"not as signed: {text.counted(len(self.signed_faults), 'difference')} from what the operator signed",
+            f"not as the rules say: {text.counted(len(self.rule_faults), 'fault')} in the results",
         ]
-        return [(headline, faults) for headline, faults in zip(headlines, (self.foreign, own, unsigned, rest)) if faults]
+        parts = self.foreign, self.sent_faults, self.signed_faults, self.rule_faults
+        return [(headline, faults) for headline, faults in zip(headlines, parts) if faults]
 
     def record(self, status, message=None):
         """The verdict for programs."""
