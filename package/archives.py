@@ -25,7 +25,7 @@ HERE = made_of.TOP / "package"
 CONTROL = "control of the package: "
 SHARED = "lib/x86_64-linux-gnu/libdam.so.1"
 FEW = 20  # differences that are named
-LONGEST = 200  # characters of one in the provenance
+LONGEST_SHOWN = 200  # characters of one of the provenance
 DEEPEST = 20  # lists and objects of the provenance, one in another
 COMPRESSED = {b"\xfd7zXZ\0": lzma.open, b"\x1f\x8b": gzip.open, b"BZh": bz2.open}
 
@@ -249,7 +249,8 @@ def differences(there, here):
         elif ours[:-1] != theirs[:-1]:
             yield f"{name} is {theirs}, made here {ours}"
         elif ours.data != theirs.data and it == PROVENANCE:
-            words = "; ".join(text.safe(words, LONGEST) for words in differing_entries(json.loads(theirs.data), json.loads(ours.data)))
+            differing = differing_entries(json.loads(theirs.data), json.loads(ours.data))
+            words = "; ".join(text.safe(words, LONGEST_SHOWN) for words in differing)
             yield f"{name} differs: {words or 'in its sums, or in how it is written'}"
         elif ours.data != theirs.data:
             yield f"{name} differs: {len(theirs.data)} bytes, made here {len(ours.data)}"

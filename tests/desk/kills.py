@@ -17,7 +17,7 @@ from images import parse_marked_lines_or_none
 
 EARLY = Path(__file__).resolve().parent / "early.py"
 RECORDS, ENOUGH = 9_990, 0.9  # of a journal, and the share of them after which a new file is begun
-LONGEST = 0.05  # seconds until the kill
+MOST_SECONDS = 0.05  # seconds until the kill
 PAUSES = [0, 0, 0, 0.0001, 0.001]  # seconds between batches
 SLOW = ["0", "0", "300", "2000"]  # microseconds that a sync takes longer
 ROUNDS, MANY, PLANTED = 10, 200, 10
@@ -70,7 +70,7 @@ class Kills:
         giver = threading.Thread(target=self.write_records_to_process, args=(process, held))
         giver.start()
         text = b"" if is_at_once else os.read(process.stdout.fileno(), 1 << 16)
-        killer = threading.Timer(self.rng.uniform(0, LONGEST), os.killpg, (process.pid, signal.SIGKILL))
+        killer = threading.Timer(self.rng.uniform(0, MOST_SECONDS), os.killpg, (process.pid, signal.SIGKILL))
         killer.start()
         text += process.stdout.read()
         killer.join()

@@ -34,7 +34,7 @@ SYSTEM = "file: {}"
 MEMORY = b"memory\n"
 SHORT = [0, 1, 7]  # bytes that a write moves at most
 MACHINE = 4  # the status
-LONGEST = 1 << 20  # bytes of a file, more than a desk's
+LONGEST_FILE = 1 << 20  # bytes of a file, more than a desk's
 # After it a crash may leave each of its bytes torn, before the file is made whole again.
 GARBAGE = b"\n+cancel,A,NEVER,,,,,,\n\nx\n"
 
@@ -212,9 +212,9 @@ def run_with_file_limit(desk, given, bytes_, stdout=subprocess.PIPE):
 def run_with_full_output(desk, given, bytes_):
     """A run whose answers go to a file that has room for this number of bytes, the answers there, and the desk's file."""
     with open(desk.make_folder() / "answers", "w+b") as answers:
-        answers.seek(LONGEST - bytes_)
-        ran, file = run_with_file_limit(desk, given, LONGEST, answers)
-        answers.seek(LONGEST - bytes_)
+        answers.seek(LONGEST_FILE - bytes_)
+        ran, file = run_with_file_limit(desk, given, LONGEST_FILE, answers)
+        answers.seek(LONGEST_FILE - bytes_)
         return ran, answers.read(), file
 
 

@@ -14,14 +14,15 @@ from shared.cost_tables import Cost, check_costs, write_tables
 from shared.instructions import DRAWN, FIXED, measure_counts, measure_instructions
 from shared.preload import HostileProgram, RefusedCalls  # by which `lib` is found
 from shared.records import full_journal, journal_text
-from streams import LONGEST
+from streams import LONGEST_LINE
 from lib.base import rules
 
 HERE = Path(__file__).resolve().parent
 HELD, AT_ONCE = 1_000, 64  # orders, and bytes of a read
 JOURNAL, JOURNAL_SEED, SEED = "--journal", FIXED, FIXED._replace(first=3)  # an opened file draws twice before
 COMMANDS = dict(zip(rules.DAYS, (1_050, 1_600, 2_400, 3_600, 5_400, 8_100)))  # of a file that is opened again, by the day's length
-LINES, IN_ALL = (12_000, 30_000, LONGEST, 100_000, 16_000_000), 2_000_000  # the lengths of long lines, and their bytes in all, or one line
+# the lengths of long lines, and their bytes in all, or those of one line
+LINES, IN_ALL = (12_000, 30_000, LONGEST_LINE, 100_000, 16_000_000), 2_000_000
 TORN = (20_000, 500_000, 10_000_000)  # bytes after the end of a file's lines
 DAY = b"day,24,,,,,,,\n"
 DAYS_AGAIN = 10_000  # how often the record of a day comes again
@@ -53,10 +54,10 @@ def measure_count(program, words, data, refusal):
     return count
 
 
-def measure_cost(program, words, data, others):
-    """What a run costs. It is made twice, and the second time with the other words: those of a file that is the same."""
+def measure_cost(program, words, data, words_of_second):
+    """What a run costs. It is made twice, and the second time with other words: those of a file that is the same."""
     found, growths = measure_counts(program, words, data, JOURNAL_SEED if JOURNAL in words else SEED)
-    return Cost(found, measure_count(program, others, data, RefusedCalls("peak")), growths)
+    return Cost(found, measure_count(program, words_of_second, data, RefusedCalls("peak")), growths)
 
 
 def measure_costs_of_journal(program, desk, about, data):

@@ -18,7 +18,7 @@ from journals import CLOSE, rules
 from shared import broken_texts
 from lib.journal import journal as format_of
 
-LONGEST = 65_536  # bytes of a line
+LONGEST_LINE = 65_536  # bytes of a line
 FEW, MANY = 300, 1_000
 MUTATIONS = [
     broken_texts.draw_front, broken_texts.draw_rest, broken_texts.with_insertion, broken_texts.with_gap,
@@ -51,7 +51,7 @@ class ExpectedDesk:
             self.answers.append(f"fault,{self.line},{fault}\n".encode())
 
     def enter_or_raise(self, line):
-        if len(line) > LONGEST:
+        if len(line) > LONGEST_LINE:
             raise LineFault("TooLong")
         if not line.isascii():
             raise LineFault(f"NotAscii,{next(at for at, byte in enumerate(line) if byte > 127)}")

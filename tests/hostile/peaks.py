@@ -23,7 +23,6 @@ HELD, MORE = {"replay": 2.5, "clear": 2.8, "day": 4.9}, 1.5  # the megabytes tha
 SHORT = 1 << 20  # a text of fewer bytes isn't a long one
 FEW, LITTLE = 1 << 10, 64 << 10  # the bytes of a text of a few commands, and the most that is held then
 SOME, EACH = 8 << 10, 40  # the bytes of a text of some hundred commands, and how many are held for each of them
-LONGEST = rules.MOST_BYTES
 ENGINES = [["replay"], ["clear", "--workers", "8", "--cut", "8"], ["day", "--workers", "8", "--cut", "8"]]
 REPLAY, CLEAR, DAY = ENGINES
 ALONE = ["clear", "--workers", "1", "--cut", "0"]
@@ -35,7 +34,7 @@ NAMES = [b"K-%010d" % number for number in range(rules.MOST_BLOCKS)]
 
 def filled_text(begin, part, end=b""):
     """A text of the greatest length, or a few bytes less, with that part as often as it fits."""
-    return begin + part * ((LONGEST - len(begin) - len(end)) // len(part)) + end
+    return begin + part * ((rules.MOST_BYTES - len(begin) - len(end)) // len(part)) + end
 
 
 def faulty_texts():
@@ -55,7 +54,7 @@ def faulty_texts():
     yield "many records", filled_text(DAY_RECORD, CLOSE), b"input: TooManyRecords\n"
     last = DAY_RECORD + CLOSE * (rules.MOST_RECORDS - 2) + CLOSE.replace(b"\n", b"x\n")
     yield "a bad field in the last record", filled_text(last, b"\n"), b"input: BadField in record %d field 9\n" % rules.MOST_RECORDS
-    yield "a last byte that isn't ASCII", filled_text(DAY_RECORD, b"\n", b"\xff"), b"input: NotAscii at %d\n" % (LONGEST - 1)
+    yield "a last byte that isn't ASCII", filled_text(DAY_RECORD, b"\n", b"\xff"), b"input: NotAscii at %d\n" % (rules.MOST_BYTES - 1)
     yield "empty lines", filled_text(b"", b"\r\n"), b"input: NotDay\n"
     yield "a byte too many", filled_text(b"", b"A") + b"A", b"input: TooLong\n"
 
@@ -83,7 +82,7 @@ def long_journals():
     begin = [DAY_RECORD, *map(block_submit, NAMES)]
     full = [*begin, *(block_amend(NAMES[at % len(NAMES)]) for at in range(rules.MOST_DAY_COMMANDS - len(NAMES)))]
     text = with_quotes(full)
-    yield "blocks of every period, in quotes", text + b"\n" * (LONGEST - len(text)), [REPLAY, DAY]
+    yield "blocks of every period, in quotes", text + b"\n" * (rules.MOST_BYTES - len(text)), [REPLAY, DAY]
     yield "blocks of every period", b"".join([*full, CLOSE]), [REPLAY, CLEAR]
     short = b"".join([*begin, *hourly_submits(rules.MOST_HOURLY)])
     yield "a full book", short, [REPLAY, DAY]

@@ -69,7 +69,7 @@ TWO_ORDERS = DAY + b"submit,A,S1,hour,sell,3000,1:10,,\nsubmit,B,B1,hour,buy,500
 TWO_BLOCKS = TWO_ORDERS + b"submit,A,K1,block,sell,4000,1:5,,\nsubmit,A,K2,block,sell,4000,1:5,K1,\n"
 # The longest day, with the longest names and codes, and blocks and amends of 100 volumes.
 WIDE = b";".join(b"%d:10" % period for period in range(1, 101))
-LONGEST = b"""day,100,,,,,,,
+LONGEST_DAY = b"""day,100,,,,,,,
 submit,SELLERAB,SELL-ORDER-1,hour,sell,3000,100:10,,
 submit,BUYERABC,BUY-ORDER-01,hour,buy,5000,100:30,,
 submit,SELLERAB,PARENT-BLOCK,block,sell,4000,%b,,
@@ -118,9 +118,9 @@ def rows_of_memory():
         ("day of the auction day", ["day"], OPEN_AUCTION, MANY),
         ("day of the first day", ["day"], OPEN_FIRST, FEW),
         ("day of the closed auction day", ["day"], AUCTION, FEW),
-        ("replay of the longest day", ["replay"], LONGEST + CLOSE, FEW),
-        ("clear of the longest day", ["clear"], LONGEST + CLOSE, FEW),
-        ("day of the longest day", ["day"], LONGEST, FEW),
+        ("replay of the longest day", ["replay"], LONGEST_DAY + CLOSE, FEW),
+        ("clear of the longest day", ["clear"], LONGEST_DAY + CLOSE, FEW),
+        ("day of the longest day", ["day"], LONGEST_DAY, FEW),
         ("a word that isn't UTF-8", [b"\xff"], b"", ANY),
     ]
     inputs += [(f"{word} by {' '.join(plan)}", [word, *plan], data, FEW)
@@ -136,12 +136,12 @@ def rows_of_calls(program):
     worked = {name: (words, data) for name, words, data in read_worked_cases()}
     days = [("two orders", TWO_ORDERS)]
     days += [(f"the commands of {name}", worked[f"replay/{name}"][1]) for name in ["stored-run", "closed", "links"]]
-    yield from again.journals_at_gate([*days, ("the longest day", LONGEST), ("the auction day", OPEN_AUCTION)])
+    yield from again.journals_at_gate([*days, ("the longest day", LONGEST_DAY), ("the auction day", OPEN_AUCTION)])
     yield from again.journals_on_threads([("two orders", TWO_ORDERS), ("the auction day", OPEN_AUCTION)])
     yield from again.rows_of_gates()
     texts = [(name, data) for name, (words, data) in worked.items() if words == ["replay"] or name == "clear/quoted-crlf"]
-    written = [("two orders", TWO_ORDERS + CLOSE), ("the longest day", LONGEST + CLOSE), ("the auction day", AUCTION)]
-    yield from again.capture_rows_of_texts(program, [*texts, ("the longest day", LONGEST + CLOSE)], written)
+    written = [("two orders", TWO_ORDERS + CLOSE), ("the longest day", LONGEST_DAY + CLOSE), ("the auction day", AUCTION)]
+    yield from again.capture_rows_of_texts(program, [*texts, ("the longest day", LONGEST_DAY + CLOSE)], written)
     yield from again.rows_of_searches(worked["clear/two-equal-blocks"][1], worked["clear/group"][1])
     yield from again.rows_of_lines()
 

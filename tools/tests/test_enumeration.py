@@ -110,7 +110,7 @@ class Enumeration(unittest.TestCase):
         """`few` selections are looked at for every block's loss at once, and more of them for one block's at first."""
         from lib.audit import numpy_enumeration
 
-        with mock.patch.object(numpy_enumeration, "FEW", few):
+        with mock.patch.object(numpy_enumeration, "FEW_SELECTIONS", few):
             return numpy_enumeration.find_better_and_how(day, frozenset(accepted), welfare, Progress("test", 600), **more)
 
     def test_the_best_of_small_days_and_none_above_it(self):

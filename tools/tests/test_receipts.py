@@ -33,7 +33,7 @@ except ImportError:  # without python3-cryptography
 BY_OPENSSL = Path(__file__).with_name("verify_receipt.sh")
 CHANGES = 5_000
 # A block of 100 volumes with the longest names.
-LONGEST = ",".join(
+LONGEST_RECORD = ",".join(
     ["submit", "ABCDEFGH", "ABCDEFGHIJKL", "block", "sell", "-50000", ";".join(f"{period}:99999" for period in range(1, 101))]
     + ["M" * 12, "N" * 12]
 )
@@ -47,22 +47,23 @@ class Receipts(unittest.TestCase):
 
     def test_each_entry_has_a_receipt_on_each_length_of_a_day(self):
         for periods in (23, 24, 25, 92, 96, 100):
-            record = LONGEST.replace(f"{';'.join(f'{period}:99999' for period in range(1, 101))}", f"{periods}:1")
-            data = f"day,{periods},,,,,,,\n{LONGEST}\n{record}\nsubmit,A,B,hour,buy,0,{periods}:1,,\ncancel,A,B,,,,,,\nclose,,,,,,,,\n".encode()
+            record = LONGEST_RECORD.replace(f"{';'.join(f'{period}:99999' for period in range(1, 101))}", f"{periods}:1")
+            last = f"submit,A,B,hour,buy,0,{periods}:1,,\ncancel,A,B,,,,,,\nclose,,,,,,,,\n"
+            data = f"day,{periods},,,,,,,\n{LONGEST_RECORD}\n{record}\n{last}".encode()
             seal = sealed_of(data, key=self.key)
             head = seal.signed_head()
             self.assertEqual(head.size, 5)
             for line in lines_of(seal):
                 self.assertEqual(verdict_of(line, head, self.public), receipts.RIGHT)
-                self.assertLessEqual(len(line), 1_536 if LONGEST not in line.decode() else 2_048)
+                self.assertLessEqual(len(line), 1_536 if LONGEST_RECORD not in line.decode() else 2_048)
 
     def test_the_largest_receipt(self):
         path = tuple(merkle.leaf_hash(b"%d" % level) for level in range(heads.LONGEST_PATH))
         head = heads.Head("D" * 32, 100, heads.MOST_ENTRIES, path[0], b"s" * heads.SIGNATURE_BYTES)
         reply = max(heads.REPLIES, key=len)
-        largest = heads.line_bytes_of(heads.Receipt(heads.MOST_ENTRIES, LONGEST, reply, path[0], path, head))
+        largest = heads.line_bytes_of(heads.Receipt(heads.MOST_ENTRIES, LONGEST_RECORD, reply, path[0], path, head))
         self.assertLess(len(largest), heads.LONGEST_LINE)
-        self.assertLessEqual(len(largest) - len(LONGEST), 1_100)
+        self.assertLessEqual(len(largest) - len(LONGEST_RECORD), 1_100)
 
     def test_the_longest_paths_of_a_full_journal_are_read(self):
         cancels = b"cancel,A,B,,,,,,\n" * (heads.MOST_ENTRIES - 1)

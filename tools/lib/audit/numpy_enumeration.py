@@ -27,7 +27,7 @@ LOW_BITS = 14
 # The welfare of a period that doesn't balance. It is so low that a sum with it is under every welfare, and 100 of it are a number.
 NEVER = -(2**56)
 # Selections that are looked at for the loss of one block, and of all, at once.
-BATCH, FEW = 2**14, 2**10
+MOST_SELECTIONS, FEW_SELECTIONS = 2**14, 2**10
 
 
 def subset_sums(parts):
@@ -244,7 +244,7 @@ class Rows:
             found = self.count_admitted_and_select_above(row, welfares[row])
             waiting.append(found)
             held += len(found[0])
-            if held >= BATCH or row == 0:
+            if held >= MOST_SELECTIONS or row == 0:
                 self.lift_floor(*map(numpy.concatenate, zip(*waiting)))
                 waiting, held = [], 0
         return self.floor
@@ -282,8 +282,8 @@ class Rows:
 
     def lift_floor(self, numbers, welfares):
         """Checks some selections that rank above the floor for a loss. The best one without is the new floor."""
-        for first in range(0, len(numbers), BATCH):
-            part = slice(first, first + BATCH)
+        for first in range(0, len(numbers), MOST_SELECTIONS):
+            part = slice(first, first + MOST_SELECTIONS)
             over = self.floor.are_above(welfares[part], numbers[part])
             gaining = self.count_and_drop_losing(numbers[part][over])
             lasting = numpy.isin(numbers[part], gaining)
@@ -295,7 +295,7 @@ class Rows:
         self.looked += len(numbers)
         for place in sorted(self.lost, key=lambda place: -self.lost[place]):
             before = len(numbers)
-            if before >= FEW:
+            if before >= FEW_SELECTIONS:
                 accepting = numpy.flatnonzero(self.every.are_accepted(numbers, place))
                 losing = accepting[self.every.are_losing(place, numbers[accepting])]
                 self.lost[place] += len(losing)
@@ -304,8 +304,8 @@ class Rows:
             if 4 * len(numbers) > 3 * before:
                 break
         gaining = [numbers[:0]]
-        for first in range(0, len(numbers), FEW):
-            part = numbers[first : first + FEW]
+        for first in range(0, len(numbers), FEW_SELECTIONS):
+            part = numbers[first : first + FEW_SELECTIONS]
             losing = self.every.are_all_losing(part)
             for place, count in enumerate(losing.sum(axis=1).tolist()):
                 self.lost[place] += count
