@@ -19,7 +19,7 @@ from running import TWIN, make_audit_command_or_none
 
 DEFAULT = ["2", "3"]  # the default plan: workers, and how many of the first blocks are cut
 MOST_OF_OTHERS = {"before": MOST_OF_BEFORE, THE_TWIN: 2, "enumeration": 0.1}  # times as long
-MOST_TOGETHER = {"alone": 12, "before": 1}
+MOST_TOGETHER = {"without blocks": 12, "before": 1}
 
 
 def write_book_and_record(figures, drawn):

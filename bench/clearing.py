@@ -21,7 +21,7 @@ PEERS = {"highs": "HiGHS", "cbc": "CBC"}
 SPARE = 15.0  # seconds that the program of a peer may take to be written
 LEAST_OF_PEER = 20  # times as long as `dam clear`
 THE_TWIN = "the twin"
-OTHERS = {"alone": "the same without blocks", "before": "the program before", "enumeration": "the enumeration"}
+OTHERS = {"without blocks": "the same without blocks", "before": "the program before", "enumeration": "the enumeration"}
 
 
 def parse_kinds_or_exit(books):
@@ -61,7 +61,7 @@ class TimedBook:
 
     def __init__(self, drawn, path, path_without_blocks):
         self.drawn, self.name, self.walls = drawn, drawn.name, {}
-        self.path, self.alone = path, path_without_blocks
+        self.path, self.path_without_blocks = path, path_without_blocks
 
     @property
     def label(self):
@@ -70,8 +70,9 @@ class TimedBook:
     def run_programs_in_turns_or_exit(self, more, limit=LIMIT):
         """The runs of `dam clear`, of itself on the book without its blocks, and of more programs that there are."""
         clear = [DAM, "clear"]
-        words = {"dam": clear, "alone": clear, **{name: given for name, given in more.items() if given}}
-        return run_in_turns_or_exit(words, self.path, TURNS, SECONDS, LONGEST_OF_REPEATED, inputs={"alone": self.alone}, limit=limit)
+        words = {"dam": clear, "without blocks": clear, **{name: given for name, given in more.items() if given}}
+        inputs = {"without blocks": self.path_without_blocks}
+        return run_in_turns_or_exit(words, self.path, TURNS, SECONDS, LONGEST_OF_REPEATED, inputs=inputs, limit=limit)
 
     def run_and_note_seconds_or_exit(self, more, twin=None):
         """Notes the seconds of `dam clear` and other programs, by turns; `more` has the words of further ones, and `twin` those of the
@@ -85,15 +86,15 @@ class TimedBook:
         """None if the program didn't end, or wasn't run."""
         return statistics.median(self.walls[name]) if self.walls.get(name) else None
 
-    def record_clear(self, figures, most, others):
-        """Prints the seconds of `dam clear`, which may be `most`, and how many times as long as other programs it takes; `others` has how
-        many times that may be."""
+    def record_clear(self, figures, most, most_of_others):
+        """Prints the seconds of `dam clear`, which may be `most`, and how many times as long as other programs it takes;
+        `most_of_others` has how many times that may be."""
         median, target = self.median_seconds_or_none("dam"), f"at most {seconds_text(most)}"
         if median is None:
             figures.record(self.label, f"> {LIMIT:g} s", target, False)
             return
         figures.record(self.label, seconds_text(median), target, median <= most)
-        for name, most_times in others.items():
+        for name, most_times in most_of_others.items():
             what = f"{self.label} compared with {OTHERS.get(name, name)}"
             if self.walls.get(name):
                 note = self.drawn.note if name == "enumeration" else ""
@@ -109,7 +110,7 @@ class TimedBook:
         peers = {peer: ["./peer.py", peer, self.path, str(PEER_LIMIT)] for peer in PEERS}
         runs = self.run_programs_in_turns_or_exit(peers, max(LIMIT, PEER_LIMIT + SPARE))
         walls, welfare = wall_seconds_of(runs), welfare_of(runs["dam"][0])
-        added = max(statistics.median(walls["dam"]) - statistics.median(walls["alone"]), 0)
+        added = max(statistics.median(walls["dam"]) - statistics.median(walls["without blocks"]), 0)
         for peer, name in PEERS.items():
             what = f"{self.name}: {name} compared with dam clear"
             found, why = answer_of_peer(runs[peer][0] if runs[peer] else None)
@@ -133,16 +134,16 @@ class BooksTogether:
     def seconds_of(self, books, name):
         return [LIMIT if book.median_seconds_or_none(name) is None else book.median_seconds_or_none(name) for book in books]
 
-    def record_sums(self, figures, most, others):
+    def record_sums(self, figures, most, most_of_others):
         """Prints the sum of the seconds of `dam clear` and the slowest book, which may take `most`, and compares the sum with those of
-        other programs; `others` has how many times as long it may be."""
+        other programs; `most_of_others` has how many times as long it may be."""
         if not self.books:
             return
         lasted = self.seconds_of(self.books, "dam")
         slowest = max(range(len(lasted)), key=lasted.__getitem__)
         figures.record(f"{self.name}: dam clear", seconds_text(sum(lasted)), detail=f"{len(lasted)} books")
         figures.record_at_most(f"{self.name}: dam clear, the slowest", lasted[slowest], most, detail=self.books[slowest].name)
-        for name, most_times in others.items():
+        for name, most_times in most_of_others.items():
             run_on = self.books_with(name)
             if run_on:
                 ours, theirs = (sum(self.seconds_of(run_on, each)) for each in ("dam", name))

@@ -13,12 +13,12 @@ from running import BASELINE, DAM, MEASURES, measure_peak_mebibytes, run_in_turn
 JOURNAL, HOURLY, DAY = "out/journal.csv", "out/hourly.csv", "out/day.csv"
 
 
-def run_and_record_programs(figures, what, words, others, journal, most, same=False):
+def run_and_record_programs(figures, what, words, words_of_other, journal, most, same=False):
     """Wall and processor time of a program compared with another one's."""
-    ones, others = run_in_turns_or_exit({"one": words, "other": others}, journal, seconds=30).values()
-    if same and len({each.text for each in ones + others}) > 1:
+    ours, theirs = run_in_turns_or_exit({"one": words, "other": words_of_other}, journal, seconds=30).values()
+    if same and len({each.text for each in ours + theirs}) > 1:
         sys.exit(f"{what}: they print different texts")
-    figures.record_times(what, ones, others, most)
+    figures.record_times(what, ours, theirs, most)
 
 
 def run_and_record_commands(figures):
