@@ -242,7 +242,7 @@ def write_scenarios_and_return_status(args):
     given, count = read_scenarios_and_count(args, held) if args.sample is None else draw_scenarios_and_count(args, held)
     if args.sample and not args.rows:
         over = scenarios.Distribution(held, require_asked_blocks(args, held))
-        add_scenarios_or_stop(over, args, held, given, count)
+        clear_and_add_scenarios_or_stop(over, args, held, given, count)
         write_distribution(args, held, over)
     else:
         output.write_table("whatif", args, "scenarios", capture_scenario_rows(args, held, given, count), held.periods)
@@ -278,8 +278,8 @@ def capture_scenario_rows(args, held, given, count):
     return rows
 
 
-def add_scenarios_or_stop(over, args, held, given, count):
-    """Adds the results of the scenarios to a distribution. One of `scenarios.EACH` is checked by all rules."""
+def clear_and_add_scenarios_or_stop(over, args, held, given, count):
+    """Clears the scenarios, and adds their results to a distribution. One of `scenarios.EACH` is checked by all rules."""
     with clearing_scenarios(args, held, given, count) as (_, printed_scenarios):
         for number, (scenario, printed) in enumerate(printed_scenarios):
             name = f"scenario {scenario.name}"
