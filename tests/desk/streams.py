@@ -85,7 +85,7 @@ class ExpectedDesk:
         """The periods of the day's record, if the line is one."""
         try:
             found = format_of.parse_journal(line)
-        except format_of.Fault:
+        except format_of.JournalFault:
             return None
         return None if found.commands else found.periods
 
@@ -93,7 +93,7 @@ class ExpectedDesk:
     def parse_or_raise(text):
         try:
             return format_of.parse_journal(text)
-        except format_of.Fault as fault:
+        except format_of.JournalFault as fault:
             words = str(fault).split()
             raise LineFault(f"{words[1]},{words[-1]}" if words[1] == "BadField" else words[1]) from None
 

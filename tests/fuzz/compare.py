@@ -86,7 +86,7 @@ def journal_or_fault(data):
     """The journal or the fault that the rules read from an input. The last one is kept, since several commands get the same input."""
     try:
         return journal.parse_journal(data)
-    except journal.Fault as fault:
+    except journal.JournalFault as fault:
         return fault
 
 
@@ -102,7 +102,7 @@ def capture_right_output_or_none(command, words, data, like=None):
 def right_output(command, data):
     """The right output of a command for an input, by the rules; None if that takes too long. The last answer is kept, for several plans."""
     read = journal_or_fault(data)
-    if isinstance(read, journal.Fault):
+    if isinstance(read, journal.JournalFault):
         return refused_output(read)
     return {"replay": right_replies, "clear": right_results_or_none}[command](read)
 
@@ -148,7 +148,7 @@ def day_differences(data, got):
     try:
         given = journal.parse_journal(data)
         fault = fault_of_day_or_none(given)
-    except journal.Fault as found:
+    except journal.JournalFault as found:
         given, fault = None, found
     if fault:
         return [] if got == refused_output(fault) else [f"the fault is {fault}"]

@@ -73,7 +73,7 @@ def is_open(data):
     """Whether a text is a journal that no command closes."""
     try:
         return not book.book_and_refusals(journal.parse_journal(data))[0].closed
-    except journal.Fault:
+    except journal.JournalFault:
         return False
 
 

@@ -86,7 +86,7 @@ def check_all_are_described(counts):
         described = {(method.upper(), path) for path, methods in api["paths"].items() for method in methods if method != "x-demo"}
         counts.check(f"described and served: {served ^ described}", served == described)
         counts.check("only a demo has requests of its own", (api == DEMO, api == API) == (bool(demo), not demo))
-    too_fast = str(refusals.Fault.TOO_FAST.status)
+    too_fast = str(refusals.RequestFault.TOO_FAST.status)
     every = [(f"{method} {path}", one) for path, methods in DEMO["paths"].items() for method, one in methods.items() if method != "x-demo"]
     unsaid = [name for name, one in every if too_fast not in one["responses"]]
     counts.check(f"requests that may come too often, and don't say so: {unsaid}", len(every) > 20 and not unsaid)

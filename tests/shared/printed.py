@@ -24,7 +24,7 @@ def faults_of_journal(given, written):
     close at its end. And the journal as it is read; None if it can't be."""
     try:
         run = journal.parse_journal(written)
-    except journal.Fault as fault:
+    except journal.JournalFault as fault:
         return [f"its journal is none: {fault}"], None
     wrong = []
     if journal.journal_text(run).encode() != written:

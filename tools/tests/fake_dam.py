@@ -32,7 +32,7 @@ def answer_to_day(data):
     try:
         given = journal.parse_journal(data)
         fault = compare.fault_of_day_or_none(given)
-    except journal.Fault as found:
+    except journal.JournalFault as found:
         fault = found
     if fault:
         return compare.refused_output(fault)

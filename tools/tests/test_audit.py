@@ -185,7 +185,7 @@ class Text(unittest.TestCase):
     def replies(self, data):
         try:
             return book.replies_text(journal.parse_journal(data)).encode(), b""
-        except journal.Fault as fault:
+        except journal.JournalFault as fault:
             return b"", f"{fault}\n".encode()
 
     def test_records(self):

@@ -215,7 +215,7 @@ class Random(unittest.TestCase):
             told = [fault for fault in found if not fault.refusal]
             try:
                 read = journal.parse_journal(data)
-            except journal.Fault as fault:
+            except journal.JournalFault as fault:
                 faulty += 1
                 self.assertTrue(told, (data, fault))
                 continue
@@ -348,7 +348,7 @@ class Long(unittest.TestCase):
     def first(self, data):
         try:
             return journal.parse_journal(data)
-        except journal.Fault as fault:
+        except journal.JournalFault as fault:
             return str(fault)
 
     def test_each_long_line(self):

@@ -43,7 +43,7 @@ class Crashes(Office):
                 given = held[0]
                 entries = await asyncio.wait_for(asyncio.shield(given.submit_or_refuse(who, first, commands_of_records(*many))), 5)
             except (refusals.Refused, asyncio.TimeoutError) as fault:
-                wrong = refusals.Fault.NUMBER_USED, refusals.Fault.NUMBER_AHEAD, refusals.Fault.MALFORMED
+                wrong = refusals.RequestFault.NUMBER_USED, refusals.RequestFault.NUMBER_AHEAD, refusals.RequestFault.MALFORMED
                 self.assertNotIn(getattr(fault, "fault", None), wrong)
                 self.assertIsNone(given.fault)
                 await asyncio.sleep(0.001)
@@ -73,7 +73,7 @@ class Crashes(Office):
                 else:  # the office ends, in the middle of anything
                     tasks[-1].cancel()
                     await asyncio.gather(tasks[-1], return_exceptions=True)
-                    held[0].queue.refuse_all(refusals.Fault.UNAVAILABLE, "no answer came")
+                    held[0].queue.refuse_all(refusals.RequestFault.UNAVAILABLE, "no answer came")
                     held[0] = self.day_writer_of()
                     tasks.append(asyncio.create_task(held[0].write_until_published()))
             sent = dict(zip(NAMES, await asyncio.wait_for(asyncio.gather(*clients), SECONDS)))
@@ -121,7 +121,7 @@ class Crashes(Office):
                 rights[0] = False
                 with self.assertRaises(refusals.Refused) as caught:
                     await waiting
-                self.assertEqual(caught.exception.fault, refusals.Fault.TOKEN)
+                self.assertEqual(caught.exception.fault, refusals.RequestFault.TOKEN)
                 self.assertEqual(await given.submit_or_refuse("GAS", 1, commands_of_records("cancel,GAS,A,,,,,,"), lambda: rights[0]), [1])
         self.assertEqual(len(disk.records), 1)
 
@@ -143,7 +143,7 @@ class Crashes(Office):
             for one in waiting:
                 with self.assertRaises(refusals.Refused) as caught:
                     await one
-                self.assertEqual((caught.exception.fault, await behind), (refusals.Fault.UNAVAILABLE, [1]))
+                self.assertEqual((caught.exception.fault, await behind), (refusals.RequestFault.UNAVAILABLE, [1]))
             await task
         self.assertEqual((disk.records, given.fault), (["cancel,A,A,,,,,,", "close,,,,,,,,"], None))
 
@@ -208,7 +208,7 @@ class Crashes(Office):
                 disk.ends.append((0, 0))
                 with self.assertRaises(refusals.Refused) as caught:
                     await given.submit_or_refuse("GAS", 3, commands_of_records("cancel,GAS,C,,,,,,"))
-                self.assertEqual(caught.exception.fault, refusals.Fault.UNAVAILABLE)
+                self.assertEqual(caught.exception.fault, refusals.RequestFault.UNAVAILABLE)
                 self.assertIn("doesn't begin with the 2 entries", given.fault)
                 self.assertEqual((await given.read_state()).name, "stopped")
                 self.assertFalse(given.is_ready.is_set())
@@ -264,7 +264,7 @@ class Crashes(Office):
             async with self.running_writer(self.day_writer_of()) as given:
                 with self.assertRaises(refusals.Refused) as caught:
                     await given.submit_or_refuse("GAS", 1, commands_of_records("cancel,GAS,A,,,,,,"))
-                self.assertEqual(caught.exception.fault, refusals.Fault.UNAVAILABLE)
+                self.assertEqual(caught.exception.fault, refusals.RequestFault.UNAVAILABLE)
                 await given.submit_or_refuse("GAS", 1, commands_of_records("cancel,GAS,A,,,,,,"))
         self.assertEqual(disk.records, ["cancel,GAS,A,,,,,,"])
 
@@ -343,8 +343,8 @@ class Opening(unittest.IsolatedAsyncioTestCase):
 class Description(unittest.TestCase):
     def test_its_faults_are_those_of_requests(self):
         schema = json.loads(fixed_files.read_openapi_text(is_demo=False))["components"]["schemas"]["Fault"]
-        of_any = refusals.Fault.METHOD, refusals.Fault.DEFECT
-        self.assertEqual(schema["properties"]["fault"]["enum"], [fault.word for fault in refusals.Fault if fault not in of_any])
+        of_any = refusals.RequestFault.METHOD, refusals.RequestFault.DEFECT
+        self.assertEqual(schema["properties"]["fault"]["enum"], [fault.word for fault in refusals.RequestFault if fault not in of_any])
 
 
 @unittest.skipUnless(aiohttp, "aiohttp is missing (Debian's python3-aiohttp)")

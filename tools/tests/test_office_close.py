@@ -38,7 +38,7 @@ class Closing(Office):
             self.now = 5_000
             with self.assertRaises(refusals.Refused) as caught:
                 given.submit_or_refuse("GAS", 2, commands_of_records("cancel,GAS,B,,,,,,"))
-            self.assertEqual(caught.exception.fault, refusals.Fault.CLOSED)
+            self.assertEqual(caught.exception.fault, refusals.RequestFault.CLOSED)
             self.now = 4_000  # set back: it doesn't open again
             with self.assertRaises(refusals.Refused):
                 given.submit_or_refuse("GAS", 2, commands_of_records("cancel,GAS,B,,,,,,"))
@@ -52,7 +52,7 @@ class Closing(Office):
             await given.write_until_published()
             with self.assertRaises(refusals.Refused) as caught:
                 given.submit_or_refuse("GAS", 2, commands_of_records("cancel,GAS,B,,,,,,"))
-            self.assertEqual(caught.exception.fault, refusals.Fault.CLOSED)
+            self.assertEqual(caught.exception.fault, refusals.RequestFault.CLOSED)
         self.assertEqual(disk.records.count("close,,,,,,,,"), 1)
 
     async def test_a_start_after_the_time_closes_before_it_enters_anything(self):
@@ -89,7 +89,7 @@ class Closing(Office):
         for answer in (web.Web.answer_prices, web.Web.answer_published):
             with self.assertRaises(refusals.Refused) as caught:
                 await answer(SimpleNamespace(admission=admitting), request)
-            self.assertEqual(caught.exception.fault, refusals.Fault.UNAVAILABLE)
+            self.assertEqual(caught.exception.fault, refusals.RequestFault.UNAVAILABLE)
 
     async def test_a_start_sees_results_and_a_statement_that_were_changed(self):
         files = (await self.closed()).files
@@ -151,7 +151,7 @@ class Closing(Office):
             self.assertEqual((again.is_known.is_set(), again.ledger.size), (False, 0))  # no part of the journal is seen
             with self.assertRaises(refusals.Refused) as caught:
                 admission.require_known(again)
-            self.assertEqual(caught.exception.fault, refusals.Fault.UNAVAILABLE)
+            self.assertEqual(caught.exception.fault, refusals.RequestFault.UNAVAILABLE)
             ends.set()
             await task
         self.assertTrue(again.is_known.is_set())

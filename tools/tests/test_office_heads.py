@@ -104,7 +104,7 @@ class SignedHeads(Office):
                     await self.wait_until(lambda: not given.is_healthy)
                     with self.assertRaises(refusals.Refused) as caught:
                         given.submit_or_refuse("GAS", 2, commands_of_records("cancel,GAS,B,,,,,,"))
-                    self.assertEqual(caught.exception.fault, refusals.Fault.UNAVAILABLE)
+                    self.assertEqual(caught.exception.fault, refusals.RequestFault.UNAVAILABLE)
                     self.assertEqual(await given.submit_or_refuse("GAS", 1, commands_of_records("cancel,GAS,A,,,,,,")), [1])  # which is entered
                 await self.wait_until(lambda: given.is_healthy)
                 self.assertEqual(await given.submit_or_refuse("GAS", 2, commands_of_records("cancel,GAS,B,,,,,,")), [2])
@@ -230,7 +230,7 @@ class Numbers(Office):
     async def test_each_number_is_used_once(self):
         self.write_office(share=5)
         first, second, third = (f"cancel,GAS,{name},,,,,," for name in "ABC")
-        disk, used, ahead = Disk(), refusals.Fault.NUMBER_USED, refusals.Fault.NUMBER_AHEAD
+        disk, used, ahead = Disk(), refusals.RequestFault.NUMBER_USED, refusals.RequestFault.NUMBER_AHEAD
         with patch_of_opening(disk):
             async with self.running_writer(self.day_writer_of()) as given:
                 self.assertEqual(await self.refused(given, "GAS", 2, first), (ahead, {"next": 1}))
@@ -241,10 +241,10 @@ class Numbers(Office):
                 self.assertEqual(await self.refused(given, "GAS", 3, second, first), (used, {"number": 3, "next": 4}))
                 self.assertEqual(await self.refused(given, "GAS", 1, first, third), (used, {"number": 2, "next": 4}))
                 self.assertEqual(await self.refused(given, "GAS", 2, second, first, third), (used, {"number": 3, "next": 4}))
-                self.assertEqual(await self.refused(given, "GAS", 4, first, first, first), (refusals.Fault.SHARE_USED, {"next": 4}))
+                self.assertEqual(await self.refused(given, "GAS", 4, first, first, first), (refusals.RequestFault.SHARE_USED, {"next": 4}))
                 with self.assertRaisesRegex(refusals.Refused, "^you may enter 5 commands on this day, and have entered 3$"):
                     await given.submit_or_refuse("GAS", 4, commands_of_records(first, first, first))
-                self.assertEqual((await self.refused(given, "OTHER", 1, "cancel,OTHER,A,,,,,,"))[0], refusals.Fault.SHARE_USED)
+                self.assertEqual((await self.refused(given, "OTHER", 1, "cancel,OTHER,A,,,,,,"))[0], refusals.RequestFault.SHARE_USED)
                 self.assertEqual(await given.submit_or_refuse("A", 1, commands_of_records("cancel,A,A,,,,,,")), [4])
         self.assertEqual(disk.records, [first, second, third, "cancel,A,A,,,,,,"])
 
@@ -259,7 +259,7 @@ class Numbers(Office):
                     for number, *records in ((1, first), (1, first), (1, second), (2, second), (1, first, third), (3, third))
                 ]
                 found = await asyncio.gather(*waiting, return_exceptions=True)
-        faults, used = [one if isinstance(one, list) else one.fault for one in found], refusals.Fault.NUMBER_USED
+        faults, used = [one if isinstance(one, list) else one.fault for one in found], refusals.RequestFault.NUMBER_USED
         self.assertEqual(faults, [[1], [1], used, [2], used, [3]])
 
 

@@ -287,7 +287,7 @@ class Setup(Office):
         """Before the orders are in that are its own."""
         for seconds in ("0", "-1", "86401", "1.5", "x"):
             self.assertEqual(run_tool("office", "demo", "--no-browser", "--seconds", seconds)[0], command.COMMAND_LINE, seconds)
-        closed = mock.AsyncMock(side_effect=refusals.Refused(refusals.Fault.CLOSED, "closed"))
+        closed = mock.AsyncMock(side_effect=refusals.Refused(refusals.RequestFault.CLOSED, "closed"))
         writer = mock.Mock(is_ready=mock.Mock(wait=mock.AsyncMock()), submit_or_refuse=closed)
         with self.assertRaisesRegex(command.Stop, r"^the demo's own orders weren't entered \(closed\): give more --seconds$") as raised:
             asyncio.run(demo.enter_orders_or_stop(writer))
@@ -542,7 +542,7 @@ class Setup(Office):
                     path.write_bytes(damage)
                 with self.subTest(damage=damage), self.assertRaises(refusals.Refused) as caught:
                     answers.require_authorized_participant(asked)
-                self.assertEqual(caught.exception.fault, refusals.Fault.UNAVAILABLE)
+                self.assertEqual(caught.exception.fault, refusals.RequestFault.UNAVAILABLE)
                 await self.wait_until(lambda: not served.is_healthy)
                 said = json.loads(log.getvalue().splitlines()[-1])
                 self.assertEqual((said["event"], said["day"]), ("not served", None))

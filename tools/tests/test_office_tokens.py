@@ -154,7 +154,7 @@ class Tokens(Office):
             with self.assertRaises(refusals.Refused) as caught:
                 made.admission.require_authorized_participant(asked(number, {"who": "GAS"}))
             found.append(caught.exception.fault)
-        self.assertEqual((found[0], found[-1]), (refusals.Fault.TOKEN, refusals.Fault.TOO_FAST))
+        self.assertEqual((found[0], found[-1]), (refusals.RequestFault.TOKEN, refusals.RequestFault.TOO_FAST))
         made.budgets.looks = guards.Buckets(0.001, 3, lambda: 0.0)
         for number in range(3):
             made.budgets.charge_look_or_refuse(asked(number, {}))

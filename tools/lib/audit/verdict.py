@@ -11,7 +11,7 @@ from ..results import check, encodings, results, selection, sums
 from ..sheets import kinds
 from ..tool import command, day_files, file_io
 from . import better
-from ..results.faults import Fault, matched_pairs
+from ..results.faults import FaultLine, matched_pairs
 from ..base.progress import Progress
 from ..base.audit_record import ENCODING, FAILED, RIGHT, UNDECIDED, UNREAD, WRONG
 from ..base.rules import VERSION
@@ -72,7 +72,7 @@ class Audit:
         except command.Stop as fault:
             if fault.status != command.DIFFERS:
                 raise
-            self.is_signed, self.signed_faults, self.last = False, [Fault(str(fault), "head")], f"{WRONG}: {fault}"
+            self.is_signed, self.signed_faults, self.last = False, [FaultLine(str(fault), "head")], f"{WRONG}: {fault}"
             return
         if options.sent is not None:
             proof_words = sent.no_proof_words if options.receipts is None else signed.proof_words
@@ -128,7 +128,7 @@ class Audit:
         data = self.read_and_note_input("day", options.journal)
         written, published = results.journal_and_results_or_none(data) or (data, None)
         if published is not None and data[len(written) :].startswith(b"results\r") and b"\r" not in published:
-            self.odd.append(Fault("the line 'results' ends with CR LF instead of LF alone", "encoding"))
+            self.odd.append(FaultLine("the line 'results' ends with CR LF instead of LF alone", "encoding"))
         day_files.refuse_other_kind(options.journal, written, kinds.JOURNAL, HINTS)
         if published is None:
             if options.sent is None or options.best:
@@ -140,7 +140,7 @@ class Audit:
         read = day_files.require_journal(self.options.journal, written)
         is_of_day = self.inputs[0]["role"] == "day"
         if is_of_day and journal.journal_text(read).encode() != written:
-            self.odd.append(Fault("the journal of the day isn't in its written form, but has the same commands", "encoding"))
+            self.odd.append(FaultLine("the journal of the day isn't in its written form, but has the same commands", "encoding"))
         return read
 
     def check_replies_and_note(self, periods, reasons, published_data):
@@ -157,7 +157,7 @@ class Audit:
         data, odd = encodings.plain_text_and_faults(published_data)
         self.odd += odd
         if not closed.closed:
-            self.rule_faults.append(Fault("no command closes the book, so it has no results", "journal"))
+            self.rule_faults.append(FaultLine("no command closes the book, so it has no results", "journal"))
             return
         problem = selection.Problem(closed)
         published, faults = check.results_and_faults(problem, data)
@@ -191,7 +191,7 @@ class Audit:
             self.search["tried"] = whole
         if found is not None:
             words = list(better.better_lines(problem, published, found))
-            self.rule_faults.append(Fault("\n".join(words), "better"))
+            self.rule_faults.append(FaultLine("\n".join(words), "better"))
             self.search["better"] = [str(problem.blocks[place]) for place in sorted(found.accepted)]
         return how
 
@@ -253,7 +253,7 @@ class Audit:
         if options.receipts is not None:
             right += f"; {text.counted(len(signed.findings), 'receipt')} of its entries"
         self.foreign = signed.foreign
-        self.odd += [Fault(str(finding), "encoding") for finding in signed.odd]
+        self.odd += [FaultLine(str(finding), "encoding") for finding in signed.odd]
         self.right += [] if self.signed_faults else [right]
 
     def parts(self):
@@ -294,16 +294,16 @@ def reply_faults(periods, reasons, data):
     """The lines of a replies text that differ from the book's replies."""
     (wanted, _), (found, more) = (results.lines_and_faults(part) for part in (book.replies_text_of(periods, reasons).encode(), data))
     numbers = [[line.split(b",")[0] for line in part] for part in (wanted, found)]
-    wrong, last = more if data else [Fault("the replies are empty", "form")], 0
+    wrong, last = more if data else [FaultLine("the replies are empty", "form")], 0
     for at, place in matched_pairs(*numbers):
         last = last if place is None else place + 1
         if place is None:
-            wrong.append(Fault(f"replies line {last + 1}: {text.quoted(wanted[at])} is missing", "missing", last + 1))
+            wrong.append(FaultLine(f"replies line {last + 1}: {text.quoted(wanted[at])} is missing", "missing", last + 1))
         elif at is None:
-            wrong.append(Fault(f"replies line {last}: {text.quoted(found[place])} is not a line of these replies", "stray", last))
+            wrong.append(FaultLine(f"replies line {last}: {text.quoted(found[place])} is not a line of these replies", "stray", last))
         elif wanted[at] != found[place]:
             words = f"replies line {last}: it is {text.quoted(found[place])} and should be {text.quoted(wanted[at])}"
-            wrong.append(Fault(words, "reply", last))
+            wrong.append(FaultLine(words, "reply", last))
     return wrong
 
 

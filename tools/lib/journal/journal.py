@@ -47,7 +47,7 @@ class Journal(NamedTuple):
         return f"<Journal: {self.periods} periods, {len(self.commands)} commands>"
 
 
-class Fault(Exception):
+class JournalFault(Exception):
     """The text isn't a journal: the line of docs/FORMATS.md that says why."""
 
 
@@ -58,26 +58,26 @@ class BadField(Exception):
 def parse_journal(data):
     """The journal that the bytes are, or its first fault."""
     if len(data) > rules.MOST_BYTES:
-        raise Fault("input: TooLong")
+        raise JournalFault("input: TooLong")
     if not data.isascii():
-        raise Fault(f"input: NotAscii at {next(at for at, byte in enumerate(data) if byte > 127)}")
+        raise JournalFault(f"input: NotAscii at {next(at for at, byte in enumerate(data) if byte > 127)}")
     periods, commands = None, []
     for number, fields in enumerate(text.records(data), 1):
         if number > rules.MOST_RECORDS:
-            raise Fault("input: TooManyRecords")
+            raise JournalFault("input: TooManyRecords")
         if number == 1 and fields[0] != b"day":
-            raise Fault("input: NotDay")
+            raise JournalFault("input: NotDay")
         if len(fields) != 9:
-            raise Fault(f"input: FieldCount in record {number}")
+            raise JournalFault(f"input: FieldCount in record {number}")
         try:
             if number == 1:
                 periods = parse_day(fields)
             else:
                 commands.append(parse_command(fields))
         except BadField as bad:
-            raise Fault(f"input: BadField in record {number} field {bad}") from None
+            raise JournalFault(f"input: BadField in record {number} field {bad}") from None
     if periods is None:
-        raise Fault("input: NotDay")
+        raise JournalFault("input: NotDay")
     return Journal(periods, commands)
 
 

@@ -34,7 +34,7 @@ def is_journal(data):
     """Whether the program takes a text."""
     try:
         journal.parse_journal(data)
-    except journal.Fault:
+    except journal.JournalFault:
         return False
     return True
 

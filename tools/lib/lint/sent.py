@@ -9,7 +9,7 @@ from ..base import subsequence, text
 from ..journal import journal
 from ..sheets import command_table, kinds, order_table
 from . import lint
-from ..results.faults import Fault
+from ..results.faults import FaultLine
 
 JOURNAL, BOOK = "the journal", "the book at the end"
 SPACES = b' \t\r\n\f\v"'
@@ -85,7 +85,7 @@ def parse_records(data, periods):
     own = data if lint.first_word(data) == "day" else f"{journal.day_record_text(periods)}\n".encode() + data
     try:
         read = journal.parse_journal(own)
-    except journal.Fault:
+    except journal.JournalFault:
         raise BadSentText(lint.first_fault_words(data, periods).lstrip()) from None
     if read.periods != periods:
         raise BadSentText(f"it is for a day of {read.periods} periods, but the journal is for one of {periods}")
@@ -192,28 +192,28 @@ def subject_of(entry):
 def moved_fault(one, other):
     shown = journal.command_record_text(one.command)
     words = f"sent record {one.record} is moved: {other.place} is out of its order: {shown}"
-    return Fault(words, "moved", other.line, subject_of(one))
+    return FaultLine(words, "moved", other.line, subject_of(one))
 
 
 def changed_fault(one, other, proof):
     was, now = journal.command_record_text(one.command), journal.command_record_text(other.command)
     words = f"sent record {one.record} is changed: it was '{was}', and {other.place} is '{now}'{proof}"
-    return Fault(words, "changed", other.line, subject_of(one))
+    return FaultLine(words, "changed", other.line, subject_of(one))
 
 
 def missing_fault(one, where, proof):
     words = f"sent record {one.record} is missing in {where}: {journal.command_record_text(one.command)}{proof}"
-    return Fault(words, "missing", None, subject_of(one))
+    return FaultLine(words, "missing", None, subject_of(one))
 
 
 def more_fault(other, times):
     """The fault of a record that wasn't sent, or not as often; its command was sent this many times."""
     shown = journal.command_record_text(other.command)
     if not times:
-        return Fault(f"{other.place} was not sent: {shown}", "unsent", other.line, subject_of(other))
+        return FaultLine(f"{other.place} was not sent: {shown}", "unsent", other.line, subject_of(other))
     count = "once" if times == 1 else f"{times} times"
     words = f"{other.place} repeats what was sent {count}: {shown}"
-    return Fault(words, "repeated", other.line, subject_of(other))
+    return FaultLine(words, "repeated", other.line, subject_of(other))
 
 
 def record_number_before(one, record_pairs):

@@ -6,7 +6,7 @@ import async_timeout
 from aiohttp import web
 
 from . import budgets, folder
-from .refusals import STOPPED_WORDS, Fault, Refused, unread_tokens_refusal
+from .refusals import STOPPED_WORDS, RequestFault, Refused, unread_tokens_refusal
 
 MOST_BODY = 1 << 20  # bytes
 BODY_SECONDS = 15  # for a body to come
@@ -21,7 +21,7 @@ class Admission:
     def require_writer(self, request):
         writer = self.office.writers.get(request.match_info["day"])
         if writer is None:
-            raise Refused(Fault.NOT_FOUND, "there is no such day")
+            raise Refused(RequestFault.NOT_FOUND, "there is no such day")
         return writer
 
     def require_authorized_participant(self, request):
@@ -34,7 +34,7 @@ class Admission:
         if not is_authorized:
             self.counts.add("wrong_tokens_total")
             self.budgets.charge_guess_or_refuse(request)
-            raise Refused(Fault.TOKEN, "the token isn't of this participant")
+            raise Refused(RequestFault.TOKEN, "the token isn't of this participant")
         return who
 
     def is_authorized(self, request):
@@ -56,18 +56,18 @@ class Admission:
         have changed."""
         writer = self.require_writer(request)
         if writer.fault:
-            raise Refused(Fault.UNAVAILABLE, STOPPED_WORDS)
+            raise Refused(RequestFault.UNAVAILABLE, STOPPED_WORDS)
         return writer
 
     def refuse_stranger_to_demo(self, request):
         token = request.headers.get("Authorization", "").partition(" ")[2]
         if not self.office.register.is_token_of(token.partition(".")[0], token):
-            raise Refused(Fault.TOKEN, "the token isn't of a participant")
+            raise Refused(RequestFault.TOKEN, "the token isn't of a participant")
 
 
 def require_known(writer):
     if not writer.is_known.is_set():
-        raise Refused(Fault.UNAVAILABLE, "the office is still reading the day's journal", seconds=1)
+        raise Refused(RequestFault.UNAVAILABLE, "the office is still reading the day's journal", seconds=1)
 
 
 def require_length(request):
@@ -75,7 +75,7 @@ def require_length(request):
     # aiohttp puts the value of a header without a name before the next one: a length below 0 would fill the bucket
     word = request.headers.get("Content-Length", "")
     if not (word.isascii() and word.isdigit()):
-        raise Refused(Fault.MALFORMED, "the request needs a Content-Length")
+        raise Refused(RequestFault.MALFORMED, "the request needs a Content-Length")
     length = int(word)
     if length > MOST_BODY:
         raise web.HTTPRequestEntityTooLarge(MOST_BODY, length)
@@ -89,7 +89,7 @@ async def read_body(request):
         async with async_timeout.timeout(BODY_SECONDS):
             return await request.read()
     except asyncio.TimeoutError:
-        raise Refused(Fault.MALFORMED, f"the request didn't come whole within {BODY_SECONDS} s") from None
+        raise Refused(RequestFault.MALFORMED, f"the request didn't come whole within {BODY_SECONDS} s") from None
 
 
 def content_type(request):
@@ -100,5 +100,5 @@ def content_type(request):
 def require_query_number(request, name):
     word = request.query.get(name, "0")
     if not (word.isascii() and word.isdigit() and len(word) <= 5):
-        raise Refused(Fault.MALFORMED, f"{name} should be a number up to 99999")
+        raise Refused(RequestFault.MALFORMED, f"{name} should be a number up to 99999")
     return int(word)

@@ -3,7 +3,7 @@
 import time
 
 from .guards import Buckets, address_or_network
-from .refusals import Fault, Refused
+from .refusals import RequestFault, Refused
 
 COMMANDS_A_SECOND, MOST_COMMANDS = 200, 2_000  # of a participant; many bytes count as several
 BYTES_OF_COMMAND = 100
@@ -45,10 +45,10 @@ class Budgets:
     def charge_address_or_refuse(self, buckets, request, words):
         if not self.behind_proxy and (seconds := buckets.charge_and_return_seconds_to_wait(address_or_network(request.remote))):
             request.protocol.is_deaf = True  # else the rest of many requests at once would be read too
-            raise Refused(Fault.TOO_FAST, words, seconds=seconds)
+            raise Refused(RequestFault.TOO_FAST, words, seconds=seconds)
 
 
 def charge_or_refuse(buckets, who, count):
     """Charges a participant's request, or refuses it."""
     if seconds := buckets.charge_and_return_seconds_to_wait(who, count):
-        raise Refused(Fault.TOO_FAST, "too many requests", seconds=seconds)
+        raise Refused(RequestFault.TOO_FAST, "too many requests", seconds=seconds)

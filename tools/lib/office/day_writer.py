@@ -10,7 +10,7 @@ from ..journal.journal import Close, command_record_text
 from . import folder, newest, published, publishing
 from .desk import Desk, Ended
 from .ledger import Contradiction, Ledger
-from .refusals import CLOSED_WORDS, STOPPED_WORDS, Fault, Refused
+from .refusals import CLOSED_WORDS, STOPPED_WORDS, RequestFault, Refused
 from .submissions import Submission, SubmissionQueue, answer_entered
 
 TICK = 0.1  # seconds between two looks at the clock
@@ -85,14 +85,14 @@ class DayWriter:
             answer_entered(self.ledger, submission)
             return submission.done
         if self.fault:
-            raise Refused(Fault.UNAVAILABLE, STOPPED_WORDS)
+            raise Refused(RequestFault.UNAVAILABLE, STOPPED_WORDS)
         if not self.is_open():
-            raise Refused(Fault.CLOSED, CLOSED_WORDS)
+            raise Refused(RequestFault.CLOSED, CLOSED_WORDS)
         if self.newest.is_failing:  # a start wouldn't miss entries that are acknowledged now
-            raise Refused(Fault.UNAVAILABLE, "the office's disk can't be written: send the same command again later", seconds=1)
+            raise Refused(RequestFault.UNAVAILABLE, "the office's disk can't be written: send the same command again later", seconds=1)
         share, count = self.ledger.share(who), self.ledger.own_count(who)
         if submission.last > share:
-            raise Refused(Fault.SHARE_USED, f"you may enter {share} commands on this day, and have entered {count}", next=count + 1)
+            raise Refused(RequestFault.SHARE_USED, f"you may enter {share} commands on this day, and have entered {count}", next=count + 1)
         self.queue.add(submission)
         return submission.done
 
@@ -157,7 +157,7 @@ class DayWriter:
         self.log_event("stopped", fault=fault)
         with contextlib.suppress(OSError):
             folder.write_synced(self.files.path_of(folder.STOPPED_DAY), f"{fault}\n".encode())
-        self.queue.refuse_all(Fault.UNAVAILABLE, STOPPED_WORDS)
+        self.queue.refuse_all(RequestFault.UNAVAILABLE, STOPPED_WORDS)
 
     async def run_desk_until_closed(self):
         """Opens the desk, and again whenever it ends, and enters all that comes, until the close is entered."""
@@ -181,11 +181,11 @@ class DayWriter:
                 self.log_event("desk ended", fault=words, **({"entries": self.ledger.size} if self.is_known.is_set() else {}))
                 ends = ends + 1 if self.ledger.size == size else 0
                 if ends >= MOST_ENDS:
-                    self.queue.refuse_batch(Fault.UNAVAILABLE, "the desk isn't running: send the same command again later")
+                    self.queue.refuse_batch(RequestFault.UNAVAILABLE, "the desk isn't running: send the same command again later")
                 self.queue.put_back_batch()
                 await asyncio.sleep(pause)
                 pause = min(2 * pause, LONGEST_PAUSE)
-        self.queue.refuse_all(Fault.CLOSED, CLOSED_WORDS)
+        self.queue.refuse_all(RequestFault.CLOSED, CLOSED_WORDS)
 
     async def wait_for_commands_or_raise(self):
         """Waits until a command waits. Ends as the desk does if it ends, also while none waits."""

@@ -49,7 +49,7 @@ class Ledger:
         text = "".join(f"{record}\n" for record in [journal.day_record_text(self.seal.periods), *records])
         try:
             commands = journal.parse_journal(text.encode("ascii")).commands
-        except (journal.Fault, UnicodeEncodeError) as fault:
+        except (journal.JournalFault, UnicodeEncodeError) as fault:
             raise Contradiction(f"the desk shows no journal: {fault}") from None
         if list(map(journal.command_record_text, commands)) != records:
             raise Contradiction("the desk shows records that aren't in their written form")

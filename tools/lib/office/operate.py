@@ -44,7 +44,7 @@ def capture_commands_or_stop(day, files, desk):
     try:
         records = asyncio.run(capture_records(desk, str(files.path_of(folder.DESK))))
         return journal.parse_journal("".join(f"{record}\n" for record in records).encode()).commands if records else []
-    except (Ended, OSError, journal.Fault) as fault:
+    except (Ended, OSError, journal.JournalFault) as fault:
         raise command.Stop(f"the journal of {day} can't be read: {fault}") from None
 
 

@@ -6,7 +6,7 @@ STOPPED_WORDS = "the day is stopped: ask the operator"
 CLOSED_WORDS = "the day is closed, and this command isn't in its journal"
 
 
-class Fault(enum.Enum):
+class RequestFault(enum.Enum):
     """The faults of requests: the word for each in an answer, and the answer's status. The last two are of any request, and so
     openapi.json doesn't have them."""
 
@@ -37,4 +37,4 @@ class Refused(Exception):
 
 def unread_tokens_refusal():
     """The fault of a request while the file of the tokens can't be read."""
-    return Refused(Fault.UNAVAILABLE, "the office can't read its tokens: send the same command again", seconds=1)
+    return Refused(RequestFault.UNAVAILABLE, "the office can't read its tokens: send the same command again", seconds=1)

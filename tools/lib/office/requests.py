@@ -35,7 +35,7 @@ def parse_commands(body, kind, who, first=1):
         raise BadRequest(f"the type of the content should be {RECORDS} or {JSON}")
     try:
         commands = journal.parse_journal(DAY + body).commands
-    except journal.Fault as fault:
+    except journal.JournalFault as fault:
         raise BadRequest(f"no records of a journal:{fault_words(body, fault)}") from None
     if not commands:
         raise BadRequest("there is no command")

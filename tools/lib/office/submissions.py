@@ -5,7 +5,7 @@ import dataclasses
 
 from ..journal.journal import command_record_text
 from . import folder
-from .refusals import Fault, Refused, unread_tokens_refusal
+from .refusals import RequestFault, Refused, unread_tokens_refusal
 
 MOST_BATCH = 1_000  # records that the desk gets at once
 
@@ -105,16 +105,17 @@ def conflict_refusal_or_none(ledger, submission):
     for number, command in enumerate(submission.commands[: max(0, count - first + 1)], first):
         entry, record, _ = ledger.entry_record_and_reply(who, number)
         if record != command_record_text(command):
-            return Refused(Fault.NUMBER_USED, f"your command {number} is entry {entry}, and another command", number=number, next=count + 1)
+            words = f"your command {number} is entry {entry}, and another command"
+            return Refused(RequestFault.NUMBER_USED, words, number=number, next=count + 1)
     if first > count + 1:
-        return Refused(Fault.NUMBER_AHEAD, f"your next command has the number {count + 1}", next=count + 1)
+        return Refused(RequestFault.NUMBER_AHEAD, f"your next command has the number {count + 1}", next=count + 1)
     return None
 
 
 def token_refusal_or_none(submission):
     """The fault of a submission whose token isn't its participant's now; None if it is."""
     try:
-        return None if submission.is_authorized() else Refused(Fault.TOKEN, "the token isn't of this participant any more")
+        return None if submission.is_authorized() else Refused(RequestFault.TOKEN, "the token isn't of this participant any more")
     except folder.UNREADABLE:  # the submissions after this one, and the close, mustn't be lost
         return unread_tokens_refusal()
 

@@ -12,7 +12,7 @@ if not __package__:  # the program: an isolated Python leaves the tools out
     sys.path.insert(0, str(Path(__file__).resolve().parents[2]))
 
 from lib.office import programs, requests
-from lib.office.refusals import Fault, Refused
+from lib.office.refusals import RequestFault, Refused
 
 MOST_SECONDS = 20  # for a table
 MOST_MEMORY = 1 << 29  # bytes of addresses; a workbook of 1 MiB takes a tenth
@@ -27,7 +27,8 @@ async def capture_table_records_and_notes(data, who, periods, orders=()):
         words = [sys.executable, "-I", "-B", __file__, who, str(periods)]
         made = await programs.capture_output_or_raise(*words, data=given, seconds=MOST_SECONDS)
     except programs.ProgramFailed:
-        raise Refused(Fault.MALFORMED, f"the table can't be read within {MOST_SECONDS} s: it is too large, or the office is busy") from None
+        why = f"the table can't be read within {MOST_SECONDS} s: it is too large, or the office is busy"
+        raise Refused(RequestFault.MALFORMED, why) from None
     value = json.loads(made)
     if "wrong" in value:
         raise requests.BadRequest(value["wrong"])

@@ -11,7 +11,7 @@ from ..base import clock
 from ..seal import heads
 from . import budgets, fixed_files, folder, requests, tables
 from .admission import MOST_BODY, Admission, content_type, read_body, require_known, require_length, require_query_number
-from .refusals import Fault, Refused
+from .refusals import RequestFault, Refused
 
 ANSWER_SECONDS = 30  # for the entries of commands
 LONG_BODY = 1 << 14  # bytes of a body that is read in a thread
@@ -38,7 +38,7 @@ NUMBER = r"/{number:[1-9][0-9]{0,4}}"
 
 def fault_response(fault, words, seconds=None, **more):
     headers = {} if seconds is None else {"Retry-After": str(max(1, round(seconds)))}
-    if fault is Fault.TOKEN:
+    if fault is RequestFault.TOKEN:
         headers["WWW-Authenticate"] = "Bearer"
     return web.json_response({"fault": fault.word, "words": words, **more}, status=fault.status, headers=headers)
 
@@ -102,21 +102,21 @@ class Web:
         except Refused as refused:
             response = fault_response(refused.fault, str(refused), **refused.more)
         except requests.BadRequest as wrong:
-            response = fault_response(Fault.MALFORMED, str(wrong))
+            response = fault_response(RequestFault.MALFORMED, str(wrong))
         except web.HTTPRequestEntityTooLarge:
-            response = fault_response(Fault.TOO_LARGE, f"a request has at most {MOST_BODY:,} bytes")
+            response = fault_response(RequestFault.TOO_LARGE, f"a request has at most {MOST_BODY:,} bytes")
             response.force_close()
         except web.HTTPMethodNotAllowed as other:
-            response = fault_response(Fault.METHOD, "this method isn't for this path")
+            response = fault_response(RequestFault.METHOD, "this method isn't for this path")
             response.headers["Allow"] = other.headers["Allow"]
         except web.HTTPException as other:
-            response = web.json_response({"fault": Fault.NOT_FOUND.word, "words": "there is nothing here"}, status=other.status)
+            response = web.json_response({"fault": RequestFault.NOT_FOUND.word, "words": "there is nothing here"}, status=other.status)
         except (asyncio.CancelledError, ConnectionError):
             raise
         except Exception as wrong:
             day = {"day": request.match_info["day"]} if request.match_info.get("day") in self.office.writers else {}
             self.log.write_event("defect", kind=type(wrong).__name__, route=route_name(request), **day)
-            response = fault_response(Fault.DEFECT, "the office failed at this request")
+            response = fault_response(RequestFault.DEFECT, "the office failed at this request")
         if request.protocol.is_deaf:
             response.force_close()
         self.counts.add("requests_total", '{method="%s",status="%d"}' % (method_label(request), response.status))
@@ -155,7 +155,7 @@ class Web:
         done = writer.submit_or_refuse(who, first, commands, lambda: self.admission.is_authorized(request))
         await asyncio.wait((done,), timeout=ANSWER_SECONDS)
         if not done.done():
-            raise Refused(Fault.UNAVAILABLE, "the desk hasn't answered yet: send the same command again", seconds=1)
+            raise Refused(RequestFault.UNAVAILABLE, "the desk hasn't answered yet: send the same command again", seconds=1)
         return done.result()
 
     async def answer_receipts(self, writer, entries, head=None):
@@ -170,7 +170,7 @@ class Web:
         writer, who = self.admission.require_writer_and_participant(request)
         number, count = int(request.match_info["number"]), writer.ledger.own_count(who)
         if number > count:
-            raise Refused(Fault.NOT_FOUND, "there is no such command", next=count + 1)
+            raise Refused(RequestFault.NOT_FOUND, "there is no such command", next=count + 1)
         return await self.answer_receipts(writer, [writer.ledger.entry_record_and_reply(who, number)[0]])
 
     async def answer_own_receipts(self, request):
@@ -205,7 +205,7 @@ class Web:
         writer, who = self.admission.require_writer_and_participant(request, count=budgets.READS_OF_TABLE)
         require_length(request)
         if who in self.reading:
-            raise Refused(Fault.TOO_FAST, "your table before this one is still being read", seconds=TABLE_SECONDS)
+            raise Refused(RequestFault.TOO_FAST, "your table before this one is still being read", seconds=TABLE_SECONDS)
         self.reading.add(who)
         try:
             body = await read_body(request)
@@ -222,7 +222,7 @@ class Web:
         writer, who = self.admission.require_writer_and_participant(request)
         found = await asyncio.to_thread(writer.published.read_and_cache_text_or_none, who)
         if found is None:
-            raise Refused(Fault.NOT_FOUND, "there is no statement yet")
+            raise Refused(RequestFault.NOT_FOUND, "there is no statement yet")
         return self.charge_and_answer(who, found)
 
     # --- what all may see
@@ -270,23 +270,23 @@ class Web:
             return jsonl_response([heads.line_bytes_of(ledger.signed_head())])
         since = require_query_number(request, "since")
         if since > ledger.size:
-            raise Refused(Fault.NOT_FOUND, "there is no such head yet")
+            raise Refused(RequestFault.NOT_FOUND, "there is no such head yet")
         return jsonl_response([heads.line_bytes_of(ledger.seal.require_extension(ledger.signed_head(since), ledger.signed_head()))])
 
     async def answer_prices(self, request):
         """The results without the orders and the welfare: the day, and each period's price and volume."""
         writer = self.admission.require_unstopped_writer(request)
         if not writer.published.has_results:
-            raise Refused(Fault.NOT_FOUND, "there are no results yet")
+            raise Refused(RequestFault.NOT_FOUND, "there are no results yet")
         return web.Response(text=writer.published.read_and_cache_prices_text(writer.terms.periods), content_type="text/plain")
 
     async def answer_published(self, request):
         """The texts that have the orders of all: only if the operator publishes the journal."""
         writer, name = self.admission.require_unstopped_writer(request), request.path.rpartition("/")[2]
         if not writer.published.has_results:
-            raise Refused(Fault.NOT_FOUND, "there are no results yet")
+            raise Refused(RequestFault.NOT_FOUND, "there are no results yet")
         if not writer.published.has_journal:
-            raise Refused(Fault.NOT_FOUND, "the operator hasn't published the day; its prices are under prices")
+            raise Refused(RequestFault.NOT_FOUND, "the operator hasn't published the day; its prices are under prices")
         files = {"results": folder.RESULTS, "journal": folder.JOURNAL, "replies": folder.REPLIES}
         return await self.send_file(request, writer.files.path_of(files[name]))
 

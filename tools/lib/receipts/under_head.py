@@ -8,7 +8,7 @@ from ..journal import journal
 from ..seal import heads, merkle, sealing, signing
 from ..tool import command, file_io
 from . import receipts
-from ..results.faults import Fault
+from ..results.faults import FaultLine
 
 NOT_OWN = "not the operator's"
 PROVED = ": the operator's fault, proved"
@@ -83,7 +83,7 @@ class UnderHead:
         if words is None and self.head.size < len(self.tree):
             more = text.counted(len(self.tree) - self.head.size, "entry", "entries")
             words = f"the journal has {more} after the {self.head.size} that the operator signed"
-        return [Fault(f"{self.head}: {words}", "head")] if words else []
+        return [FaultLine(f"{self.head}: {words}", "head")] if words else []
 
     def is_own(self, finding):
         """Whether the operator signed a receipt, for this day."""
@@ -101,7 +101,7 @@ class UnderHead:
     def foreign_fault(self, finding):
         """Why a receipt isn't compared with the journal."""
         words = f"{NOT_OWN}: {finding.words}" if finding.verdict == receipts.WRONG else self.another_day_words(finding.receipt.head)
-        return Fault(f"{receipts.Place(finding.file, finding.line)}: {words}", "foreign")
+        return FaultLine(f"{receipts.Place(finding.file, finding.line)}: {words}", "foreign")
 
     def another_day_words(self, head):
         return f"it is of {head.day}, and the journal's head of {self.head.day}"
@@ -113,7 +113,7 @@ class UnderHead:
         is_own, name = signing.is_signed(self.key, head), command.shown(path)
         if not is_own or head.day != self.head.day:
             words = self.another_day_words(head) if is_own else f"{NOT_OWN}: it {receipts.NOT_SIGNED}"
-            self.foreign.append(Fault(f"{name}: {words}", "foreign"))
+            self.foreign.append(FaultLine(f"{name}: {words}", "foreign"))
             return
         self.odd += odd
         self.earlier.append((name, head))
@@ -146,14 +146,14 @@ class UnderHead:
         for finding in self.findings:
             receipt, name = finding.receipt, receipts.Place(finding.file, finding.line)
             if words := self.lacked_entry_words_or_none(receipt):
-                yield Fault(f"{name}: {words}{self.proved_words(receipt)}", "receipt", receipt.number + 1)
+                yield FaultLine(f"{name}: {words}{self.proved_words(receipt)}", "receipt", receipt.number + 1)
         yield from self.beginning_faults((name, head) for head, name in self.under.items() if head != receipts.unsigned(self.head))
 
     def beginning_faults(self, named_heads):
         """A fault for each of some heads, as pairs of a name and a head, with whose entries the journal doesn't begin."""
         for name, head in named_heads:
             if words := self.other_beginning_words_or_none(head):
-                yield Fault(f"{name}: {head}: {words}", "head")
+                yield FaultLine(f"{name}: {head}: {words}", "head")
 
 
 def require_receipt_files(folder):

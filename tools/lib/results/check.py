@@ -1,7 +1,7 @@
 """Where a results text differs from the rules."""
 
 from . import results, selection, sums
-from .faults import Fault, subject_fault
+from .faults import FaultLine, subject_fault
 
 # If more than this part of the lines is wrong, the results seem to be of another journal. A block that is accepted and should not be
 # makes many lines wrong.
@@ -38,28 +38,28 @@ def mostly_wrong_faults(published, wrong, most):
     lines = {line.partition(": ")[0] for line in wrong}
     if len(lines) <= most * len(published.lines):
         return []
-    return [Fault(f"{results.ANOTHER}: {len(lines)} of their {len(published.lines)} lines are wrong", "journal")]
+    return [FaultLine(f"{results.ANOTHER}: {len(lines)} of their {len(published.lines)} lines are wrong", "journal")]
 
 
 def selection_faults(problem, published, follows):
     """Why the selection isn't eligible."""
     for place, kind, words in selection.link_breaches(problem, published.accepted):
-        yield subject_fault(published, kind, f"block {problem.blocks[place]}", words)
+        yield subject_fault(words, kind, published, f"block {problem.blocks[place]}")
     for place, loss in selection.losses_of(problem, published.accepted, follows.surpluses).items():
         block = f"block {problem.blocks[place]}"
         family = " together with its accepted descendants" if selection.accepted_rescuers(problem, published.accepted, place) else ""
-        yield subject_fault(published, "loss", block, f"{block}: it is accepted and loses {loss}{family}")
+        yield subject_fault(f"{block}: it is accepted and loses {loss}{family}", "loss", published, block)
     for number, found in follows.cleared.items():
         if found is None:
             words = f"period {number}: no execution balances the accepted blocks"
-            yield subject_fault(published, "balance", f"period {number}", words)
+            yield subject_fault(words, "balance", published, f"period {number}")
 
 
 def welfare_faults(problem, published, follows):
     if follows.welfare is not None and published.welfare != follows.welfare:
         shown, right = (f"{welfare} ({problem.euros_text(welfare)} EUR)" for welfare in (published.welfare, follows.welfare))
         words = f"the welfare is {shown}, and of these executions it is {right}"
-        yield subject_fault(published, "welfare", "the welfare", words)
+        yield subject_fault(words, "welfare", published, "the welfare")
 
 
 def right_price_words(cleared):
@@ -76,10 +76,10 @@ def period_faults(problem, published, follows):
         about = f"period {number}"
         price, volume = published.prices[number - 1], published.volumes[number - 1]
         if price != found.price:
-            yield subject_fault(published, "price", about, f"{about}: the price is {price}; {right_price_words(found)}")
+            yield subject_fault(f"{about}: the price is {price}; {right_price_words(found)}", "price", published, about)
         if volume != follows.bought[number]:
             words = f"{about}: the volume is {volume}, and the executed buys make {follows.bought[number]}"
-            yield subject_fault(published, "volume", about, words)
+            yield subject_fault(words, "volume", published, about)
 
 
 def hourly_faults(problem, published, follows):
@@ -90,7 +90,7 @@ def hourly_faults(problem, published, follows):
         if wanted is not None and executed != wanted:
             price = follows.cleared[row.order.volumes[0][0]].price
             gives = f"the rule gives {wanted} ({limit_words(row, price)})"
-            yield subject_fault(published, "executed", f"hour {row}", f"hour {row}: {executed} is executed, and {gives}")
+            yield subject_fault(f"hour {row}: {executed} is executed, and {gives}", "executed", published, f"hour {row}")
 
 
 def surplus_faults(problem, published, follows):
@@ -98,4 +98,4 @@ def surplus_faults(problem, published, follows):
         if surplus is not None and published.surpluses[place] != surplus:
             about = f"block {block}"
             words = f"{about}: the surplus is {published.surpluses[place]}, and at the prices {surplus}"
-            yield subject_fault(published, "surplus", about, words)
+            yield subject_fault(words, "surplus", published, about)

@@ -3,7 +3,7 @@
 import re
 
 from ..base import text
-from .faults import Fault
+from .faults import FaultLine
 
 QUOTED = re.compile(rb'(?<![^,\n])"([^",\n]*)"(?![^,\n])')
 FIELD_END = re.compile(rb"[,\n]")
@@ -33,7 +33,7 @@ def plain_text_and_faults(data):
     if QUOTED.search(data):
         data = b"".join(QUOTED.sub(rb"\1", part) for part in parts_of_whole_fields(data))
         odd.append("fields stand in quotes")
-    return data, [Fault(words, "encoding") for words in odd]
+    return data, [FaultLine(words, "encoding") for words in odd]
 
 
 def parts_of_whole_fields(data):

@@ -32,7 +32,7 @@ KINDS = {
 }
 
 
-class Fault(str):
+class FaultLine(str):
     """A line about a fault; its kind, the number of the line of the text if it has one, and the subject of that line."""
 
     def __new__(cls, words, kind, line=None, about=None):
@@ -44,14 +44,14 @@ class Fault(str):
         return {"kind": self.kind, "line": self.line, "about": self.about, "words": str(self)}
 
 
-def line_fault(kind, line, about, words):
+def line_fault(words, kind, line, about):
     """The fault of a line of results."""
-    return Fault(f"results line {line}: {words}", kind, line, about)
+    return FaultLine(f"results line {line}: {words}", kind, line, about)
 
 
-def subject_fault(published, kind, about, words):
+def subject_fault(words, kind, published, about):
     """The fault of the line about something, of results that were read."""
-    return line_fault(kind, published.lines[about], about, words)
+    return line_fault(words, kind, published.lines[about], about)
 
 
 def moved_places(expected_lines, text_lines, pairs):

@@ -4,9 +4,11 @@ import re
 from typing import NamedTuple
 
 from ..base import text
-from .faults import Fault, matched_pairs, moved_places, line_fault
+from .faults import FaultLine, matched_pairs, moved_places, line_fault
 
 ANOTHER = "these seem to be the results of another journal"
+
+NUMBER, DECISION = "<number>", "accepted|rejected"  # the forms of fields, as faults show them
 
 # No welfare, surplus or volume of a result is as large, and no results or replies have as many lines.
 LARGE, MOST_LINES = 10**16, 20_000
@@ -36,26 +38,25 @@ def parse_number_or_none(field):
 
 
 def expected_lines(problem):
-    """For each line of the results: its subject, its fields that are known beforehand, and how many numbers or words
-    come after them."""
-    yield "the day", ["day", str(problem.periods)], ""
-    yield "the welfare", ["welfare"], "n"
+    """For each line of the results: its subject, its fields that are known beforehand, and the forms of the fields after them."""
+    yield "the day", ["day", str(problem.periods)], []
+    yield "the welfare", ["welfare"], [NUMBER]
     for period in range(1, problem.periods + 1):
-        yield f"period {period}", ["period", str(period)], "nn"
+        yield f"period {period}", ["period", str(period)], [NUMBER, NUMBER]
     for row in problem.rows:
         kind = row.order.kind
-        yield f"{kind} {row}", [kind, row.who, row.name], "n" if kind == "hour" else "an"
+        yield f"{kind} {row}", [kind, row.who, row.name], [NUMBER] if kind == "hour" else [DECISION, NUMBER]
 
 
-def line_values_or_none(line, known, behind):
-    """The values after the known fields of a line that begins with these: numbers, and for an `a` whether the word is `accepted`. None if
-    their form is wrong."""
+def line_values_or_none(line, known, forms):
+    """The values after the known fields of a line that begins with these: numbers, and for a decision whether the word is `accepted`.
+    None if one of them hasn't its form."""
     fields = line.split(b",")
-    if len(fields) != len(known) + len(behind):
+    if len(fields) != len(known) + len(forms):
         return None
     values = []
-    for field, kind in zip(fields[len(known) :], behind):
-        if kind == "a":
+    for field, form in zip(fields[len(known) :], forms):
+        if form == DECISION:
             value = {b"accepted": True, b"rejected": False}.get(field)
         else:
             value = parse_number_or_none(field)
@@ -77,7 +78,8 @@ def unknown_orders_faults(wanted, beginnings):
     others = len(orders) - sum(map(set(wanted).__contains__, orders))
     if 2 * others <= len(orders):
         return []
-    return [Fault(f"{ANOTHER}: {others} of their {len(orders)} lines of orders are of orders that this journal doesn't have", "journal")]
+    words = f"{ANOTHER}: {others} of their {len(orders)} lines of orders are of orders that this journal doesn't have"
+    return [FaultLine(words, "journal")]
 
 
 def foreign_results_fault(line, wanted):
@@ -85,15 +87,15 @@ def foreign_results_fault(line, wanted):
     for comma, name in ((b";", "semicolons"), (b"\t", "tabs")):
         if comma in line and known_beginning(line.replace(comma, b",")) in wanted:
             words = f"the fields of the results are separated by {name} instead of commas: the first line is {text.quoted(line)}"
-            return Fault(words, "form", 1)
-    return Fault(f"none of the lines of the results belongs to this journal: the first is {text.quoted(line)}", "journal", 1)
+            return FaultLine(words, "form", 1)
+    return FaultLine(f"none of the lines of the results belongs to this journal: the first is {text.quoted(line)}", "journal", 1)
 
 
 def parse_results_and_faults(problem, data):
     """The results that a text is for this problem, and the faults of its form; results are None if something is."""
     wrong, lines, values = [], {}, []
     if not data.endswith(b"\n"):
-        wrong.append(Fault("the last line of the results has no line end", "form"))
+        wrong.append(FaultLine("the last line of the results has no line end", "form"))
     found, more = lines_and_faults(data)
     wrong += more
     expected = list(expected_lines(problem))
@@ -101,26 +103,26 @@ def parse_results_and_faults(problem, data):
     wanted = [tuple(field.encode() for field in known) for _, known, _ in expected]
     beginnings = [known_beginning(line) for line in found]
     if set(wanted).isdisjoint(beginnings):
-        return None, [foreign_results_fault(found[0], wanted) if data else Fault("the results are empty", "form")]
+        return None, [foreign_results_fault(found[0], wanted) if data else FaultLine("the results are empty", "form")]
     pairs = matched_pairs(wanted, beginnings)
     away = moved_places(wanted, beginnings, pairs)
     elsewhere = set(away.values())
     for at, place in pairs:
         last = last if place is None else place + 1
         if place in away:
-            wrong.append(line_fault("moved", last, expected[away[place]][0], moved_line_words(expected, away[place])))
+            wrong.append(line_fault(moved_line_words(expected, away[place]), "moved", last, expected[away[place]][0]))
         elif at is None:
-            wrong.append(line_fault("stray", last, None, stray_line_words(found[place])))
+            wrong.append(line_fault(stray_line_words(found[place]), "stray", last, None))
         if at is None or at in elsewhere:
             continue
-        about, known, behind = expected[at]
+        about, known, forms = expected[at]
         if place is None or place in away:
             wrong.append(missing_line_fault(last + (place is None), len(found), about))
             continue
-        read = line_values_or_none(found[place], known, behind) if beginnings[place] == wanted[at] else None
+        read = line_values_or_none(found[place], known, forms) if beginnings[place] == wanted[at] else None
         lines[about] = last
         if read is None:
-            wrong.append(line_fault("form", last, about, form_words(about, found[place], known, behind)))
+            wrong.append(line_fault(form_words(about, found[place], known, forms), "form", last, about))
         values.append(read)
     if wrong:
         return None, unknown_orders_faults(wanted, beginnings) + wrong
@@ -134,24 +136,23 @@ def lines_and_faults(data):
         return found, []
     count = MOST_LINES + 1 + found.pop().count(b"\n")
     words = f"the text has {count:,} lines, and no day has as many: those after line {MOST_LINES:,} weren't looked at"
-    return found, [Fault(words, "stray", MOST_LINES + 1)]
+    return found, [FaultLine(words, "stray", MOST_LINES + 1)]
 
 
 def missing_line_fault(line, lines, about):
     """The fault of a line that is missing before another, or at the end."""
     where = f"before results line {line}" if line <= lines else f"at the end of the results, as line {line}"
-    return Fault(f"the line for {about} is missing {where}", "missing", line, about)
+    return FaultLine(f"the line for {about} is missing {where}", "missing", line, about)
 
 
-def form_words(about, line, known, behind):
-    """The message about a line whose fields after the known ones aren't numbers or words as they should be."""
+def form_words(about, line, known, forms):
+    """The message about a line whose fields after the known ones haven't their forms."""
     fields = line.split(b",")
-    if len(fields) == len(known) + len(behind):
-        for field, kind in zip(fields[len(known) :], behind):
-            if kind == "n" and parse_number_or_none(field) is None and OTHER_NUMBER.fullmatch(field):
+    if len(fields) == len(known) + len(forms):
+        for field, form in zip(fields[len(known) :], forms):
+            if form == NUMBER and parse_number_or_none(field) is None and OTHER_NUMBER.fullmatch(field):
                 return f"{about}: {text.quoted(field)} isn't a number as dam writes it: no +, no leading zeros, no -0"
-    form = ",".join(known + [{"n": "<number>", "a": "accepted|rejected"}[kind] for kind in behind])
-    return f"{about} should be '{form}' and is {text.quoted(line)}"
+    return f"{about} should be '{','.join(known + forms)}' and is {text.quoted(line)}"
 
 
 def moved_line_words(expected, at):

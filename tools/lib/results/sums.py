@@ -33,14 +33,14 @@ def volume_faults(day):
         volume = day.published.volumes[number - 1]
         if not bought == sold == volume:
             words = f"period {number}: the orders buy {bought} and sell {sold}, and the volume is {volume}"
-            yield subject_fault(day.published, "money", f"period {number}", words)
+            yield subject_fault(words, "money", day.published, f"period {number}")
 
 
 def hourly_loss_faults(day, gains):
     for row, gain in gains:
         if row.order.kind == "hour" and gain < 0:
             about = f"hour {row}"
-            yield subject_fault(day.published, "loss", about, f"{about}: at the price it loses {-gain} with its executed volume")
+            yield subject_fault(f"{about}: at the price it loses {-gain} with its executed volume", "loss", day.published, about)
 
 
 def participant_loss_faults(day, gains):
@@ -53,14 +53,14 @@ def participant_loss_faults(day, gains):
         if total < 0:
             _, row = min(pairs, key=lambda pair: pair[0])
             about = f"{row.order.kind} {row}"
-            yield subject_fault(day.published, "loss", about, f"{about}: {who} loses {-total} with all its orders, and most with this one")
+            yield subject_fault(f"{about}: {who} loses {-total} with all its orders, and most with this one", "loss", day.published, about)
 
 
 def welfare_sum_faults(day, gains):
     total = sum(gain for _, gain in gains)
     if day.published.welfare != total:
         words = f"the welfare is {day.published.welfare}, and the surpluses add up to {total}"
-        yield subject_fault(day.published, "sum", "the welfare", words)
+        yield subject_fault(words, "sum", day.published, "the welfare")
 
 
 class Sums(NamedTuple):

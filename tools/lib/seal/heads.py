@@ -139,7 +139,7 @@ def command_of_record_or_none(record):
     """The command of a record in its written form; None for any other text."""
     try:
         read = journal.parse_journal(f"{journal.day_record_text(rules.GREATEST_PERIOD)}\n{record}".encode("ascii"))
-    except (journal.Fault, UnicodeEncodeError):
+    except (journal.JournalFault, UnicodeEncodeError):
         return None
     if len(read.commands) != 1 or journal.command_record_text(read.commands[0]) != record:
         return None

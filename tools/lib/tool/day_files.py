@@ -40,7 +40,7 @@ def refuse_other_kind(path, data, right, hints=()):
 def require_journal(path, data):
     try:
         return journal.parse_journal(data)
-    except journal.Fault as fault:
+    except journal.JournalFault as fault:
         raise command.Stop(f"{command.shown(path)} isn't a journal: {fault}{lint.first_fault_words(data)}") from None
 
 
