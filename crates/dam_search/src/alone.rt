@@ -51,7 +51,7 @@ fn search_alone_priced<P: PricedProblem>(
     let first_welfare = first_selection(problem, priced).welfare;
     if limit_can_bind(problem, 0, nodes) {
         let relaxed = &Relaxed::build(alloc, problem)?;
-        let prefix_walk = &PrefixWalk { problem, relaxed };
+        let prefix_walk = &PrefixWalk::new(problem, relaxed);
         return search_alone_by_walk(problem, prefix_walk, first_welfare, nodes);
     }
     let conflicts = &Conflicts::of(problem, priced);

@@ -49,7 +49,7 @@ pub use dam_plan::{FreeTurn, MOST_CUT, MOST_NODES, MOST_WORKERS, Nodes, Plan, Tu
 pub use fault::SearchFault;
 pub use first::first_selection;
 pub use incumbent::{Incumbent, OwnIncumbent};
-pub use prefix_walk::walk_by_prefixes;
+pub use prefix_walk::PrefixWalk;
 pub use priced_problem::PricedProblem;
 pub use view::View;
 pub use whole_search::search;

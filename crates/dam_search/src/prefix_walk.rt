@@ -17,10 +17,20 @@ use std::alloc::Allocator;
 
 /// A problem, and the relaxed welfares by which its prefixes are walked.
 #[derive(Drop)]
-pub(crate) struct PrefixWalk<'a, A: Allocator, B: Allocator> {
-    pub(crate) problem: &'a Problem<A>,
-    pub(crate) relaxed: &'a Relaxed<B>,
+pub struct PrefixWalk<'a, A: Allocator, B: Allocator> {
+    pub problem: &'a Problem<A>,
+    pub relaxed: &'a Relaxed<B>,
     ghost same: { relaxed.now ≡ without_rows problem.now },
+}
+
+impl<'a, A: Allocator, B: Allocator> PrefixWalk<'a, A, B> {
+    /// The walks of a problem's pieces, with its relaxed welfares.
+    pub fn new(problem: &'a Problem<A>, relaxed: &'a Relaxed<B>) -> PrefixWalk<'a, A, B>
+        requires { relaxed.now ≡ without_rows problem.now }
+        ensures { result.problem.now ≡ problem.now }
+    {
+        PrefixWalk { problem, relaxed }
+    }
 }
 
 impl<A: Allocator, B: Allocator> PrefixWalk<'_, A, B> {
@@ -118,58 +128,59 @@ impl<A: Allocator, B: Allocator> PrefixWalk<'_, A, B> {
     }
 }
 
-/// Walks a piece of the cutting that decides the first `depth` blocks. If the answer is `done`, it has the piece's
-/// best eligible selection, apart from those with less welfare than was read of the incumbent.
-///
-/// In piece j the block at place i is accepted if the binary digit of j with weight 2 to the power
-/// `depth` - 1 - i is 0. A node is a prefix that extends the piece's. If the links and the groups admit
-/// it, it is visited when its bound is compared with the value read, or, if it decides every block, when
-/// its welfare is looked at; otherwise it is passed over without a visit. A node is never visited twice,
-/// and the answer isn't `done` if it takes more than `nodes` nodes. The search takes no memory.
-pub fn walk_by_prefixes<A: Allocator, B: Allocator, I: Incumbent>(
-    problem: &Problem<A>,
-    relaxed: &Relaxed<B>,
-    piece: u32,
-    depth: usize,
-    nodes: Nodes,
-    incumbent: &mut I,
-) -> PieceAnswer
-    requires same { relaxed.now ≡ without_rows problem.now }
-    requires depth { depth ≤ length problem.now.blocks }
-    requires piece { piece < 2 ^ depth }
-    ensures piece { result.piece ≡ piece }
-    ensures sound { IsSound problem.now (choice depth piece) result.best result.incumbent_read result.done }
-    ensures spent { IsSpent problem.now (choice depth piece) (length problem.now.blocks - depth)
-        (I.greatest_read incumbent.old) nodes result.visited result.incumbent_read result.done }
+impl<A: Allocator, B: Allocator> PrefixWalk<'_, A, B> {
+    /// Walks a piece of the cutting that decides the first `depth` blocks. If the answer is `done`, it has the piece's
+    /// best eligible selection, apart from those with less welfare than was read of the incumbent.
+    ///
+    /// In piece j the block at place i is accepted if the binary digit of j with weight 2 to the power
+    /// `depth` - 1 - i is 0. A node is a prefix that extends the piece's. If the links and the groups admit
+    /// it, it is visited when its bound is compared with the value read, or, if it decides every block, when
+    /// its welfare is looked at; otherwise it is passed over without a visit. A node is never visited twice,
+    /// and the answer isn't `done` if it takes more than `nodes` nodes. The search takes no memory.
+    pub fn walk_by_prefixes<I: Incumbent>(
+        &self,
+        piece: u32,
+        depth: usize,
+        nodes: Nodes,
+        incumbent: &mut I,
+    ) -> PieceAnswer
+        requires depth { depth ≤ length self.now.problem.now.blocks }
+        requires piece { piece < 2 ^ depth }
+        ensures piece { result.piece ≡ piece }
+        ensures sound { IsSound self.now.problem.now (choice depth piece)
+            result.best result.incumbent_read result.done }
+        ensures spent { IsSpent self.now.problem.now (choice depth piece)
+            (length self.now.problem.now.blocks - depth)
+            (I.greatest_read incumbent.old) nodes result.visited result.incumbent_read result.done }
 
-    // The incumbent after the call.
-    ensures offered { I.greatest_offer incumbent.new
-        ≡ max (I.greatest_offer incumbent.old) (welfare_found result.best) }
-    ensures greatest_read { I.greatest_read incumbent.new
-        ≡ max (I.greatest_read incumbent.old) result.incumbent_read }
-    ensures kept { I.kept incumbent.new ≡ I.kept incumbent.old }
+        // The incumbent after the call.
+        ensures offered { I.greatest_offer incumbent.new
+            ≡ max (I.greatest_offer incumbent.old) (welfare_found result.best) }
+        ensures greatest_read { I.greatest_read incumbent.new
+            ≡ max (I.greatest_read incumbent.old) result.incumbent_read }
+        ensures kept { I.kept incumbent.new ≡ I.kept incumbent.old }
 
-    // The greatest value read in the call. That the incumbent is read at each node under full depth is only tested.
-    ensures read { 0 < result.visited → depth < length problem.now.blocks
-        → result.incumbent_read ≡ I.greatest_read incumbent.new }
-    ensures unread { (result.visited ≡ 0) ⊎ (depth ≡ length problem.now.blocks)
-        → result.incumbent_read ≡ 0 }
-{
-    use_invariant(problem);
-    let prefix_walk = PrefixWalk { problem, relaxed };
-    let mut found = WalkState {
-        best: None,
-        incumbent_read: 0,
-        visited: 0,
-    };
-    let prefix = Prefix::of_piece(depth, piece);
-    let done = prefix_walk.visit(nodes, &prefix, incumbent, &mut found);
-    PieceAnswer {
-        piece,
-        best: found.best,
-        incumbent_read: found.incumbent_read,
-        visited: found.visited,
-        done,
+        // The greatest value read in the call. That the incumbent is read at each node under full depth is only tested.
+        ensures read { 0 < result.visited → depth < length self.now.problem.now.blocks
+            → result.incumbent_read ≡ I.greatest_read incumbent.new }
+        ensures unread { (result.visited ≡ 0) ⊎ (depth ≡ length self.now.problem.now.blocks)
+            → result.incumbent_read ≡ 0 }
+    {
+        use_invariant(self.problem);
+        let mut found = WalkState {
+            best: None,
+            incumbent_read: 0,
+            visited: 0,
+        };
+        let prefix = Prefix::of_piece(depth, piece);
+        let done = self.visit(nodes, &prefix, incumbent, &mut found);
+        PieceAnswer {
+            piece,
+            best: found.best,
+            incumbent_read: found.incumbent_read,
+            visited: found.visited,
+            done,
+        }
     }
 }
 
@@ -188,6 +199,6 @@ impl<A: Allocator, B: Allocator> PieceWalk for PrefixWalk<'_, A, B> {
         nodes: Nodes,
         incumbent: &mut I,
     ) -> PieceAnswer {
-        walk_by_prefixes(self.problem, self.relaxed, piece, depth, nodes, incumbent)
+        self.walk_by_prefixes(piece, depth, nodes, incumbent)
     }
 }

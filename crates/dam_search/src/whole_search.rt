@@ -51,7 +51,7 @@ fn search_priced<R: Threads + Sync, P: PricedProblem + Sync, T: Turnstile + Sync
     let (nodes, workers) = (plan.nodes(), plan.workers());
     if limit_can_bind(problem, depth, nodes) {
         let relaxed = &Relaxed::build(alloc, problem)?;
-        let prefix_walk = &PrefixWalk { problem, relaxed };
+        let prefix_walk = &PrefixWalk::new(problem, relaxed);
         let task = Task {
             alloc,
             problem,

@@ -7,7 +7,7 @@ use Rattle.dam_search.specs.Piece.{IsFind, IsSound, IsSpent}
 use Rattle.dam_search.specs.inside.PrefixWalk.{Finds, Covers}
 use Rattle.dam_search.proofs.Prefixes.{length-choice}
 use Rattle.dam_search.proofs.Walks.{spent_from}
-use Rattle.dam_search.proofs.prefix_walk.walk_by_prefixes.Goals as goal
+use Rattle.dam_search.proofs.prefix_walk.PrefixWalk.walk_by_prefixes.Goals as goal
 
 as_long : (prefix : List Bool) (depth piece : ℕ) → prefix ≡ choice depth piece → length prefix ≡ depth
 as_long prefix depth piece e = ap (λ (xs : List Bool). length xs) e ∙ length-choice depth piece
@@ -30,20 +30,20 @@ visit-done-requires-clause-going g c = record { within = omega arith; read = ome
 pub returns-clause-sound : goal.returns-clause-sound
 returns-clause-sound g c =
     let found = c.visit-done.new.found in
-    subst (λ (prefix : List Bool). IsSound c.args.problem.now prefix found.best found.incumbent_read c.visit-done.result) c.of_piece-prefix.ensures
-    (sound c.args.problem.now c.of_piece-prefix.result found.best found.incumbent_read c.visit-done.result c.visit-done.ensures.walked.finds
+    subst (λ (prefix : List Bool). IsSound c.args.self.now.problem.now prefix found.best found.incumbent_read c.visit-done.result) c.of_piece-prefix.ensures
+    (sound c.args.self.now.problem.now c.of_piece-prefix.result found.best found.incumbent_read c.visit-done.result c.visit-done.ensures.walked.finds
     c.visit-done.ensures.walked.covers)
 
 pub returns-clause-spent : goal.returns-clause-spent
 returns-clause-spent g c =
-    let told = g.I.Incumbent.greatest_read c.args.incumbent.now in let n = length c.args.problem.now.blocks in
+    let told = g.I.Incumbent.greatest_read c.args.incumbent.now in let n = length c.args.self.now.problem.now.blocks in
     let long = as_long c.of_piece-prefix.result c.args.depth c.args.piece c.of_piece-prefix.ensures in
     let found = c.visit-done.new.found in let walked = c.visit-done.ensures.walked in
-    subst (λ (left : ℕ). IsSpent c.args.problem.now (choice c.args.depth c.args.piece) (n - left) told c.args.nodes found.visited
+    subst (λ (left : ℕ). IsSpent c.args.self.now.problem.now (choice c.args.depth c.args.piece) (n - left) told c.args.nodes found.visited
     found.incumbent_read c.visit-done.result) long
-    (subst (λ (prefix : List Bool). IsSpent c.args.problem.now prefix (n - length c.of_piece-prefix.result) told c.args.nodes
+    (subst (λ (prefix : List Bool). IsSpent c.args.self.now.problem.now prefix (n - length c.of_piece-prefix.result) told c.args.nodes
     found.visited found.incumbent_read c.visit-done.result) c.of_piece-prefix.ensures
-    (spent_from c.args.problem.now c.of_piece-prefix.result (n - length c.of_piece-prefix.result) told c.args.nodes found.visited
+    (spent_from c.args.self.now.problem.now c.of_piece-prefix.result (n - length c.of_piece-prefix.result) told c.args.nodes found.visited
     found.incumbent_read c.visit-done.result walked.spends walked.needed))
 
 pub returns-clause-read : goal.returns-clause-read
