@@ -118,7 +118,7 @@ def right_results_or_none(read):
     problem = selection.Problem(closed)
     if len(problem.blocks) > MOST_BLOCKS:
         return None
-    found, _ = recursive_enumeration.find_best_and_how(problem)
+    found, _ = recursive_enumeration.search_for_best_and_how(problem)
     text = results.results_text(problem, found.accepted, selection.outcome(problem, found.accepted)).encode()
     _, wrong = check.results_and_faults(problem, text)
     if wrong:

@@ -101,7 +101,7 @@ def write_and_audit(folder, data, text):
     audit = verdict.Audit(options)
     try:
         with contextlib.redirect_stderr(io.StringIO()):
-            audit.make_checks()
+            audit.read_inputs_and_check_or_stop()
     except command.Stop as stop:
         return stop.status, audit.record(stop.status, str(stop))
     return audit.status, audit.record(audit.status)
@@ -200,7 +200,7 @@ def draw_worse_results_or_none(rng, data):
     for _ in range(8):
         accepted = frozenset(place for place in range(len(problem.blocks)) if rng.random() < 0.5)
         outcome = selection.outcome(problem, accepted)
-        if outcome.welfare is not None and accepted != recursive_enumeration.find_best_and_how(problem)[0].accepted:
+        if outcome.welfare is not None and accepted != recursive_enumeration.search_for_best_and_how(problem)[0].accepted:
             return results.results_text(problem, accepted, outcome).encode()
     return None
 

@@ -80,7 +80,7 @@ def check_all_are_described(counts):
     plain = lambda path: re.sub(r"\{(\w+):[^/]*\}(?=/|$)", r"{\1}", path)
     for demo in (None, {"GAS": "GAS.token"}):
         made = web.Web(mock.Mock(public_key=""), demo=demo)
-        routes = [route for route in made.make_application().router.routes() if route.method != "HEAD"]
+        routes = [route for route in made.new_application().router.routes() if route.method != "HEAD"]
         served = {(route.method, plain(route.resource.canonical)) for route in routes}
         api = json.loads(made.files["/openapi.json"][0])
         described = {(method.upper(), path) for path, methods in api["paths"].items() for method in methods if method != "x-demo"}

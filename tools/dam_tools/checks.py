@@ -145,13 +145,13 @@ class Audited(verdict.Audit):
         self.inputs.append({"role": role})
         return self.sources[role]
 
-    def look_for_better_and_note(self, problem: selection.Problem, published: object) -> object:
+    def search_for_better_and_note(self, problem: selection.Problem, published: object) -> object:
         """As the tool does it, but a missing package is a fault: a program isn't started again with another Python."""
         by_highs = self.options.by == better.HIGHS
         module = "scipy" if by_highs else "numpy"
         if (by_highs or len(problem.blocks) > recursive_enumeration.ENUMERABLE) and not modules.has_module(module):
             raise command.Stop(modules.missing_message(module), command.FAILED)
-        return super().look_for_better_and_note(problem, published)
+        return super().search_for_better_and_note(problem, published)
 
 
 def audit(
@@ -177,7 +177,7 @@ def audit(
     made = Audited(sources, types.SimpleNamespace(**named, **flags))
     message, status = None, None
     try:
-        made.make_checks()
+        made.read_inputs_and_check_or_stop()
     except command.Stop as stop:
         if stop.status != command.UNDECIDED:
             raise Fault(str(stop)) from None

@@ -59,7 +59,7 @@ def read_one_of_many(source: JournalSource) -> bytes:
     if not isinstance(source, (str, bytes, os.PathLike, Journal)):
         raise Fault(f"a journal should be a file, its text, or one that was read, and not of the type {type(source).__name__}")
     is_file = not isinstance(source, Journal) and not is_text(source) and source != ""
-    if is_file and (said := file_io.unread_reason_or_none(source)):
+    if is_file and (said := file_io.find_unread_reason_or_none(source)):
         raise Fault(said)
     return read_journal_bytes(source)
 

@@ -116,8 +116,8 @@ class Calls:
         if fault.fault in ("NumberUsed", "NumberAhead"):
             del self.numbers[day]
 
-    def own_path(self, day: str, what: str) -> str:
-        return f"/days/{day}/{what}/{self.who}"
+    def own_path(self, day: str, part: str) -> str:
+        return f"/days/{day}/{part}/{self.who}"
 
     def headers(self, asked: Asked) -> dict[str, str]:
         made = {"Authorization": f"Bearer {self.token}"}

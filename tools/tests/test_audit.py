@@ -312,7 +312,7 @@ class Period(unittest.TestCase):
 class Best(unittest.TestCase):
     def test_enumeration(self):
         for day, selections in draw_small_problems(200):
-            found, _ = recursive_enumeration.find_best_and_how(day)
+            found, _ = recursive_enumeration.search_for_best_and_how(day)
             self.assertEqual((found.welfare, found.accepted), selections[0])
 
     def test_highs(self):
@@ -323,7 +323,7 @@ class Best(unittest.TestCase):
         tried = 0
         for day, selections in [*draw_small_problems(80), *self.equal_prices(), *self.equal_blocks()]:
             for rank, (welfare, accepted) in enumerate(selections[:4]):
-                found, _ = highs_search.find_better_and_how(day, accepted, welfare, Progress("audit", 60))
+                found, _ = highs_search.search_for_better_and_how(day, accepted, welfare, Progress("audit", 60))
                 self.assertEqual(found is None, rank == 0)
                 if found:
                     self.assertIn((found.welfare, found.accepted), selections[:rank])
@@ -508,7 +508,7 @@ class CommandLine(unittest.TestCase):
             answers = itertools.chain(offers, itertools.repeat(None))
             told = []
             with unittest.mock.patch.object(highs_search.Model, "solve_for_selection_or_none", lambda *_: next(answers)):
-                self.assertEqual(highs_search.find_better_and_how(day, accepted, welfare, Progress("audit", 60), told.append), (None, said))
+                self.assertEqual(highs_search.search_for_better_and_how(day, accepted, welfare, Progress("audit", 60), told.append), (None, said))
             many = "HiGHS is still searching, and has offered 2 other selections"
             words = ["HiGHS is still searching", "HiGHS is still searching, and has offered 1 other selection", many]
             self.assertEqual(told, words[: len(offers)])

@@ -190,7 +190,7 @@ class Days(unittest.TestCase):
         self.write(a=(DATA, TEXT))
         tracemalloc.start()
         self.addCleanup(tracemalloc.stop)
-        self.assertEqual(len(day_pairs.require_pairs(self.folder / "list", [])), 20)
+        self.assertEqual(len(day_pairs.read_pairs_or_stop(self.folder / "list", [])), 20)
         self.assertLess(tracemalloc.get_traced_memory()[1], 16 * 2**20)
 
     def test_cells_of_a_manifest_in_no_column(self):
@@ -288,7 +288,7 @@ class Days(unittest.TestCase):
     def test_a_process_that_cannot_be_started(self):
         pair, full = day_pairs.Pair("a", Path("a.csv"), Path("a.txt")), OSError(errno.EMFILE, os.strerror(errno.EMFILE))
         with unittest.mock.patch.object(days.subprocess, "Popen", side_effect=full):
-            made = days.run_audit_of_day(pair, [], by_program.Running())
+            made = days.run_audit_and_return_kept_record(pair, [], by_program.Running())
         said = "its process can't be started: Too many open files"
         self.assertEqual((made["status"], made["verdict"], made["message"]), (command.FAILED, verdict.FAILED, said))
 
@@ -303,7 +303,7 @@ class Days(unittest.TestCase):
             return begun[-1]
 
         with unittest.mock.patch.object(days, "TOOL", hanging), unittest.mock.patch.object(subprocess, "Popen", side_effect=start):
-            found = days.run_audits([hung, hung._replace(unread="x")], [], 2, unittest.mock.Mock(), 0.5)
+            found = days.run_audits_and_return_kept_records([hung, hung._replace(unread="x")], [], 2, unittest.mock.Mock(), 0.5)
         self.assertEqual([made["message"] for made in found], ["its process didn't end in 0.5 seconds", "x"])
         self.assertEqual([made["status"] for made in found], [command.FAILED, command.NO_INPUT])
         self.assertEqual([process.returncode for process in begun], [-signal.SIGKILL])
@@ -388,16 +388,16 @@ class Days(unittest.TestCase):
         pairs, bar = [day_pairs.Pair(name, Path("a.csv"), Path("a.txt")) for name in "ab"], unittest.mock.Mock()
         for patched, faults in (("capture_status_and_outputs", [MemoryError]), ("record_without_verdict", [MemoryError, unittest.mock.DEFAULT])):
             with unittest.mock.patch.object(days, patched, side_effect=faults * 2, wraps=getattr(days, patched)):
-                found = days.run_audits(pairs, ["--none"], 1, bar)
+                found = days.run_audits_and_return_kept_records(pairs, ["--none"], 1, bar)
             self.assertEqual([(made["name"], made["status"]) for made in found], [("a", command.FAILED), ("b", command.FAILED)])
             self.assertIn("out of memory", [made["message"] for made in found])
         with unittest.mock.patch.object(days.threading.Thread, "start", side_effect=RuntimeError("can't start new thread")):
-            found = days.run_audits([pairs[0]._replace(unread="x")] * 2, [], 2, bar)
+            found = days.run_audits_and_return_kept_records([pairs[0]._replace(unread="x")] * 2, [], 2, bar)
         self.assertEqual([made["message"] for made in found], ["x", "x"])
 
     def test_days_with_many_faults(self):
         """The faults of all days aren't in memory together. The record is the same as if they were."""
-        wrong = [faults.line_fault("stray", line, None, "'hour,A,NAME,1' doesn't belong here").record() for line in range(3_000)]
+        wrong = [faults.line_fault("'hour,A,NAME,1' doesn't belong here", "stray", line, None).record() for line in range(3_000)]
         made = {**audit_record.unread_record(verdict.WRONG, command.DIFFERS, None), "faults": wrong}
         out = json.dumps(made, indent=1).encode() + b"\n"
         pairs = [day_pairs.Pair(f"{number}\udcff", Path("a.csv"), None, "x" if number == 3 else None) for number in range(8)]
@@ -407,7 +407,7 @@ class Days(unittest.TestCase):
             tracemalloc.start()
             self.addCleanup(tracemalloc.stop)
             with unittest.mock.patch.object(days, "capture_status_and_outputs", return_value=(command.DIFFERS, out, b"")):
-                found = days.run_audits(pairs, [], 2, unittest.mock.Mock(), **words)
+                found = days.run_audits_and_return_kept_records(pairs, [], 2, unittest.mock.Mock(), **words)
             self.assertLess(tracemalloc.get_traced_memory()[0], len(out))
             tracemalloc.stop()
             self.assertIn("  3000      0.0  results line 0: 'hour,A,NAME,1' doesn't belong here", list(days.table_lines(found))[1])
@@ -424,8 +424,8 @@ class Days(unittest.TestCase):
                 reads.append(name)
                 return super().__getitem__(name)
 
-        with unittest.mock.patch.object(days, "run_audit_of_day", side_effect=lambda *_: Counted(status=command.DIFFERS)):
-            found = days.run_audits([day_pairs.Pair("a", Path("a.csv"), None)] * 50, [], 2, bar)
+        with unittest.mock.patch.object(days, "run_audit_and_return_kept_record", side_effect=lambda *_: Counted(status=command.DIFFERS)):
+            found = days.run_audits_and_return_kept_records([day_pairs.Pair("a", Path("a.csv"), None)] * 50, [], 2, bar)
         self.assertEqual((len(found), len(reads), bar.count_and_show.call_args.args), (50, 50, (1, "50 wrong")))
 
     def test_a_record_without_days(self):

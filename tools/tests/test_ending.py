@@ -77,7 +77,7 @@ days.TOOL = Path(sys.argv[1])
 pairs = [day_pairs.Pair(str(number), Path(sys.argv[1]), None) for number in range(8)]
 def main():
     with drawing.empty_settings():
-        days.run_audits(pairs, [], 3, StepBar("audit", 8, "days"))
+        days.run_audits_and_return_kept_records(pairs, [], 3, StepBar("audit", 8, "days"))
 command.run_and_exit("audit", main)
 """
 # A run that has no memory for the rows of a sheet, and prints how many temporary files there are then.
@@ -520,8 +520,8 @@ class Interrupted(unittest.TestCase):
         with self.assertRaisesRegex(child_call.Died, "^the search ended without an answer: memory may have run out$"):
             child_call.run_in_child(lambda tell: os._exit(1), Progress("audit", SECONDS), "")
         for fault, status in ((child_call.Died("it ended"), command.FAILED), (TimeoutError("it is late"), command.UNDECIDED)):
-            with mock.patch.object(better, "find_better_and_how_by_highs", side_effect=fault), self.assertRaises(command.Stop) as stop:
-                better.find_better_and_how_or_stop(None, None, better.HIGHS, None, 1)
+            with mock.patch.object(better, "search_for_better_and_how_by_highs", side_effect=fault), self.assertRaises(command.Stop) as stop:
+                better.search_for_better_and_how_or_stop(None, None, better.HIGHS, None, 1)
             self.assertEqual((stop.exception.status, str(stop.exception)), (status, f"the results obey the other rules, but {fault}"))
 
     def test_what_a_call_returns_reports_and_raises(self):

@@ -439,7 +439,7 @@ class Connections(unittest.IsolatedAsyncioTestCase):
         self.counts = observed.Counts()
         self.runner = guards.Runner(application, self.counts)
         await self.runner.setup()
-        listener = guards.Listener(self.runner.server, serve.require_listening_socket("127.0.0.1", 0), None, self.counts)
+        listener = guards.Listener(self.runner.server, serve.open_listening_socket_or_stop("127.0.0.1", 0), None, self.counts)
         self.port = listener.socket.getsockname()[1]
         for step in (self.runner.cleanup, self.runner.server.shutdown, listener.close):
             self.addAsyncCleanup(step)

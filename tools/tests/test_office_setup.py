@@ -663,7 +663,7 @@ class Setup(Office):
     def test_a_program_that_cant_be_run_is_seen_at_the_start(self):
         for dam, desk, missing in (("/nowhere/dam", "true", "dam"), ("true", "/nowhere/desk", "dam-desk"), ("true", __file__, "dam-desk")):
             with self.subTest(dam=dam, desk=desk), self.assertRaisesRegex(command.Stop, f"the program {missing} can't be run: ") as caught:
-                programs.require_programs(dam, desk)
+                programs.find_programs_and_clear_trial_or_stop(dam, desk)
             self.assertEqual(caught.exception.status, command.FAILED)
 
     def test_a_program_that_isnt_dam_is_seen_at_the_start(self):
@@ -682,10 +682,10 @@ class Setup(Office):
             made.write_text(lines)
             seconds = mock.patch.object(programs, "TRIAL_SECONDS", 0.2 if "sleep" in lines else SECONDS)
             with seconds, self.subTest(lines), self.assertRaisesRegex(command.Stop, f"didn't clear an empty day: .*: {fault}$") as caught:
-                programs.require_programs(made, "true")
+                programs.find_programs_and_clear_trial_or_stop(made, "true")
             self.assertEqual(caught.exception.status, command.FAILED)
         made.write_text(f"#!/bin/sh\n{prints}")
-        self.assertEqual(programs.require_programs(made, "false"), (str(made), "false"))
+        self.assertEqual(programs.find_programs_and_clear_trial_or_stop(made, "false"), (str(made), "false"))
 
     def test_a_program_that_says_much(self):
         """Of its standard error, the office takes no more than it logs."""

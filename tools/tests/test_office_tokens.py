@@ -167,7 +167,7 @@ class Tokens(Office):
         office = serving.Office(self.office, programs.Programs("dam", "dam-desk"), observed.Log(io.StringIO()))
         made = web.Web(office)
         made.budgets.looks = guards.Buckets(0.001, 4, lambda: 0.0)
-        runner = guards.Runner(made.make_application(), office.counts)
+        runner = guards.Runner(made.new_application(), office.counts)
         await runner.setup()
         server = await asyncio.get_running_loop().create_server(runner.server, "127.0.0.1", 0)
         waits = "100-Continue"

@@ -79,7 +79,7 @@ class Trades(unittest.TestCase):
 def make_page(data, text, curves):
     from lib.report import page
 
-    return page.make_day_page(day_of(data, text), "A <day> & its results", list(curves))
+    return page.capture_day_page(day_of(data, text), "A <day> & its results", list(curves))
 
 
 PACKAGES = "matplotlib or jinja2 is missing (Debian's python3-matplotlib, python3-jinja2)"
@@ -219,7 +219,7 @@ class Page(unittest.TestCase):
         place = next(place for place, block in enumerate(day.problem.blocks) if block.name == "UNIT-7")
         with unittest.mock.patch("lib.whatif.limits.capture_rejected_sentences", lambda *_: {place: "With a limit of 92.00 EUR/MWh."}):
             for who in (None, "OLD"):
-                page = importlib.import_module("lib.report.page").make_day_page(day, "day", [], None, who)
+                page = importlib.import_module("lib.report.page").capture_day_page(day, "day", [], None, who)
                 whys.append(re.search(r"[^>]*With a limit of 92.00 EUR/MWh[^<]*", page)[0].strip())
         self.assertEqual(whys[0], whys[1])
         self.assertIn("7,920.00 EUR", whys[0])

@@ -23,11 +23,11 @@ class Pair(NamedTuple):
     missing: object = None  # the message if there are no results, and the journal isn't the text of a day
 
 
-def require_pairs(place, notes):
+def read_pairs_or_stop(place, notes):
     """The days of a folder, by name, or of a manifest, in its order. None of their files is read. Notes say how a manifest was read."""
     path = Path(place)
     try:
-        pairs = list_pairs_by_name(path) if path.is_dir() else require_listed_pairs(path, notes)
+        pairs = list_pairs_by_name(path) if path.is_dir() else read_listed_pairs_or_stop(path, notes)
     except OSError as fault:
         raise command.Stop(f"{command.shown(place)} can't be read: {fault.strerror}") from None
     if not pairs:
@@ -56,12 +56,13 @@ def stem_and_suffix(name):
 
 
 def find_pair(name, journal, published):
+    unread = file_io.find_unread_reason_or_none(journal)
     if os.path.lexists(published):
-        return Pair(name, journal, published, file_io.unread_reason_or_none(journal) or file_io.unread_reason_or_none(published), None)
-    return Pair(name, journal, None, file_io.unread_reason_or_none(journal), f"{command.shown(published)} is missing")
+        return Pair(name, journal, published, unread or file_io.find_unread_reason_or_none(published), None)
+    return Pair(name, journal, None, unread, f"{command.shown(published)} is missing")
 
 
-def require_listed_pairs(path, notes):
+def read_listed_pairs_or_stop(path, notes):
     """The pairs of a manifest: a table with the columns `journal` and `results`, whose files are sought from its own folder."""
     data = file_io.read_bytes(path)
     kind = kinds.kind_or_none(data)
@@ -125,8 +126,8 @@ def find_listed_pair(folder, cells, extra):
     journal, published = (folder / cells.get(name, "") for name in COLUMNS)
     has_results = bool(cells.get("results"))
     missing = None if has_results else f"its row names no results, and {command.shown(journal)} has no line 'results'"
-    unread = extra or unread_row_words_or_none(cells) or file_io.unread_reason_or_none(journal)
-    unread = unread or (file_io.unread_reason_or_none(published) if has_results else None)
+    unread = extra or unread_row_words_or_none(cells) or file_io.find_unread_reason_or_none(journal)
+    unread = unread or (file_io.find_unread_reason_or_none(published) if has_results else None)
     return Pair(cells.get(NAME) or journal.stem, journal, published if has_results else None, unread, missing)
 
 

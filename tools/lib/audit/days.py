@@ -43,7 +43,7 @@ def seconds_of(args):
     return min(MORE_SECONDS + (verdict.SECONDS if args.seconds is None else args.seconds) * args.best, MOST_SECONDS)
 
 
-def run_audit_of_day(pair, options, running, seconds=MORE_SECONDS, is_json=False):
+def run_audit_and_return_kept_record(pair, options, running, seconds=MORE_SECONDS, is_json=False):
     """As much as is kept of the record of the audit of a day, also if the audit fails."""
     if pair.unread is not None:
         return kept_part(record_without_verdict(pair, command.NO_INPUT, pair.unread), is_json)
@@ -152,7 +152,8 @@ class Audits:
         """The work of a thread: audits days as long as there are any."""
         while (at := self.take_next_place_or_none()) is not None:
             try:
-                self.keep_record(at, run_audit_of_day(self.pairs[at], self.options, self.running, self.seconds, self.is_json))
+                made = run_audit_and_return_kept_record(self.pairs[at], self.options, self.running, self.seconds, self.is_json)
+                self.keep_record(at, made)
             except MemoryError:
                 pass  # it gets its record at the end
             finally:
@@ -180,7 +181,7 @@ class Audits:
         self.running.kill_all()
 
 
-def run_audits(pairs, options, jobs, bar, seconds=MORE_SECONDS, is_json=False):
+def run_audits_and_return_kept_records(pairs, options, jobs, bar, seconds=MORE_SECONDS, is_json=False):
     """As much as is kept of the records of all days, in their order; each may take this number of seconds."""
     audits = Audits(pairs, options, seconds, is_json)
     try:
@@ -239,12 +240,13 @@ def status_of(records):
     return next((status for status in WORST if status in found), command.DONE)
 
 
-def require_and_audit_days(args):
+def read_and_audit_days_or_stop(args):
     """As much as is kept of the records of all days."""
     notes = []
-    pairs = day_pairs.require_pairs(args.days, notes)
+    pairs = day_pairs.read_pairs_or_stop(args.days, notes)
     file_io.refuse_own_outputs(path for pair in pairs for path in (pair.journal, pair.results) if path is not None)
     for note in [] if args.quiet else notes:
         command.print_note("audit", f"{command.shown(args.days)}: {note}")
     jobs = min(args.jobs or os.cpu_count() or 1, len(pairs))
-    return run_audits(pairs, options_of(args), jobs, StepBar("audit", len(pairs), "days", args.quiet), seconds_of(args), args.json)
+    bar = StepBar("audit", len(pairs), "days", args.quiet)
+    return run_audits_and_return_kept_records(pairs, options_of(args), jobs, bar, seconds_of(args), args.json)

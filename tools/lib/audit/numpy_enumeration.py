@@ -236,7 +236,7 @@ class Rows:
         # In which order blocks are looked at for a loss: those first that have lost most often, else from the last one.
         self.lost = dict.fromkeys(reversed(range(every.count)), 0)
 
-    def find_best(self):
+    def search_for_best(self):
         """The best of them that ranks above the floor, as a new floor."""
         welfares = self.welfares()
         waiting, held = [], 0
@@ -313,7 +313,7 @@ class Rows:
         return numpy.concatenate(gaining)
 
 
-def find_better_and_how(problem, accepted, welfare, progress, jobs=1, low_bits=LOW_BITS):
+def search_for_better_and_how(problem, accepted, welfare, progress, jobs=1, low_bits=LOW_BITS):
     """The best selection, if it ranks above this eligible one, else None; and how that was found."""
     every = Selections(problem, low_bits)
     published = Floor(welfare, every.number_of(accepted))
@@ -321,7 +321,7 @@ def find_better_and_how(problem, accepted, welfare, progress, jobs=1, low_bits=L
     progress.add_expected_steps(len(every.highs) * len(every.periods))
     with ThreadPoolExecutor(jobs) as threads:
         try:
-            floors = [running.result() for running in [threads.submit(share.find_best) for share in shares]]
+            floors = [running.result() for running in [threads.submit(share.search_for_best) for share in shares]]
         finally:
             progress.stop_and_erase()
     best = max(floors, key=lambda floor: (floor.welfare, floor.number))

@@ -60,7 +60,7 @@ class Audit:
         self.right, self.last = [], None  # lines about the right parts, and one after the faults
         self.progress = None
 
-    def make_checks(self):
+    def read_inputs_and_check_or_stop(self):
         """Makes the checks that the options ask for. Ends with `command.Stop` if that can't be done."""
         options = self.options
         journal_data, published_data = self.read_and_note_texts()
@@ -76,9 +76,9 @@ class Audit:
             return
         if options.sent is not None:
             proof_words = sent.no_proof_words if options.receipts is None else signed.proof_words
-            self.compare_sent_commands_and_note(read, reasons, closed, proof_words)
+            self.read_and_compare_sent_and_note(read, reasons, closed, proof_words)
         if signed is not None:
-            self.compare_with_signed_and_note(signed)
+            self.read_earlier_and_compare_with_signed_and_note(signed)
         if options.replies:
             self.check_replies_and_note(read.periods, reasons, published_data)
         elif published_data is not None:
@@ -167,7 +167,7 @@ class Audit:
         if faults:
             self.last = unmade_checks_line_or_none(published is not None, self.options.best)
             return
-        how = self.look_for_better_and_note(problem, published) if self.options.best else None
+        how = self.search_for_better_and_note(problem, published) if self.options.best else None
         if self.search is None or self.search["better"] is None:
             others = f"; no selection is better: {how}" if how else NOT_CHECKED if problem.blocks else ""
             self.right.append(right_line(problem, published, reasons) + others)
@@ -175,14 +175,14 @@ class Audit:
             if self.options.sent is not None:
                 self.right += lines_of_participant(data, self.options.participant)
 
-    def look_for_better_and_note(self, problem, published):
+    def search_for_better_and_note(self, problem, published):
         """Looks for a better selection than the one of right results, and says how."""
         options = self.options
         by, whole = options.by or better.ENUMERATION, 2 ** len(problem.blocks)
         self.progress = Progress("audit", self.seconds, options.quiet, whole)
         self.search = {"by": by, "selections": whole, "tried": 0, "better": None, "how": None}
         try:
-            found, how = better.find_better_and_how_or_stop(problem, published, by, self.progress, options.jobs or 1)
+            found, how = better.search_for_better_and_how_or_stop(problem, published, by, self.progress, options.jobs or 1)
         finally:
             self.search["tried"] = None if by == better.HIGHS else self.progress.tried_count()
         self.checked.append("best selection")
@@ -195,7 +195,7 @@ class Audit:
             self.search["better"] = [str(problem.blocks[place]) for place in sorted(found.accepted)]
         return how
 
-    def compare_sent_commands_and_note(self, read, reasons, closed, proof_words):
+    def read_and_compare_sent_and_note(self, read, reasons, closed, proof_words):
         """Compares a participant's sent commands with the journal. If the journal lacks a command, `proof_words` says what receipts
         show."""
         options = self.options
@@ -240,7 +240,7 @@ class Audit:
         signed.odd += odd
         return signed
 
-    def compare_with_signed_and_note(self, signed):
+    def read_earlier_and_compare_with_signed_and_note(self, signed):
         """Compares the journal and its replies with the head that the operator signed, with earlier heads, and with receipts."""
         options = self.options
         self.checked += ["head", "receipts"] if options.receipts is not None else ["head"]

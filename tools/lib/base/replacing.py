@@ -23,8 +23,8 @@ def write_replacing(path, data):
 def write_beside_and_return_put(path, data, cleanups):
     """The call that puts a file in its place. Unless it's to be written in place, it's written before, next to that, and `cleanups` removes it
     if it isn't put."""
-    target = link_target_or_none(str(Path(path)))
-    old = stat_or_none(target) if target is not None else None
+    target = find_link_target_or_none(str(Path(path)))
+    old = read_stat_or_none(target) if target is not None else None
     # `Path` leaves out a slash or dot at the end, which only a folder has
     if os.path.basename(path) in ("", ".") or old is not None and stat.S_ISDIR(old.st_mode):
         raise IsADirectoryError(errno.EISDIR, os.strerror(errno.EISDIR))
@@ -95,7 +95,7 @@ def write_in_place(target, data):
         file.truncate()
 
 
-def link_target_or_none(path):
+def find_link_target_or_none(path):
     """The file to which symbolic links lead from a path; None for an open file, as /dev/stdout names it."""
     for _ in range(MOST_LINKS):
         folder, name = os.path.split(path)
@@ -108,7 +108,7 @@ def link_target_or_none(path):
     return path
 
 
-def stat_or_none(path):
+def read_stat_or_none(path):
     try:
         return os.stat(path)
     except FileNotFoundError:

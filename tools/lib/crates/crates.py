@@ -16,10 +16,10 @@ def parse_crates(text, with_kinds=False):
     return found
 
 
-def read_crates(top, *others, with_kinds=False):
+def read_crates(top, *other_lists, with_kinds=False):
     """The same of a repository's crates.txt, and of other lists."""
     texts = []
-    for path in (f"{top}/crates.txt", *others):
+    for path in (f"{top}/crates.txt", *other_lists):
         with open(path, encoding="utf-8") as text:
             texts.append(text.read())
     return parse_crates("\n".join(texts), with_kinds)

@@ -84,8 +84,8 @@ class Handler(web_protocol.RequestHandler):
 
     __slots__ = ("head_bytes", "head_tail", "payload", "length", "is_deaf")
 
-    def __init__(self, *words, **how):
-        super().__init__(*words, max_line_size=MOST_LINE_BYTES, max_field_size=MOST_LINE_BYTES, **how)
+    def __init__(self, *words, **settings):
+        super().__init__(*words, max_line_size=MOST_LINE_BYTES, max_field_size=MOST_LINE_BYTES, **settings)
         self.head_bytes, self.head_tail = 0, b""  # of the head that is coming: how many have come, and the last ones
         self.payload, self.length = None, 0  # the body of the last request, and how many bytes it has
         self.is_deaf = False  # what comes isn't read any more, and the connection ends after its answer
@@ -255,9 +255,9 @@ class Listener:
 class Runner(web.AppRunner):
     """Runs an application with such a server."""
 
-    def __init__(self, app, counts, **how):
+    def __init__(self, app, counts, **settings):
         # a compressed body stays so: a few bytes of one may stand for all the memory
-        super().__init__(app, access_log=None, auto_decompress=False, **how)
+        super().__init__(app, access_log=None, auto_decompress=False, **settings)
         self.counts = counts
 
     async def _make_server(self):

@@ -42,7 +42,7 @@ def require_runnable(path, name, option):
     return os.path.abspath(path) if os.sep in str(path) else path
 
 
-def require_dam(named=None, may_compile=False):
+def find_or_compile_dam_or_stop(named=None, may_compile=False):
     """The program dam: the one that is named, or else the package's, the clone's or the system's; or, if it may be compiled, the clone's
     without proofs."""
     found = which.find_program_or_none()
@@ -51,7 +51,7 @@ def require_dam(named=None, may_compile=False):
     return require_runnable(path, "dam", "--dam")
 
 
-def require_desk(named=None, may_compile=False):
+def find_or_compile_desk_or_stop(named=None, may_compile=False):
     """The program dam-desk, found the same way."""
     here = DESK_BUILT if os.access(DESK_BUILT, os.X_OK) else None
     path = named or os.environ.get("DAM_DESK") or which.find_packaged_or_none("bin", "dam-desk") or here or shutil.which("dam-desk")
@@ -80,9 +80,9 @@ def run_and_require_clearing(path):
     raise command.Stop(f"the program dam didn't clear an empty day: {command.shown(path)}: {fault}", command.FAILED)
 
 
-def require_programs(dam=None, desk=None, may_compile=False):
+def find_programs_and_clear_trial_or_stop(dam=None, desk=None, may_compile=False):
     """The programs that an office runs."""
-    found = Programs(require_dam(dam, may_compile), require_desk(desk, may_compile))
+    found = Programs(find_or_compile_dam_or_stop(dam, may_compile), find_or_compile_desk_or_stop(desk, may_compile))
     run_and_require_clearing(found.dam)
     return found
 

@@ -130,7 +130,7 @@ def forbid_core_files():
     resource.setrlimit(resource.RLIMIT_CORE, (0, 0))
 
 
-def require_listening_socket(host, port):
+def open_listening_socket_or_stop(host, port):
     """A socket that listens at an address."""
     try:
         found = socket.create_server((host, port), family=socket.AF_INET6 if ":" in host else socket.AF_INET, backlog=BACKLOG)
@@ -147,7 +147,7 @@ async def serve(office, host, port, tls=None, behind_proxy=False, demo=None, sta
     for name in ("aiohttp", "asyncio"):
         logging.getLogger(name).handlers = [observed.Defects(office.log)]
         logging.getLogger(name).propagate = False
-    application = Web(office, tls is not None, behind_proxy, demo).make_application()
+    application = Web(office, tls is not None, behind_proxy, demo).new_application()
     runner = guards.Runner(application, office.counts, keepalive_timeout=KEEP_SECONDS)
     days = asyncio.create_task(office.take_up_days_forever())
     stopped, listener = asyncio.Event(), None
@@ -157,7 +157,7 @@ async def serve(office, host, port, tls=None, behind_proxy=False, demo=None, sta
     try:
         await runner.setup()
         await office.wait_until_known()
-        listener = guards.Listener(runner.server, require_listening_socket(host, port), tls, office.counts)
+        listener = guards.Listener(runner.server, open_listening_socket_or_stop(host, port), tls, office.counts)
         port = listener.socket.getsockname()[1]
         office.log.write_event("serving", host=host, port=port, tls=tls is not None)
         waits = asyncio.create_task(stopped.wait())

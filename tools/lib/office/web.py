@@ -62,7 +62,7 @@ class Web:
         self.tables = asyncio.Semaphore(TABLES_AT_ONCE)
         self.reading = set()  # the participants whose table is read, or waits for it
 
-    def make_application(self):
+    def new_application(self):
         app = web.Application(middlewares=[self.answer_request], client_max_size=MOST_BODY)
         app.on_response_prepare.append(self.add_headers)
         get, put, post = app.router.add_get, app.router.add_put, app.router.add_post

@@ -164,7 +164,7 @@ def require_receipt_files(folder):
     for path in paths:
         if path.suffix != ".jsonl":
             raise command.Stop(f"{command.shown(folder)} has {text.quoted(path.name)}, which isn't a file of receipts, NAME.jsonl")
-        if fault := file_io.unread_reason_or_none(path):
+        if fault := file_io.find_unread_reason_or_none(path):
             raise command.Stop(fault)
     if not paths:
         raise command.Stop(f"{command.shown(folder)} has no file of receipts, NAME.jsonl")

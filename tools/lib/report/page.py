@@ -42,7 +42,7 @@ def figures(day, block_decisions):
         yield f"blocks {kind}", kinds.count(kind), f"of {len(kinds)}"
 
 
-def make_sections(day, block_decisions, needed, curves):
+def render_sections(day, block_decisions, needed, curves):
     """The sections of a day's page: prices, blocks, periods, curves, participants and refused commands."""
     parts = [render_picture(lambda width: pictures.new_prices_figure(day, width), "prices", prices_words(day))]
     yield Section("prices", "Prices and volumes", parts)
@@ -58,7 +58,7 @@ def make_sections(day, block_decisions, needed, curves):
         yield Section("refused", "Refused commands", refused)
 
 
-def make_own_sections(day, who, needed, curves):
+def render_own_sections(day, who, needed, curves):
     """The sections of a participant's page: its statement, its periods, and the parts that everybody may see."""
     yield Section("statement", f"Orders of {who}", [statement_table(day, who, needed)])
     yield Section("periods", "Periods", [own_period_table(day, who)])
@@ -85,13 +85,13 @@ def own_figures(day, who):
         yield words, value, unit
 
 
-def make_day_page(day, title, curves, date=None, who=None, with_limits=True):
+def capture_day_page(day, title, curves, date=None, who=None, with_limits=True):
     """The page of a day, or of a participant's part of it, with the curves of some periods, and the date of delivery if it is known; with
     the limits that rejected blocks needed, or without them."""
     found = decisions.decisions(day.problem, day.published.accepted, day.outcome)
     needed = limits.capture_rejected_sentences(day, who, with_limits)  # before the curves, whose processes are copies of this one
     with rendering_curves(day, curves) as drawn_curves:
-        parts = list(make_own_sections(day, who, needed, drawn_curves) if who else make_sections(day, found, needed, drawn_curves))
+        parts = list(render_own_sections(day, who, needed, drawn_curves) if who else render_sections(day, found, needed, drawn_curves))
     return style.TEMPLATES.get_template("page.html").render(
         title=title,
         style=style.read_style(),

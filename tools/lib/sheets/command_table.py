@@ -53,23 +53,23 @@ def is_command_table(table_cells):
     return WHAT in sheets.column_names(table_cells.line_and_header()[1])
 
 
-def add_other_faults(row, what):
+def add_other_faults(row, word):
     """Adds to a row's faults its cells that the command doesn't have."""
-    for name in order_table.ORDER if what in NEEDED else []:
-        if name not in NEEDED[what] and (cell := row.cell_text(name)):
-            article = "an" if what == "amend" else "a"
-            row.faults.append(f"column {name}: {text.quoted(cell)} should be left out: {article} {what} has no {name}")
+    for name in order_table.ORDER if word in NEEDED else []:
+        if name not in NEEDED[word] and (cell := row.cell_text(name)):
+            article = "an" if word == "amend" else "a"
+            row.faults.append(f"column {name}: {text.quoted(cell)} should be left out: {article} {word} has no {name}")
 
 
-def parse_command_or_note_faults(row, what):
+def parse_command_or_note_faults(row, word):
     """The command of a row: an order to submit, or the amend or cancel of one. Faults are added to the row's faults."""
-    if what == "cancel":
+    if word == "cancel":
         return journal.Cancel(*row.parse_names_or_note_faults())
-    if what == "amend":
+    if word == "amend":
         return journal.Amend(*row.parse_names_or_note_faults(), *row.parse_values_or_note_faults())
-    if what in ("", "submit"):
+    if word in ("", "submit"):
         return row.parse_submit_or_note_faults()
-    row.faults.append(f"column {WHAT}: {text.quoted(what)} should be submit, amend or cancel")
+    row.faults.append(f"column {WHAT}: {text.quoted(word)} should be submit, amend or cancel")
     return None
 
 

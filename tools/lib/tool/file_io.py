@@ -80,7 +80,7 @@ def open_without_waiting(path, flags):
     return os.open(path, flags | (os.O_NONBLOCK if stat.S_ISREG(os.stat(path).st_mode) else 0))
 
 
-def unread_reason_or_none(path):
+def find_unread_reason_or_none(path):
     """Why a path has no file that can be read, if it has none. A device or a pipe may have no end."""
     try:
         mode = os.stat(path).st_mode

@@ -76,6 +76,10 @@ class LimitSearch:
             self.seen[limit] = Cleared.of_text(self.rows_with(limit), self.held.periods, self.capture_output(limit), f"{THE_DAY}{more}")
         return self.seen[limit]
 
+    def own_day(self):
+        """The clearing as it was, which `search_for_worst` keeps."""
+        return self.seen[self.order.price]
+
     def keep_output_or_raise(self, limit, printed):
         """Keeps the output of a run with a limit. A run that failed is a fault."""
         if isinstance(printed, Fault):
@@ -130,7 +134,7 @@ def other_differing_orders(search, worst):
 
 def limit_cells(search, worst):
     """The cells of `HEADS` for a block."""
-    order, own = search.order, search.capture_day(search.order.price)
+    order, own = search.order, search.own_day()
     cells = [*search.key, order.side, text.eur_per_mwh(order.price), own.outcome(search.key)]
     if worst.limit is None:
         return [*cells, "", "", "", "", f"no limit of the range is enough: with the best, {never_accepted_words(search, worst)}"]
@@ -142,7 +146,7 @@ def limit_cells(search, worst):
 def case_days(search, worst):
     """The days to compare, each with its name: as it was, at the limit, and one cent past it."""
     own = search.order.price
-    yield "as it was", own, search.capture_day(own)
+    yield "as it was", own, search.own_day()
     if worst.limit is not None:
         yield "at the worst limit", worst.limit, worst.at
     if worst.past is not None:
@@ -183,8 +187,8 @@ def sentences(search, worst):
     """The answer in words."""
     order, who = search.order, " ".join(search.key)
     does, worse = ("buys", "lower") if order.side == "buy" else ("sells", "higher")
-    outcome = search.capture_day(order.price).outcome(search.key)
-    energy = text.energy(sum(volume for _, volume in order.volumes), search.capture_day(order.price).hours)
+    outcome = search.own_day().outcome(search.key)
+    energy = text.energy(sum(volume for _, volume in order.volumes), search.own_day().hours)
     yield f"{who} {does} {energy} MWh in a block with a limit of {text.shown_price(order.price)} EUR/MWh, and is {outcome}."
     if worst.limit is None:
         best = text.shown_price(worst.past_limit)
