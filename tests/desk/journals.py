@@ -5,7 +5,7 @@ import random
 import subprocess
 
 from shared import days
-from shared.printed import Printed  # by which `lib` is found
+from shared.printed import Printed
 from lib.base import rules
 
 CLOSE = b"close,,,,,,,,\n"

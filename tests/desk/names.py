@@ -12,7 +12,7 @@ from concurrent.futures import ThreadPoolExecutor
 
 from shared import records
 from shared.instructions import DRAWN, TIMES, check_and_print_millions, measure_instructions
-from shared.preload import HostileProgram, RefusedCalls  # by which `lib` is found
+from shared.preload import HostileProgram, RefusedCalls
 from shared.records import journal_text, capture_colliding_names, submits_of
 from lib.base import rules
 

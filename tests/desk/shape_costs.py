@@ -12,7 +12,7 @@ from images import HEAD
 from shared import shapes
 from shared.cost_tables import Cost, check_costs, write_tables
 from shared.instructions import DRAWN, FIXED, measure_counts, measure_instructions
-from shared.preload import HostileProgram, RefusedCalls  # by which `lib` is found
+from shared.preload import HostileProgram, RefusedCalls
 from shared.records import full_journal, journal_text
 from streams import LONGEST_LINE
 from lib.base import rules

@@ -5,11 +5,9 @@ import os
 import select
 import subprocess
 import sys
-from pathlib import Path
 
 if sys.version_info < (3, 10):
     sys.exit("fuzz: it needs Python 3.10 or newer")
-sys.path.insert(0, str(Path(__file__).resolve().parents[1]))
 
 from shared.printed import Printed, faults_of_journal
 from lib.audit import recursive_enumeration

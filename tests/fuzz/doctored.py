@@ -25,6 +25,7 @@ from collections import Counter
 from pathlib import Path
 
 sys.dont_write_bytecode = True
+sys.path[:0] = [str(Path(__file__).resolve().parents[2] / name) for name in ("tests", "tools")]
 
 import compare
 from lib.audit import recursive_enumeration, verdict

@@ -15,7 +15,8 @@ import sys
 from pathlib import Path
 
 sys.dont_write_bytecode = True
-sys.path.insert(0, str(Path(__file__).resolve().parent))  # an isolated Python leaves it out
+# an isolated Python leaves out the script's own folder
+sys.path[:0] = [str(Path(__file__).resolve().parents[2] / name) for name in ("tests/fuzz", "tests", "tools")]
 
 import compare
 from shared import days

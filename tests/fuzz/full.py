@@ -14,9 +14,11 @@ import math
 import random
 import re
 import sys
+from pathlib import Path
 from typing import NamedTuple
 
 sys.dont_write_bytecode = True
+sys.path[:0] = [str(Path(__file__).resolve().parents[2] / name) for name in ("tests", "tools")]
 
 import compare
 from shared import days

@@ -21,7 +21,7 @@ from typing import NamedTuple
 from again import REFUSALS
 from judge import UNFINISHED
 from shared.instructions import DRAWN, FIXED, MOST_TIMES, TIMES, check_and_print_millions, measure_instructions
-from shared.preload import HostileProgram, RefusedCalls  # by which `lib` is found
+from shared.preload import HostileProgram, RefusedCalls
 from shared.records import (
     ORDERS,
     full_journal,

@@ -22,7 +22,7 @@ from costs import crowded_book
 from judge import UNFINISHED
 from shared.cost_tables import Cost
 from shared.instructions import FIXED, measure_counts
-from shared.preload import HostileProgram, RefusedCalls  # by which `lib` is found
+from shared.preload import HostileProgram, RefusedCalls
 from shared.records import capture_colliding_names, journal_text, volumes_text
 from shared.shapes import COMMANDS, LONG, OTHERS, SHORT, SIDES, named_commands
 from lib.base import rules

@@ -7,7 +7,7 @@ from pathlib import Path
 
 sys.dont_write_bytecode = True
 TESTS = Path(__file__).resolve().parents[1]
-sys.path[:0] = [str(TESTS), str(TESTS / "fuzz")]
+sys.path[:0] = [str(TESTS), str(TESTS / "fuzz"), str(TESTS.parent / "tools")]
 
 import again
 import costs

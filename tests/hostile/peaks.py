@@ -14,7 +14,7 @@ import itertools
 
 from again import REFUSALS
 from judge import UNFINISHED
-from shared.preload import HostileProgram, RefusedCalls  # by which `lib` is found
+from shared.preload import HostileProgram, RefusedCalls
 from shared.printed import Printed
 from lib.base import rules
 

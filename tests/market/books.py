@@ -1,13 +1,8 @@
 """Closed books of orders, drawn at random, and the changes of them that the laws of the market speak of."""
 
-import sys
-from pathlib import Path
 from typing import NamedTuple
 
-TESTS = Path(__file__).resolve().parents[1]
-sys.path[:0] = [str(TESTS), str(TESTS / "fuzz")]
-
-from shared import days  # by which `lib` is found
+from shared import days
 from lib.base import rules
 from lib.journal import book, journal
 from lib.journal.journal import Close, Journal, Order, Submit

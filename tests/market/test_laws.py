@@ -1,7 +1,11 @@
 """The tests of the laws: each law finds results that break it, and finds nothing in those that keep it."""
 
 import random
+import sys
 import unittest
+from pathlib import Path
+
+sys.path[:0] = [str(Path(__file__).resolve().parents[2] / name) for name in ("tests", "tools")]
 
 import books
 import laws

@@ -5,17 +5,14 @@ import os
 import pwd
 import shutil
 import subprocess
-import sys
 import tempfile
 from pathlib import Path
 from typing import NamedTuple
 
-TOP = Path(__file__).resolve().parents[2]
-sys.path.insert(0, str(TOP / "tests" / "commands"))
-
 import session
 from scenes import INSTALLED, PAGES
 
+TOP = Path(__file__).resolve().parents[2]
 USER = "nobody"  # if this isn't an ordinary user
 SYSTEM_PATH = "/usr/local/bin:/usr/bin:/bin"
 ROOM = "srv/day/reader"  # in a system

@@ -13,7 +13,7 @@ import tempfile
 import time
 from pathlib import Path
 
-from . import ports  # by which `dam_tools` is found
+from . import ports
 from dam_tools.office import AsyncOffice, Office, OfficeFault
 
 TOP = Path(__file__).resolve().parents[2]

@@ -20,7 +20,7 @@ from pathlib import Path
 
 TOP = Path(__file__).resolve().parents[2]
 TOOLS = TOP / "tools"
-sys.path[:0] = [str(TOOLS), str(TOP / "tests" / "fuzz")]
+sys.path[:0] = [str(TOOLS), str(TOP / "tests"), str(TOP / "tests" / "fuzz")]
 
 import compare
 from lib.crates import sources

@@ -220,6 +220,16 @@ class Packages(unittest.TestCase):
             with self.subTest(path=path):
                 self.assertEqual(list(misnamed_functions(tree)), [])
 
+    def test_scripts_alone_set_the_path_of_modules(self):
+        """A script, or a module of tests, tells where its modules are. So these don't depend on the order of imports."""
+        for path, tree in parsed_files():
+            name = Path(path).name
+            is_started = (TOP / path).read_bytes().startswith(b"#!") or name.startswith("test_") or name.endswith("_parts.py")
+            if path.startswith("tests/") and not is_started:
+                with self.subTest(path=path):
+                    asked = [ast.unparse(node) for node in ast.walk(tree) if isinstance(node, ast.Attribute)]
+                    self.assertNotIn("sys.path", asked)
+
     def test_names_asked_of_modules_are_theirs(self):
         """Among others, in this file: the scan finds each stale name of STALE."""
         for path in files_in_python():
