@@ -27,13 +27,13 @@ stand-snoc es [] e stand at = (at, tt)
 stand-snoc es (r ∷ rs) e stand at = (stand.0, stand-snoc es rs e stand.1 at)
 
 -- the entry of a call stands last in the history after it
-pub stand-called : (es rs after : List Entry) (seen : List Entry) (e : Entry) → IsPrefix seen es → StandIn seen rs → after ≡ es ++ e ∷ []
+pub stand-called : (es rs after : List Entry) (known : List Entry) (e : Entry) → IsPrefix known es → StandIn known rs → after ≡ es ++ e ∷ []
     → e.number ≡ length after → e.number - 1 ≡ length es → StandIn after (rs ++ e ∷ [])
-stand-called es rs after seen e p stand is number before =
+stand-called es rs after known e p stand is number before =
     let all = es ++ e ∷ [] in
     let last : slice_get all (e.number - 1) ≡ Some e = subst (λ (n : ℕ). slice_get all n ≡ Some e) (sym before) (slice_get-last es e) in
     subst (λ (xs : List Entry). StandIn xs (rs ++ e ∷ [])) (sym is)
-    (stand-snoc all rs e (stand-longer es all rs (e ∷ [], refl) (stand-longer seen es rs p stand)) last)
+    (stand-snoc all rs e (stand-longer es all rs (e ∷ [], refl) (stand-longer known es rs p stand)) last)
 
 pub stand-append : (es front back : List Entry) → StandIn es front → StandIn es back → StandIn es (front ++ back)
 stand-append es [] back a b = b

@@ -66,7 +66,7 @@ pub(crate) struct EntryCounter<J: GateName> {
 #[derive(Drop)]
 pub(crate) struct History<J: GateName> {
     held: u32,
-    seen: Seen<PackedEntry, u64, CountRule>,
+    entries: Seen<PackedEntry, u64, CountRule>,
     of: PhantomData<J>,
 }
 
@@ -76,21 +76,21 @@ impl<J: GateName> Model for History<J> {
 
     ghost Value = { List Entry };
 
-    ghost view = { λ h. h.seen.log };
+    ghost view = { λ h. h.entries.log };
 
-    ghost invariant = { λ h. (h.held ≡ length h.seen.log) × (h.seen.book ≡ J.opening.history) };
+    ghost invariant = { λ h. (h.held ≡ length h.entries.log) × (h.entries.book ≡ J.opening.history) };
 }
 
 impl<J: GateName> History<J> {
     /// The empty history that was seen when the gate began.
-    pub(crate) fn empty(seen: Seen<PackedEntry, u64, CountRule>) -> History<J>
-        requires empty { seen.log ≡ [] }
-        requires name { seen.book ≡ J.opening.history }
+    pub(crate) fn empty(entries: Seen<PackedEntry, u64, CountRule>) -> History<J>
+        requires empty { entries.log ≡ [] }
+        requires name { entries.book ≡ J.opening.history }
         ensures { result ≡ [] }
     {
         History {
             held: 0,
-            seen,
+            entries,
             of: PhantomData,
         }
     }
@@ -107,7 +107,7 @@ impl<J: GateName> History<J> {
     {
         History {
             held: self.held,
-            seen: self.seen.again(),
+            entries: self.entries.again(),
             of: PhantomData,
         }
     }
@@ -116,8 +116,9 @@ impl<J: GateName> History<J> {
     pub(crate) fn starts_with(&self, other: &History<J>) -> bool
         ensures { result ≡ true → IsPrefix other.now self.now }
     {
-        let mut both = self.seen.again();
-        both.learn(&other.seen);
+        // for the proof: both are prefixes of the gate's one history
+        let mut both = self.entries.again();
+        both.learn(&other.entries);
         if other.held > self.held {
             return false;
         }
@@ -130,8 +131,9 @@ impl<J: GateName> History<J> {
         ensures this { IsPrefix self.now result }
         ensures that { IsPrefix other.now result }
     {
-        let mut both = self.seen.again();
-        both.learn(&other.seen);
+        // for the proof: both are prefixes of the gate's one history
+        let mut both = self.entries.again();
+        both.learn(&other.entries);
         if self.held < other.held {
             other.copy()
         } else {
@@ -152,21 +154,21 @@ impl<J: GateName> EntryCounter<J> {
 
     /// The history with the entry added, if the gate's history is just this one. Everything seen and learnt is a prefix
     /// of it. `None` if the gate's history is another.
-    pub(crate) fn add_entry(
+    pub(crate) fn extend_history(
         &self,
         history: &History<J>,
-        seen: &History<J>,
+        seen_history: &History<J>,
         learnt: &History<J>,
         entry: &PackedEntry,
     ) -> Option<History<J>>
         requires few { length history.now < 2 ^ 31 }
         ensures added { IfSome result (λ after. after ≡ history.now ++ entry.now ∷ []) }
-        ensures seen { OnSome result (IsPrefix seen.now history.now) }
+        ensures seen { OnSome result (IsPrefix seen_history.now history.now) }
         ensures learnt { OnSome result (IsPrefix learnt.now history.now) }
     {
-        let mut all = history.seen.again();
-        all.learn(&seen.seen);
-        all.learn(&learnt.seen);
+        let mut all = history.entries.again();
+        all.learn(&seen_history.entries);
+        all.learn(&learnt.entries);
         let mut offer: Offer<PackedEntry, u64, CountRule, Nothing> = all.plain::<
             Nothing,
             PackedEntry,
@@ -182,7 +184,7 @@ impl<J: GateName> EntryCounter<J> {
         }
         Some(History {
             held: history.held + 1,
-            seen: all,
+            entries: all,
             of: PhantomData,
         })
     }

@@ -268,12 +268,12 @@ impl<A: Allocator + Copy> Keeper<A> {
         ensures room { self.old.room ≡ self.new.room + 1 }
     {
         let entry = prepared.entry().entry();
-        self.append_prepared(prepared);
+        self.append_packed(prepared);
         entry
     }
 
-    /// Appends the step's entry to the journal, and takes over its book, as `append` does.
-    pub(crate) fn append_prepared(&mut self, prepared: PreparedStep<A>)
+    /// Appends the step's entry to the journal, and takes over its book, as `append` does, but leaves the entry packed.
+    pub(crate) fn append_packed(&mut self, prepared: PreparedStep<A>)
         requires { IsPreparedFor self.old prepared.entry.command prepared }
         ensures step { self.new.journal ≡ journal_after self.old.journal prepared.entry.command }
         ensures day { self.new.journal.book.periods ≡ self.old.journal.book.periods }

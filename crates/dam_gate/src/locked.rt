@@ -164,7 +164,7 @@ fn release_earlier_version<J: GateName, R: Wait + Drop>(
 fn extend_history_and_show<J: GateName, R: Wait + Drop>(
     entry_counter: &EntryCounter<J>,
     history: &History<J>,
-    seen: &History<J>,
+    seen_history: &History<J>,
     learnt: &History<J>,
     entry: &PackedEntry,
     book: Arc<Book, Global>,
@@ -178,7 +178,7 @@ fn extend_history_and_show<J: GateName, R: Wait + Drop>(
     ensures history { IfSome result (λ r. r.0 ≡ history.now ++ entry.now ∷ []) }
     ensures shown { IfSome result (λ r. IsNoteOf (slot_name slot.now)
         (record { entries = history.now ++ entry.now ∷ []; book = arc_value book }) r.1) }
-    ensures seen { OnSome result (IsPrefix seen.now history.now) }
+    ensures seen { OnSome result (IsPrefix seen_history.now history.now) }
     ensures learnt { OnSome result (IsPrefix learnt.now history.now) }
     ensures published { OnSome result (slot_name (published writer.new).slot
         ≡ name_after (slot_name (published writer.old).slot) (pending writer.old)) }
@@ -186,7 +186,7 @@ fn extend_history_and_show<J: GateName, R: Wait + Drop>(
     ensures unpublished { IfNone result (published writer.new ≡ published writer.old) }
     ensures still_waiting { IfNone result (pending writer.new ≡ pending writer.old) }
 {
-    let Some(after) = entry_counter.add_entry(history, seen, learnt, entry) else {
+    let Some(after) = entry_counter.extend_history(history, seen_history, learnt, entry) else {
         return None;
     };
     *version = Version::new(book, after.copy());
@@ -335,7 +335,7 @@ impl<J: GateName, R: Wait + Drop> Locked<J, R> {
     /// caller's part counts the entry.
     pub(crate) fn journal_and_publish(
         &mut self,
-        seen: &History<J>,
+        seen_history: &History<J>,
         learnt: &History<J>,
         part: &mut LedgerPart<Answered<J>>,
         command: PackedCommand,
@@ -349,7 +349,7 @@ impl<J: GateName, R: Wait + Drop> Locked<J, R> {
         ensures journal { OnOk result
             (self.new.journal ≡ journal_after self.old.journal command) }
         ensures passes { self.new.passes ≡ self.old.passes }
-        ensures seen { OnOk result (IsPrefix seen.now self.old.journal.entries) }
+        ensures seen { OnOk result (IsPrefix seen_history.now self.old.journal.entries) }
         ensures learnt { OnOk result (IsPrefix learnt.now self.old.journal.entries) }
         ensures parts { part.new.parts ≡ part.old.parts }
         ensures counted { OnOk result (part.new.amount ≡ part.old.amount + 1) }
@@ -367,7 +367,7 @@ impl<J: GateName, R: Wait + Drop> Locked<J, R> {
         let Some((after, shown_note)) = extend_history_and_show(
             &self.entry_counter,
             &self.history,
-            seen,
+            seen_history,
             learnt,
             entry,
             book,
@@ -381,7 +381,7 @@ impl<J: GateName, R: Wait + Drop> Locked<J, R> {
         self.staged_slot = None;
         self.shown_note = shown_note;
         let answer = (entry.number(), entry.reply());
-        self.keeper.append_prepared(prepared);
+        self.keeper.append_packed(prepared);
         self.answered_calls.add(part, 1);
         self.history = after.copy();
         Ok((answer, after))

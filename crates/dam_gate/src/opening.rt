@@ -46,10 +46,10 @@ pub struct Opening {
     periods: u8,
     passes: u8,
     word: Word<PackedEntry, u64, CountRule>,
-    seen: Seen<PackedEntry, u64, CountRule>,
+    entries: Seen<PackedEntry, u64, CountRule>,
     blank: BlankLedger,
-    ghost empty: { seen.log ≡ [] },
-    ghost count_is: { word ≡ count_of seen.book },
+    ghost empty: { entries.log ≡ [] },
+    ghost count_is: { word ≡ count_of entries.book },
     ghost a_part_each: { blank.parts ≡ passes },
 }
 
@@ -59,7 +59,7 @@ impl Model for Opening {
     ghost Value = { OpeningState };
 
     ghost view = { λ o. record {
-      history = o.seen.book;
+      history = o.entries.book;
       periods = o.periods;
       passes = o.passes;
       ledger = o.blank.name;
@@ -80,12 +80,12 @@ impl Opening {
         ensures periods { result.periods ≡ periods }
         ensures passes { result.passes ≡ passes }
     {
-        let (seen, mut first, _second) = Seen::open(Start::alone(), 0, 0);
+        let (entries, mut first, _second) = Seen::open(Start::alone(), 0, 0);
         Opening {
             periods,
             passes,
             word: Word::tracked(0, &mut first),
-            seen,
+            entries,
             blank: BlankLedger::new(passes as u64),
         }
     }
@@ -114,14 +114,14 @@ impl Opening {
     {
         let Opening {
             word,
-            seen,
+            entries,
             blank,
             ..
         } = self;
         let (answered_calls, unissued_parts) = blank.open::<Answered<J>>();
         NamedOpening {
             entry_counter: EntryCounter::new(word),
-            start: History::empty(seen),
+            start: History::empty(entries),
             answered_calls,
             unissued_parts,
         }

@@ -55,7 +55,7 @@ pub struct Pass<J: GateName> {
     holder: Option<Participant>,
     receipts: Vec<PackedEntry>,
     // the gate's history as far as it has seen it
-    seen: History<J>,
+    history: History<J>,
     learnt: History<J>,
     note: Option<Note<J>>,
     reader: ReadHandle<Shown<J>>,
@@ -72,15 +72,15 @@ impl<J: GateName> Model for Pass<J> {
     ghost Value = { Knowledge };
 
     ghost view = { λ p. record {
-      account = record { holder = p.holder; seen = length p.seen; receipts = p.receipts.items };
-      history = p.seen;
+      account = record { holder = p.holder; seen = length p.history; receipts = p.receipts.items };
+      history = p.history;
       learnt = p.learnt;
       note = p.note;
     } };
 
     ghost invariant = { λ p. IsKnowledge (record {
-      account = record { holder = p.holder; seen = length p.seen; receipts = p.receipts.items };
-      history = p.seen;
+      account = record { holder = p.holder; seen = length p.history; receipts = p.receipts.items };
+      history = p.history;
       learnt = p.learnt;
       note = p.note;
     }) };
@@ -116,7 +116,7 @@ impl<J: GateName> Pass<J> {
             holder,
             receipts,
             learnt: start.copy(),
-            seen: start,
+            history: start,
             note: None,
             reader,
             part,
@@ -135,7 +135,7 @@ impl<J: GateName> Pass<J> {
         ensures value { result ≡ self.now.account.seen }
         ensures valid { IsKnowledge self.now }
     {
-        self.seen.len()
+        self.history.len()
     }
 
     /// The entries that its calls were answered with, by increasing number.
@@ -168,7 +168,7 @@ impl<J: GateName> Pass<J> {
         let guard = self.reader.enter()?;
         let version = guard.slot.get()?;
         let shown = version.history();
-        if !shown.starts_with(&self.seen) || !shown.starts_with(&self.learnt) {
+        if !shown.starts_with(&self.history) || !shown.starts_with(&self.learnt) {
             return None;
         }
         let look = Look {
@@ -176,7 +176,7 @@ impl<J: GateName> Pass<J> {
             closed: version.book().is_closed(),
             order: version.book().find(who, name).map(|order| order.copy()),
         };
-        self.seen = shown.copy();
+        self.history = shown.copy();
         Some(look)
     }
 
@@ -203,7 +203,7 @@ impl<J: GateName> Pass<J> {
             ⊎ (IsPrefix other.now.history self.now.history) }
     {
         // for the proof: both are prefixes of the gate's one history
-        let _longer = self.seen.longer(&other.seen);
+        let _longer = self.history.longer(&other.history);
     }
 
     /// Makes room for this number of further receipts.
@@ -241,7 +241,7 @@ impl<J: GateName> Pass<J> {
         self.receipts.reserve(1)?;
         let received = command.clone()?;
         let (answer, after) = locked.journal_and_publish(
-            &self.seen,
+            &self.history,
             &self.learnt,
             &mut self.part,
             command,
@@ -251,7 +251,7 @@ impl<J: GateName> Pass<J> {
         self.note = Some(Note {
             history: after.copy(),
         });
-        self.seen = after;
+        self.history = after;
         Ok(answer)
     }
 
@@ -272,13 +272,13 @@ impl<J: GateName> Pass<J> {
         let Pass {
             holder,
             receipts,
-            seen,
+            history,
             learnt: _learnt,
             note: _note,
             reader: _reader,
             part,
         } = self;
-        (Account::new(holder, seen.len(), receipts), part)
+        (Account::new(holder, history.len(), receipts), part)
     }
 
     /// From now on, its calls' histories begin with all that the other pass has seen.
@@ -287,7 +287,7 @@ impl<J: GateName> Pass<J> {
         ensures kept { IsPrefix self.old.learnt self.new.learnt }
         ensures learnt { IsPrefix other.now.history self.new.learnt }
     {
-        self.learnt = self.learnt.longer(&other.seen);
+        self.learnt = self.learnt.longer(&other.history);
     }
 }
 

@@ -11,11 +11,11 @@ pub record IsKept (cells : List Cell) (log : List Entry) : Type 0 where
 abbrev pub count_of : Book → Named
 count_of b = record { tracked = true; key = 0; book = b }
 
--- the entry came to a history of that length, which begins with all that had been seen
-pub record IsAdded (s : Step Entry) (seen after : List Entry) : Type 0 where
+-- the entry came to a history of that length, which begins with all that had been known
+pub record IsAdded (s : Step Entry) (known after : List Entry) : Type 0 where
   pub before : List Entry
   pub held : length before ≡ s.old
-  pub begins : IsPrefix seen before
+  pub begins : IsPrefix known before
   pub is : after ≡ before ++ s.ask ∷ []
 
 -- if the length was the one expected, the entry was added

@@ -9,8 +9,8 @@ use Rattle.dam_gate.proofs.history.History.starts_with.Goals as goal
 pub returns : goal.returns
 returns g c is =
     let both = c.learn.new.self.log in
-    let this : IsPrefix c.self.inside.seen.log both = subst (λ (l : List Entry). IsPrefix l both)
+    let this : IsPrefix c.self.inside.entries.log both = subst (λ (l : List Entry). IsPrefix l both)
     (ap (λ s. s.log) c.again-both.ensures) c.learn.ensures.2 in
-    let less : length c.other.inside.seen.log ≤ length c.self.inside.seen.log = omega (arith, c.self.invariant.0, c.other.invariant.0) in
-    rw (← c.self.view_is, ← c.other.view_is) (prefix_shorter c.other.inside.seen.log c.self.inside.seen.log both c.learn.ensures.3 this
+    let less : length c.other.inside.entries.log ≤ length c.self.inside.entries.log = omega (arith, c.self.invariant.0, c.other.invariant.0) in
+    rw (← c.self.view_is, ← c.other.view_is) (prefix_shorter c.other.inside.entries.log c.self.inside.entries.log both c.learn.ensures.3 this
     less)

@@ -52,7 +52,7 @@ returns-clause-history g c =
 
 pub returns-clause-journal : goal.returns-clause-journal
 returns-clause-journal g c =
-    c.append_prepared.ensures.step
+    c.append_packed.ensures.step
     ∙ ap₂ journal_after (c.prepare_packed.ensures.journal ∙ ap (λ (d : LockedState). d.journal) c.self.view_is)
     (ap (λ (e : Entry). e.command) c.in_ok-prepared.ensures.prepared.entry)
 

@@ -10,17 +10,17 @@ use Rattle.dam_gate.proofs.pass.Pass.look.Goals as goal
 pub invariant_of-self-2 : goal.invariant_of-self-2
 invariant_of-self-2 g c =
     let shown = c.history-shown.result.now in
-    let longer = prefix_length c.self.inside.seen shown (c.starts_with.ensures c.if-not-starts_with.false) in
+    let longer = prefix_length c.self.inside.history shown (c.starts_with.ensures c.if-not-starts_with.false) in
     record {
       account = record {
-        in_order = AreInOrder-seen 0 (length c.self.inside.seen)
+        in_order = AreInOrder-seen 0 (length c.self.inside.history)
             (length c.copy.result) c.self.inside.receipts.items c.self.invariant.account.in_order
             (omega (arith, longer, ap length c.copy.ensures));
         own = c.self.invariant.account.own;
       };
       seen = refl;
       stand = subst (λ (es : List Entry). StandIn es c.self.inside.receipts.items) (sym c.copy.ensures)
-          (stand-longer c.self.inside.seen shown c.self.inside.receipts.items
+          (stand-longer c.self.inside.history shown c.self.inside.receipts.items
           (c.starts_with.ensures c.if-not-starts_with.false) c.self.invariant.stand);
     }
 

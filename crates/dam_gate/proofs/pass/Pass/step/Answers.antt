@@ -25,18 +25,18 @@ invariant_of-self-2 g c =
     let mine : is_own holder e.command ≡ true =
     ap (λ (k : Knowledge). is_own k.account.holder c.args.command) c.self.view_is ∙ c.requires.own in
     let room : is_journal_full (e.number - 1) e.command ≡ false = ap (λ (n : ℕ). is_journal_full n c.args.command) before ∙ c.requires.not_full in
-    let earlier = prefix_length c.self.inside.seen held c.in_ok-answer.ensures.seen in
+    let earlier = prefix_length c.self.inside.history held c.in_ok-answer.ensures.seen in
     let copied : c.in_ok-received.received ≡ c.args.command = c.in_ok-received.ensures.cases in
     rw (c.push_reserved.ensures.items, c.reserve.ensures.items, c.new.ensures, copied)
     (record {
       account = record {
         in_order = subst (λ (n : ℕ). AreInOrder 0 n (receipts ++ e ∷ [])) whole
-            (AreInOrder-snoc 0 (length c.self.inside.seen) receipts e c.self.invariant.account.in_order
+            (AreInOrder-snoc 0 (length c.self.inside.history) receipts e c.self.invariant.account.in_order
             (omega (arith, number, earlier)));
         own = AreOwn-snoc holder receipts e c.self.invariant.account.own mine room;
       };
       seen = refl;
-      stand = stand-called held receipts c.in_ok-answer.after c.self.inside.seen e c.in_ok-answer.ensures.seen c.self.invariant.stand
+      stand = stand-called held receipts c.in_ok-answer.after c.self.inside.history e c.in_ok-answer.ensures.seen c.self.invariant.stand
           c.in_ok-answer.ensures.history whole before;
     })
 
@@ -49,7 +49,7 @@ returns-clause-answered g c =
     let number = ap (λ (x : Entry). x.number) c.in_ok-answer.ensures.entry in
     let whole : length after ≡ e.number =
     omega (arith, number, ap length c.in_ok-answer.ensures.history, length-append j.entries (e ∷ [])) in
-    let earlier = prefix_length c.self.inside.seen j.entries c.in_ok-answer.ensures.seen in
+    let earlier = prefix_length c.self.inside.history j.entries c.in_ok-answer.ensures.seen in
     let last : after ≡ j.entries ++ next_entry j c.args.command ∷ [] =
     c.in_ok-answer.ensures.history ∙ ap (λ (x : Entry). j.entries ++ x ∷ []) c.in_ok-answer.ensures.entry in
     let copied : c.in_ok-received.received ≡ c.args.command = c.in_ok-received.ensures.cases in

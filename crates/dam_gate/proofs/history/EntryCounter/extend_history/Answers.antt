@@ -1,7 +1,7 @@
 -- The exchange keeps the rule of the word.
 use Rattle.std.proofs.Common.{sym, ◌∙◌, ap}
 use Rattle.dam_gate.proofs.Adding.{adds_moves}
-use Rattle.dam_gate.proofs.history.EntryCounter.add_entry.Goals as goal
+use Rattle.dam_gate.proofs.history.EntryCounter.extend_history.Goals as goal
 
 pub compare_exchange-found-requires : goal.compare_exchange-found-requires
 compare_exchange-found-requires g c =
