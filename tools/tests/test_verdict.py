@@ -173,7 +173,9 @@ class Record(unittest.TestCase):
             made = json.loads(ran.stdout)
             self.assertEqual((ran.returncode, made["verdict"]), (command.FAILED, "failed"), files)
             self.assertEqual(ran.stderr.decode(), f"audit: {made['message']}\n")
-        run = "from lib.base import ending; ending.guard_tool('audit'); from lib.base import audit_record; raise MemoryError"
+        text = (TOOLS / "audit").read_text()
+        (start,) = re.findall(r"^from lib\.base import ending\n.*^ending\.last_duties\.append.*?$", text, re.MULTILINE | re.DOTALL)
+        run = f"{start}\nraise MemoryError"
         for more, keys in ([], {"verdict", "search", "inputs"}), (["--days", "x"], {"counts", "days"}), (["--days=x"], {"counts", "days"}):
             ran = subprocess.run([sys.executable, "-B", "-c", run, "--json", *more], cwd=TOOLS, capture_output=True)
             made = json.loads(ran.stdout)

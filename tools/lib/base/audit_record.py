@@ -1,5 +1,5 @@
-"""The records that an audit prints for programs. As soon as this is imported, an audit that fails before it has made its record prints one
-without a verdict. It needs little of this folder, since an import may fail too."""
+"""The records that an audit prints for programs, also the one without a verdict of an audit that fails before it has made its record. This
+needs little of its folder, since an import may fail too."""
 
 import json
 import os
@@ -36,12 +36,7 @@ def undecided_record(words, status, message):
 
 
 def print_record_of_failure(status, message):
-    """Prints the record of an audit that fails, unless it has printed one or was interrupted."""
-    if ending.watched != ["audit"]:
-        return
+    """Prints the record of an audit that fails with --json, unless it was interrupted. tools/audit has it as a last duty."""
     words = sys.argv[1 : sys.argv.index("--")] if "--" in sys.argv else sys.argv[1:]
     if "--json" in words and status == ending.FAILED:
         os.write(1, f"{json.dumps(undecided_record(words, status, message), indent=1)}\n".encode())
-
-
-ending.last_duties.append(print_record_of_failure)
