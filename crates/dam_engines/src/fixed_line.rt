@@ -11,133 +11,134 @@ use itoa::Buffer;
 use std::alloc::{AllocError, Allocator};
 use std::fmt;
 
-/// The bytes that a line has room for. The longest has 74 with its line feed.
+/// The bytes that a text or a line has room for. The longest has 74 with its line feed.
 const ROOM: usize = 96;
 
 /// Adds the words and the number.
-fn push_with_number(line: &mut ArrayString<ROOM>, words: &str, number: u64)
-    requires { length line.old.bytes + length words.now ≤ 76 }
-    ensures text { line.new.bytes ≡ line.old.bytes ++ (words.now ++ decimal number) }
-    ensures short { length line.new.bytes ≤ length line.old.bytes + length words.now + 20 }
+fn push_with_number(text: &mut ArrayString<ROOM>, words: &str, number: u64)
+    requires { length text.old.bytes + length words.now ≤ 76 }
+    ensures text { text.new.bytes ≡ text.old.bytes ++ (words.now ++ decimal number) }
+    ensures short { length text.new.bytes ≤ length text.old.bytes + length words.now + 20 }
 {
-    line.push_str(words);
-    line.push_str(Buffer::new().format(number));
+    text.push_str(words);
+    text.push_str(Buffer::new().format(number));
 }
 
-/// A line of these words.
-fn line_of_words(words: &str) -> ArrayString<ROOM>
+/// These words, as a text.
+fn text_of_words(words: &str) -> ArrayString<ROOM>
     requires { length words.now ≤ 40 }
     ensures text { result.bytes ≡ words.now }
 {
-    let mut line = ArrayString::new();
-    line.push_str(words);
-    line
+    let mut text = ArrayString::new();
+    text.push_str(words);
+    text
 }
 
-/// A line of these words and the number.
-fn line_with_number(words: &str, number: u64) -> ArrayString<ROOM>
+/// The text of these words and the number.
+fn text_with_number(words: &str, number: u64) -> ArrayString<ROOM>
     requires { length words.now ≤ 40 }
     ensures text { result.bytes ≡ words.now ++ decimal number }
     ensures short { length result.bytes ≤ length words.now + 20 }
 {
-    let mut line = ArrayString::new();
-    push_with_number(&mut line, words, number);
-    line
+    let mut text = ArrayString::new();
+    push_with_number(&mut text, words, number);
+    text
 }
 
 /// The text of a bad field.
-fn bad_field_line(at: usize, field: usize) -> ArrayString<ROOM>
+fn bad_field_text(at: usize, field: usize) -> ArrayString<ROOM>
     ensures text { result.bytes ≡ codes "input: BadField in record "
         ++ (decimal at ++ (codes " field " ++ decimal field)) }
     ensures short { length result.bytes ≤ 80 }
 {
-    let mut line = line_with_number("input: BadField in record ", at as u64);
-    push_with_number(&mut line, " field ", field as u64);
-    line
+    let mut text = text_with_number("input: BadField in record ", at as u64);
+    push_with_number(&mut text, " field ", field as u64);
+    text
 }
 
 /// The text of a search that didn't finish.
-fn unfinished_line(piece: u32, visited: Nodes) -> ArrayString<ROOM>
+fn unfinished_text(piece: u32, visited: Nodes) -> ArrayString<ROOM>
     ensures text { result.bytes ≡ codes "unfinished: piece "
         ++ (decimal piece ++ (codes " after " ++ (decimal visited ++ codes " nodes"))) }
     ensures short { length result.bytes ≤ 80 }
 {
-    let mut line = line_with_number("unfinished: piece ", u64::from(piece));
-    push_with_number(&mut line, " after ", u64::from(visited));
-    line.push_str(" nodes");
-    line
+    let mut text = text_with_number("unfinished: piece ", u64::from(piece));
+    push_with_number(&mut text, " after ", u64::from(visited));
+    text.push_str(" nodes");
+    text
 }
 
 /// The text of a failed write.
-fn failed_write_line(written: usize) -> ArrayString<ROOM>
+fn failed_write_text(written: usize) -> ArrayString<ROOM>
     ensures text { result.bytes
         ≡ codes "device: write after " ++ (decimal written ++ codes " bytes") }
     ensures short { length result.bytes ≤ 80 }
 {
-    let mut line = line_with_number("device: write after ", written as u64);
-    line.push_str(" bytes");
-    line
+    let mut text = text_with_number("device: write after ", written as u64);
+    text.push_str(" bytes");
+    text
 }
 
 /// The text of a fault of the input.
-fn input_fault_line(fault: JournalFault) -> ArrayString<ROOM>
+fn input_fault_text(fault: JournalFault) -> ArrayString<ROOM>
     ensures text { result.bytes ≡ input_text fault }
     ensures short { length result.bytes ≤ 80 }
 {
     match fault {
-        JournalFault::TooLong => line_of_words("input: TooLong"),
-        JournalFault::NotAscii(offset) => line_with_number("input: NotAscii at ", offset as u64),
-        JournalFault::TooManyRecords => line_of_words("input: TooManyRecords"),
-        JournalFault::NotDay => line_of_words("input: NotDay"),
-        JournalFault::FieldCount(record) => line_with_number(
+        JournalFault::TooLong => text_of_words("input: TooLong"),
+        JournalFault::NotAscii(offset) => text_with_number("input: NotAscii at ", offset as u64),
+        JournalFault::TooManyRecords => text_of_words("input: TooManyRecords"),
+        JournalFault::NotDay => text_of_words("input: NotDay"),
+        JournalFault::FieldCount(record) => text_with_number(
             "input: FieldCount in record ",
             record as u64,
         ),
-        JournalFault::BadField { record, field } => bad_field_line(record, field),
-        JournalFault::Memory => line_of_words("memory"),
+        JournalFault::BadField { record, field } => bad_field_text(record, field),
+        JournalFault::Memory => text_of_words("memory"),
     }
 }
 
 /// The text of a journal and receipts that don't fit together.
-fn mismatch_line(why: Mismatch) -> ArrayString<ROOM>
+fn mismatch_text(why: Mismatch) -> ArrayString<ROOM>
     ensures text { result.bytes ≡ mismatch_text why }
     ensures short { length result.bytes ≤ 80 }
 {
     match why {
-        Mismatch::StillOpen => line_of_words("mismatch: StillOpen"),
-        Mismatch::Missing(number) => line_with_number("mismatch: Missing ", u64::from(number)),
-        Mismatch::Doubled(number) => line_with_number("mismatch: Doubled ", u64::from(number)),
-        Mismatch::Differs(number) => line_with_number("mismatch: Differs ", u64::from(number)),
-        Mismatch::Extra(number) => line_with_number("mismatch: Extra ", u64::from(number)),
-        Mismatch::Memory => line_of_words("memory"),
+        Mismatch::StillOpen => text_of_words("mismatch: StillOpen"),
+        Mismatch::Missing(number) => text_with_number("mismatch: Missing ", u64::from(number)),
+        Mismatch::Doubled(number) => text_with_number("mismatch: Doubled ", u64::from(number)),
+        Mismatch::Differs(number) => text_with_number("mismatch: Differs ", u64::from(number)),
+        Mismatch::Extra(number) => text_with_number("mismatch: Extra ", u64::from(number)),
+        Mismatch::Memory => text_of_words("memory"),
     }
 }
 
-/// The text of a fault.
+/// The text of a fault, as its line has it before the line feed.
 pub(crate) fn fault_text(fault: &RunFault) -> ArrayString<ROOM>
     ensures text { result.bytes ≡ fault_text fault.now }
     ensures short { length result.bytes ≤ 80 }
 {
     match *fault {
-        RunFault::Read => line_of_words("device: read"),
-        RunFault::Input(fault) => input_fault_line(fault),
-        RunFault::TooManyCommands => line_of_words("input: TooManyCommands"),
-        RunFault::CloseGiven(record) => line_with_number(
+        RunFault::Read => text_of_words("device: read"),
+        RunFault::Input(fault) => input_fault_text(fault),
+        RunFault::TooManyCommands => text_of_words("input: TooManyCommands"),
+        RunFault::CloseGiven(record) => text_with_number(
             "input: CloseGiven in record ",
             record as u64,
         ),
         RunFault::TooManyParticipants(record) => {
-            line_with_number("input: TooManyParticipants in record ", record as u64)
+            text_with_number("input: TooManyParticipants in record ", record as u64)
         }
-        RunFault::StillOpen => line_of_words("input: StillOpen"),
-        RunFault::Mismatch(why) => mismatch_line(why),
-        RunFault::Unfinished { piece, visited } => unfinished_line(piece, visited),
-        RunFault::AnswerMissingOrRepeated { piece } => line_with_number(
+        RunFault::StillOpen => text_of_words("input: StillOpen"),
+        RunFault::Mismatch(why) => mismatch_text(why),
+        RunFault::Unfinished { piece, visited } => unfinished_text(piece, visited),
+        // 'Collected' is the word of the published format for a fault of `collected`, which no search ends in.
+        RunFault::AnswerMissingOrRepeated { piece } => text_with_number(
             "mismatch: Collected ",
             u64::from(piece),
         ),
-        RunFault::Memory => line_of_words("memory"),
-        RunFault::Write { written } => failed_write_line(written),
+        RunFault::Memory => text_of_words("memory"),
+        RunFault::Write { written } => failed_write_text(written),
     }
 }
 
