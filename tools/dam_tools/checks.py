@@ -128,7 +128,7 @@ def lint(source: JournalSource, command: str = "clear") -> Lint:
     """Every fault of a journal as a text for `dam clear`, `dam replay` or `dam day`, and each command that the book would refuse."""
     if command not in ("clear", "replay", "day"):
         raise ValueError(f"there is no command {command}: the commands are clear, replay and day")
-    found = lint_of.find_faults(read_journal_bytes(source), command)
+    found = lint_of.collect_findings(read_journal_bytes(source), command)
     findings = [Finding(one.line, one.field or None, one.words, one.refusal or None) for one in found]
     parts = [[one for one in findings if (one.reason is not None) == is_refused] for is_refused in (False, True)]
     return Lint(linted.OF_STATUS[linted.status_of(found)], *parts)

@@ -27,7 +27,7 @@ TENTHS = f"should be whole tenths of a MW from 1 to {rules.GREATEST_VOLUME}"
 
 
 def fault_lines(data, command="clear"):
-    return [str(fault) for fault in lint.find_faults(data, command)]
+    return [str(fault) for fault in lint.collect_findings(data, command)]
 
 
 class Hand(unittest.TestCase):
@@ -86,7 +86,7 @@ class Hand(unittest.TestCase):
     def test_a_quote_that_is_not_closed_in_the_last_field(self):
         """The program takes it, if the rest of the text is a name or nothing."""
         self.check(b'day,24,,,,,,,\nclose,,,,,,,,"')
-        self.assertEqual(lint.find_faults(b"day,24,,,,,,,\n" + BLOCK + b'"G', "replay"), [])
+        self.assertEqual(lint.collect_findings(b"day,24,,,,,,,\n" + BLOCK + b'"G', "replay"), [])
         self.check(b'day,24,,,,,,,\nclose,,,,,,,,"\n', ("line 2", "a quote begins a field and isn't closed on its line"))
 
     def test_a_line_with_other_separators(self):
@@ -211,7 +211,7 @@ class Random(unittest.TestCase):
         for number in range(1_500):
             rng = random.Random(f"lint {number}")
             data = self.spoilt(rng, days.draw_text(rng, 6))
-            found = lint.find_faults(data, "replay")
+            found = lint.collect_findings(data, "replay")
             told = [fault for fault in found if not fault.refusal]
             try:
                 read = journal.parse_journal(data)
@@ -224,7 +224,7 @@ class Random(unittest.TestCase):
             refused += len(reasons)
             self.assertEqual([fault.refusal for fault in found], reasons)
             is_open = "Closed" not in reasons and journal.Close() not in read.commands
-            self.assertEqual(any("no command closes" in fault.words for fault in lint.find_faults(data)), is_open)
+            self.assertEqual(any("no command closes" in fault.words for fault in lint.collect_findings(data)), is_open)
         self.assertGreater(refused, 300)
         self.assertGreater(faulty, 300)
 
@@ -244,7 +244,7 @@ class CommandLine(unittest.TestCase):
         """Also a journal whose last quote isn't closed, which is valid."""
         for name, case in read_worked_cases("replay").items():
             with self.subTest(name):
-                found = lint.find_faults(case.stdin, "replay")
+                found = lint.collect_findings(case.stdin, "replay")
                 self.assertEqual(any(not one.refusal for one in found), case.status != 0)
                 if case.status == 0:
                     self.assertEqual(len(found), case.right_stdout.count(b",refused,"))
@@ -304,7 +304,7 @@ class CommandLine(unittest.TestCase):
         said = "/nowhere/a.csv can't be read: No such file or directory"
         self.assertEqual((status, made["verdict"], made["message"], err), (command.NO_INPUT, "unread", said, f"lint: {said}\n"))
         self.assertEqual(made["inputs"], [{"role": "journal", "file": "/nowhere/a.csv", "bytes": None, "sha256": None}])
-        with unittest.mock.patch("lib.lint.lint.find_faults", side_effect=MemoryError):
+        with unittest.mock.patch("lib.lint.lint.collect_findings", side_effect=MemoryError):
             status, made, err = self.record(AUCTION)
         self.assertEqual((status, made["verdict"], made["message"], err), (command.FAILED, "failed", "out of memory", "lint: out of memory\n"))
 

@@ -242,7 +242,7 @@ class Crashes(Office):
             self.write_office()
             disk = Disk()
             disk.ends = [(0, 0)] * day_writer.MOST_ENDS
-            with patch_of_opening(disk), mock.patch.object(folder.DayFolder, "require_room", need_room):
+            with patch_of_opening(disk), mock.patch.object(folder.DayFolder, "write_trial_or_raise", need_room):
                 async with self.running_writer(self.day_writer_of()) as given:
                     with self.assertRaises(refusals.Refused):
                         await given.submit_or_refuse("GAS", 1, commands_of_records("cancel,GAS,A,,,,,,"))

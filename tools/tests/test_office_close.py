@@ -293,7 +293,7 @@ class Closing(Office):
             with (
                 mock.patch.multiple(operate, CLOSE_SECONDS=0.2, TELL_SECONDS=0.02, STEP=0.001),
                 mock.patch.object(self.office, "is_served", lambda: served),
-                mock.patch.object(files, "require_room", mock.Mock(side_effect=room)),
+                mock.patch.object(files, "write_trial_or_raise", mock.Mock(side_effect=room)),
                 mock.patch.object(command, "print_note", lambda _, line: said.append(line)),
             ):
                 if served:

@@ -93,7 +93,7 @@ class Setup(Office):
 
         def init():
             setup.make_office(self.office)
-            printed.append(self.office.require_public_text(self.office.read_key()))
+            printed.append(self.office.read_public_text_or_stop(self.office.read_key()))
 
         def overtaken():
             if other.ident is None:
@@ -168,7 +168,7 @@ class Setup(Office):
                 self.assertIn("isn't the public key of operator.pem", err)
                 self.assertEqual(list(self.office.list_folders_by_day()), ["2099-11-29"])
         public.write_bytes(kept.replace(b"\n", b"\r\n"))
-        self.assertEqual(self.office.require_public_text(self.office.read_key()).split(), kept.decode().split())
+        self.assertEqual(self.office.read_public_text_or_stop(self.office.read_key()).split(), kept.decode().split())
 
     def test_shares_never_exceed_the_journal(self):
         self.assertEqual(self.write_and_read_participants("participant\nA\nGAS\n"), {"A": None, "GAS": None})
@@ -433,7 +433,7 @@ class Setup(Office):
             folder.sync_folder(self.office.path)
         self.assertEqual(caught.exception.filename, str(self.office.path))
         with mock.patch.object(os, "fsync", side_effect=full), self.assertRaises(OSError) as caught:
-            folder.DayFolder(self.office.path).require_room()
+            folder.DayFolder(self.office.path).write_trial_or_raise()
         self.assertEqual(caught.exception.filename, str(self.office.path))
 
     def test_a_file_is_on_the_disk_before_it_has_its_name(self):

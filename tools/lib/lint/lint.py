@@ -346,7 +346,7 @@ def first_word(data, comma=b","):
     return next(text.placed_records(data, comma), (0, [b""]))[1][0].strip().lower().decode(errors="replace")
 
 
-def find_faults(data, command="clear", bar=None):
+def collect_findings(data, command="clear", bar=None):
     """The faults of a text as a journal for `dam clear`, `dam replay` or `dam day`, by line, and then the commands that the book would
     refuse. A bar shows how far it is read."""
     return Lint(data, command, bar=bar).collect_findings()

@@ -130,7 +130,7 @@ class DayWriter:
                 self.files.remove(folder.STOPPED_DAY)
             if self.published.is_whole:
                 self.ledger = await asyncio.to_thread(published.read_published_ledger, self.files, self.make_ledger)
-                self.require_signed_entries()
+                self.read_heads_and_require_their_entries()
                 self.is_known.set()
             else:
                 await self.run_desk_until_closed()
@@ -210,7 +210,7 @@ class DayWriter:
 
     async def clear_trouble_if_room(self):
         with contextlib.suppress(OSError):
-            await asyncio.to_thread(self.files.require_room)
+            await asyncio.to_thread(self.files.write_trial_or_raise)
             self.trouble = None
 
     async def open_desk(self):
@@ -219,14 +219,14 @@ class DayWriter:
         self.desk, records, replies = await Desk.start_and_read_records(self.programs.desk, path, self.terms.periods)
         self.watching = asyncio.create_task(self.watch_desk(self.desk))
         self.ledger.enter_rest_of_journal_or_raise(records, replies)
-        self.require_signed_entries()
+        self.read_heads_and_require_their_entries()
         self.is_known.set()
         if self.ledger.size:
             self.newest.note_head(self.ledger.signed_head())
         self.is_ready.set()
         self.log_event("desk opened", entries=self.ledger.size, seconds=round(time.monotonic() - began, 3))
 
-    def require_signed_entries(self):
+    def read_heads_and_require_their_entries(self):
         """Ends with a contradiction unless the journal has the entries of the heads that the folder has: one that was cut or replaced while
         no office had it in memory is seen here."""
         for name in (folder.SIGNED, folder.HEAD):

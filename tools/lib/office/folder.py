@@ -202,8 +202,8 @@ class DayFolder(NamedFiles):
             return CLOSED
         return OPEN if is_open else CLOSING
 
-    def require_room(self):
-        """Ends with an OSError unless the disk takes a batch of the desk now."""
+    def write_trial_or_raise(self):
+        """Writes as much as a batch of the desk to a file without a name. Ends with an OSError unless the disk takes it now."""
         with naming_file(self.path), tempfile.TemporaryFile(dir=self.path) as file:
             file.write(bytes(ROOM))
             file.flush()
@@ -238,7 +238,7 @@ class Folder(NamedFiles):
 
         return receipts.read_key(self.path_of(KEY), signing.parse_private)
 
-    def require_public_text(self, key):
+    def read_public_text_or_stop(self, key):
         """The public half of the office's key, as its file has it. Ends the tool if the file is of another key."""
         from ..seal import signing
 
@@ -254,7 +254,7 @@ class Folder(NamedFiles):
             return {name: DayFolder(self.path_of(DAYS) / name) for name in names if not name.startswith(".")}
         return {}
 
-    def require_day_name_and_folder(self, name):
+    def find_day_name_and_folder_or_stop(self, name):
         """The folder of a day; the only one if none is named."""
         days = self.list_folders_by_day()
         if name is None and len(days) == 1:

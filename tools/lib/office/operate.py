@@ -106,7 +106,7 @@ def close_and_wait_or_stop(office, day, files):
             raise command.Stop(f"{day} has no results after {CLOSE_SECONDS} s: see the office's log", command.UNDECIDED)
         if waited > tell_at:
             tell_at += TELL_SECONDS
-            words = find_why_waiting(day, files)
+            words = write_trial_and_return_wait_words(day, files)
             if words != told:
                 command.print_note("office", words)
             told = words
@@ -114,11 +114,11 @@ def close_and_wait_or_stop(office, day, files):
     return True
 
 
-def find_why_waiting(day, files):
+def write_trial_and_return_wait_words(day, files):
     """For what a close waits, as far as the folder shows it."""
     missing = "results" if files.has(folder.HEAD) else "head"
     try:
-        files.require_room()
+        files.write_trial_or_raise()
     except OSError as fault:
         return f"{day} has no {missing} yet: {command.shown(files.path)} can't be written: {fault.strerror}"
     return f"{day} has no {missing} yet: the office's log says why"

@@ -116,7 +116,7 @@ def read_published_ledger(files, make_ledger):
         raise Contradiction(f"{folder.JOURNAL}, {folder.REPLIES} or {folder.HEAD} is missing or damaged") from None
     if heads.line_bytes_of(ledger.signed_head()) != head:
         raise Contradiction("the published head isn't of the journal next to it, or isn't of this key")
-    require_unchanged(files)
+    read_results_and_require_unchanged(files)
     return ledger
 
 
@@ -124,7 +124,7 @@ def sha256_hex(data):
     return hashlib.sha256(data).hexdigest()
 
 
-def require_unchanged(files):
+def read_results_and_require_unchanged(files):
     """Ends with a contradiction if the results or the statement were changed since they were made."""
     try:
         sums = json.loads(files.read_file(folder.SUMS))

@@ -40,7 +40,7 @@ class Office:
         self.files, self.programs = files, programs
         self.log, self.counts, self.clock = log or observed.Log(), observed.Counts(), Clock()
         self.key = files.read_key()
-        self.public_key = files.require_public_text(self.key)
+        self.public_key = files.read_public_text_or_stop(self.key)
         self.register = tokens.Register(files.path_of(folder.PARTICIPANTS))
         self.register.read_if_changed()
         self.writers, self.tasks = {}, []
@@ -100,7 +100,7 @@ def is_loopback(host):
         return host == "localhost"
 
 
-def require_tls_context(tls):
+def read_tls_context_or_stop(tls):
     """The context of TLS, from a certificate and its key."""
     context = ssl.create_default_context(ssl.Purpose.CLIENT_AUTH)
     context.minimum_version = ssl.TLSVersion.TLSv1_2

@@ -146,7 +146,7 @@ def make_office(office):
     with folder.holding_folder(office.path):
         if not office.path_of(folder.KEY).exists():
             make_key_or_stop(office)
-        office.require_public_text(office.read_key())
+        office.read_public_text_or_stop(office.read_key())
         if not office.path_of(folder.PARTICIPANTS).exists():
             folder.write_synced(office.path_of(folder.PARTICIPANTS), folder.json_bytes({}))
         os.makedirs(office.path_of(folder.DAYS), exist_ok=True)

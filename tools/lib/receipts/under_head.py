@@ -156,7 +156,7 @@ class UnderHead:
                 yield FaultLine(f"{name}: {head}: {words}", "head")
 
 
-def require_receipt_files(folder):
+def list_receipt_files_or_stop(folder):
     """The files of receipts of a folder, or the one that is given. A folder has no others."""
     if not os.path.isdir(folder):
         return [folder]
@@ -175,7 +175,7 @@ def read_findings_of_folder(folder, key, read=file_io.read_bytes):
     """The findings on the receipts of a folder, or of one file, whose bytes `read` gives: whether the operator signed each. All have to be
     receipts."""
     links, findings = receipts.Links([], key, []), []
-    for path in require_receipt_files(folder):
+    for path in list_receipt_files_or_stop(folder):
         for finding in receipts.iterate_findings_of_lines(str(path), read(path), None, key, links):
             if finding.verdict == receipts.UNREAD:
                 raise command.Stop(str(finding))

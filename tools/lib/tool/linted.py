@@ -26,7 +26,7 @@ class Linted:
         self.input.update(bytes=len(data), sha256=hashlib.sha256(data).hexdigest())
         bar = StepBar("lint", len(data), "bytes", self.quiet)
         try:
-            self.findings = lint.find_faults(data, self.purpose, bar)
+            self.findings = lint.collect_findings(data, self.purpose, bar)
         finally:
             bar.erase()
 
