@@ -183,7 +183,7 @@ impl<J: GateName, R: Wait + Drop> Gate<J, R> {
             return Err(GateFault::NotYours);
         }
         let mut locked = self.locked.lock(rt);
-        let packed = locked.pack_unless_full(&command)?;
+        let packed = locked.keeper().pack_unless_full(&command)?;
         let (number, reply) = pass.step(&mut locked, packed)?;
         Ok(Entry {
             number,
@@ -209,7 +209,7 @@ impl<J: GateName, R: Wait + Drop> Gate<J, R> {
             return Err(GateFault::NotYours);
         }
         let mut locked = self.locked.lock(rt);
-        locked.check_not_full(command.participant())?;
+        locked.keeper().check_not_full(command.participant())?;
         pass.step(&mut locked, command.clone()?)
     }
 
@@ -225,8 +225,7 @@ impl<J: GateName, R: Wait + Drop> Gate<J, R> {
             IsClosedByOperator operator.old operator.new.account locked.journal) }
     {
         let mut locked = self.locked.into_inner();
-        let _held = locked.len(); // for the proof: the invariant of a journal
-        let close = locked.pack_unless_full(&Command::Close)?;
+        let close = locked.keeper().pack_unless_full(&Command::Close)?;
         let _answer = operator.step(&mut locked, close)?;
         let _receipts = operator.receipts(); // for the proof: the invariant of a pass
         Ok(locked)

@@ -1,12 +1,9 @@
-ghost use Rattle.std.specs.Prelude.{◌≡◌, ◌⊎◌, ◌<◌, ◌≤◌, ◌+◌, ◌∷◌, ◌++◌, [], false, length, option_copied, IfOk, IfErr, IfSome, IfNone, OnOk, OnErr, OnSome};
+ghost use Rattle.std.specs.Prelude.{◌≡◌, ◌⊎◌, ◌<◌, ◌+◌, ◌∷◌, ◌++◌, [], false, length, IfOk, IfErr, IfSome, IfNone, OnOk, OnErr, OnSome};
 ghost use Rattle.std.specs.Arc.{arc_value};
 ghost use mathlib.Core.List.{IsPrefix};
-ghost use Rattle.dam_book.specs.Limits.{most_entries};
-ghost use Rattle.dam_gate.specs.Gate.{IsKeeperFault};
 ghost use Rattle.dam_gate.specs.Journal.{IsJournal, empty_journal, journal_after, next_entry};
 ghost use Rattle.dam_book.specs.Command.{is_journal_full};
 ghost use Rattle.dam_gate.specs.Pass.{knowing_nothing};
-ghost use Rattle.dam_gate.specs.inside.Keeper.{SaysWhetherFull};
 ghost use Rattle.dam_gate.specs.inside.Locked.{IsPassFault, entry_of};
 ghost use Rattle.dam_gate.specs.inside.Shown.{IsAtMostNext, IsNext, IsNoteOf, name_after, slot_name};
 ghost use Rattle.left_right.specs.Handles.{pending, published};
@@ -14,12 +11,12 @@ ghost use Rattle.left_right.specs.Handles.{pending, published};
 use crate::gate::{GateFault, PassFault};
 use crate::history::{EntryCounter, History};
 use crate::journal::Journal;
-use crate::keeper::{Keeper, KeeperFault};
+use crate::keeper::Keeper;
 use crate::limits::MOST_PASSES;
 use crate::opening::{Answered, GateName, NamedOpening, Opening};
 use crate::pass::{FIRST_RECEIPTS, Pass};
 use crate::version::{NextShown, Shown, Slot, Version, filled_slot};
-use dam_book::{Book, Command, DayLength, PackedCommand, PackedEntry, Participant, Reply, Seed};
+use dam_book::{Book, DayLength, PackedCommand, PackedEntry, Participant, Reply, Seed};
 use left_right::{Absorb, WriteHandle};
 use once_cell::race::{Note as CellNote, OnceBox};
 use std::alloc::{AllocError, Global};
@@ -240,37 +237,14 @@ impl<J: GateName, R: Wait + Drop> Locked<J, R> {
         })
     }
 
-    /// The number of entries held.
-    pub(crate) fn len(&self) -> u32
-        ensures value { result ≡ length self.now.journal.entries }
+    /// The keeper of its journal.
+    pub(crate) fn keeper(&self) -> &Keeper
+        ensures value { result.now.journal ≡ self.now.journal }
         ensures valid { IsJournal self.now.journal }
         ensures day { self.now.journal.book.periods ≡ J.opening.periods }
     {
-        self.keeper.len()
-    }
-
-    /// `Ok` if the journal has room for a command of this giver, who is `None` for the operator. The only fault is
-    /// `JournalFull`.
-    pub(crate) fn check_not_full(&self, who: Option<&Participant>) -> Result<(), KeeperFault>
-        ensures full { SaysWhetherFull (length self.now.journal.entries) (option_copied who.entry)
-            result }
-        ensures few { length self.now.journal.entries ≤ most_entries }
-    {
         let _held = self.keeper.len(); // for the proof: the invariant of a journal
-        self.keeper.check_not_full(who)
-    }
-
-    /// The command as its entry will have it, if the journal isn't full for it.
-    pub(crate) fn pack_unless_full(&self, command: &Command) -> Result<PackedCommand, KeeperFault>
-        ensures packed { IfOk result (λ packed. packed ≡ command.now) }
-        ensures not_full { OnOk result
-            (is_journal_full (length self.now.journal.entries) command.now ≡ false) }
-        ensures fault { IfErr result
-            (IsKeeperFault (length self.now.journal.entries) command.now) }
-        ensures few { length self.now.journal.entries ≤ most_entries }
-    {
-        let _held = self.keeper.len(); // for the proof: the invariant of a journal
-        self.keeper.pack_unless_full(command)
+        &self.keeper
     }
 
     /// Makes room in the journal for this number of further entries.

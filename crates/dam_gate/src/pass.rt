@@ -237,7 +237,7 @@ impl<J: GateName> Pass<J> {
         ensures fault { IfErr result (λ fault.
             (fault ≡ GateFault.Memory) ⊎ (fault ≡ GateFault.Stopped)) }
     {
-        let _held = locked.len(); // for the proof: the invariant of a journal
+        let _keeper = locked.keeper(); // for the proof: the invariant of a journal
         self.receipts.reserve(1)?;
         let received = command.clone()?;
         let (answer, after) = locked.journal_and_publish(

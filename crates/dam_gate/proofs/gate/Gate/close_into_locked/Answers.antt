@@ -15,7 +15,7 @@ returns g c =
     let step = c.in_ok-_answer.ensures in
     record {
       earlier = earlier;
-      journal = c.len-held.ensures.valid;
+      journal = c.keeper.ensures.valid;
       learnt = step.learnt;
       closed = step.journal ∙ ap (λ (d : Command). journal_after earlier d) close;
       receipt = ap (λ (k : Knowledge). k.account) step.answered.receipt

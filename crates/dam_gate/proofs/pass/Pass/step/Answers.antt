@@ -66,8 +66,8 @@ returns-clause-answered g c =
       );
       history = record {
         before = j.entries;
-        legal = subst (λ (n : ℕ). IsHistory n after) c.len-held.ensures.day
-            (subst (IsHistory j.book.periods) (sym last) (history-after j c.args.command c.len-held.ensures.valid c.requires.not_full));
+        legal = subst (λ (n : ℕ). IsHistory n after) c.keeper-keeper.ensures.day
+            (subst (IsHistory j.book.periods) (sym last) (history-after j c.args.command c.keeper-keeper.ensures.valid c.requires.not_full));
         last = c.in_ok-answer.ensures.history;
         number = sym whole;
         seen = subst (λ (k : Knowledge). IsPrefix k.history j.entries) c.self.view_is c.in_ok-answer.ensures.seen;
