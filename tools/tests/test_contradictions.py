@@ -120,7 +120,7 @@ class Contradictions(InFolder):
         with mock.patch.object(signing, "is_signed", return_value=True):
             links = receipts.Links([], self.key.public_key(), [])
             for signature in (head.signature, bytes(64)):
-                self.assertTrue(links.add_head_if_signed("file", head._replace(signature=signature), []))
+                self.assertTrue(links.add_head_and_return_is_signed("file", head._replace(signature=signature), []))
         self.assertEqual((links.signed.contradictions(), links.signed.heads()), ([], [unsigned(head)]))
 
     def test_one_number_with_two_entries(self):

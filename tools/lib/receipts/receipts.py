@@ -96,7 +96,7 @@ class Links:
         later = defaultdict(set)  # of each head, those that begin with it
         for path in paths:
             extension = self.read_value_or_none(path, heads.parse_extension, "an extension", findings)
-            if extension is not None and self.add_extension_if_valid(path, extension, findings):
+            if extension is not None and self.add_extension_and_return_is_valid(path, extension, findings):
                 later[unsigned(extension.old)].add(unsigned(extension.new))
         self.earlier = longest_beginnings(later)
 
@@ -108,10 +108,10 @@ class Links:
             findings.append(unread_finding_or_raise(path, fault))
             return None
 
-    def add_extension_if_valid(self, path, extension, findings):
+    def add_extension_and_return_is_valid(self, path, extension, findings):
         """Whether an extension connects its heads. If it doesn't, `findings` gets that. Anyone can make another path, so a wrong one is
         nobody's fault."""
-        if not all([self.add_head_if_signed(path, end, findings, EXTENSION) for end in (extension.old, extension.new)]):
+        if not all([self.add_head_and_return_is_signed(path, end, findings, EXTENSION) for end in (extension.old, extension.new)]):
             return False
         words = self.unlike_heads_words_or_none(extension)
         if words is None:
@@ -135,7 +135,7 @@ class Links:
             return f"the first one has {text.counted(old.size, 'entry', 'entries')}, and the second one {new.size}"
         return None
 
-    def add_head_if_signed(self, path, head, findings, about=HEAD):
+    def add_head_and_return_is_signed(self, path, head, findings, about=HEAD):
         """Whether a key signed a head. If none did, `findings` gets that."""
         key = signing.signer_name_or_none(self.key, head)
         if key is not None:
