@@ -42,7 +42,7 @@ pub use block_effects::{
 pub use family::descends;
 pub use links::{admissible, are_of_one_group, is_allowed};
 pub use problem::{Block, MOST_PERIODS, Place, Problem, ProblemFault, ProblemRow};
-pub use result::{best_of_all, best_of_none, ranks_above};
+pub use result::{best_of_all, empty_solution, ranks_above};
 pub use scoring::{Verdict, score};
 pub use selection::{Selection, Solution};
 pub use surpluses::{family_surplus, surplus};

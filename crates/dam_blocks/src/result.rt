@@ -40,7 +40,7 @@ fn accepts_first(first: Selection, second: Selection) -> bool
 }
 
 /// The empty selection, which is eligible, and its welfare. Takes no memory.
-pub fn best_of_none<A: Allocator>(problem: &Problem<A>) -> Solution
+pub fn empty_solution<A: Allocator>(problem: &Problem<A>) -> Solution
     ensures none { result.selection ≡ empty_selection }
     ensures eligible { IsEligible problem.now result.selection (pos result.welfare) }
 {
@@ -91,7 +91,7 @@ pub fn best_of_all<A: Allocator>(problem: &Problem<A>) -> Solution
     ensures { IsResult problem.now result.selection (pos result.welfare) }
 {
     let count = problem.block_count();
-    let mut best = best_of_none(problem);
+    let mut best = empty_solution(problem);
     for number in 0..choice_count(count) {
         best = best_after_trying(problem, best, Selection::choice(count, number));
     }

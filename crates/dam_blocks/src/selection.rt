@@ -57,7 +57,7 @@ impl Selection {
     }
 
     /// The selection with the decision on the block at this place reversed.
-    pub fn turned(mut self, place: usize) -> Selection
+    pub fn reversed(mut self, place: usize) -> Selection
         requires { place < most_blocks }
         ensures { result ≡ slice_set self place (not (accepts self place)) }
     {
@@ -86,7 +86,7 @@ impl Selection {
     pub(crate) fn use_invariant(self)
         ensures { length self ≡ most_blocks }
     {
-        let _bits = self.accepted;
+        let _bits = self.accepted; // for the proof: the invariant of a selection
     }
 
     /// The choice of this number over the first `count` places. There are 2 to the power `count` choices:

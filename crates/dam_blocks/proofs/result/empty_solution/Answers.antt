@@ -2,7 +2,7 @@
 use Rattle.std.proofs.Common.{List, Bool, sym, subst}
 use Rattle.dam_blocks.specs.Eligible.{IsEligible}
 use Rattle.dam_blocks.proofs.Verdicts.{verdict_eligible}
-use Rattle.dam_blocks.proofs.result.best_of_none.Goals as goal
+use Rattle.dam_blocks.proofs.result.empty_solution.Goals as goal
 
 pub unreachable-requires : goal.unreachable-requires
 unreachable-requires g c =

@@ -1,4 +1,4 @@
--- One bit is turned.
+-- One bit is reversed.
 use Rattle.std.proofs.Common.{◌≡◌, ℕ, ◌*◌, ◌%◌, ◌^◌, ◌<◌, not, List, Bool, slice_set, ap, ◌∙◌, sym, subst, arith}
 use Rattle.std.specs.Int.RustNames.{bit_xor}
 use Rattle.std.proofs.lemmas.Nat.{one_shl}
@@ -6,7 +6,7 @@ use Rattle.dam_book.specs.Limits.{most_blocks}
 use Rattle.dam_blocks.specs.Selection.{accepts}
 use Rattle.dam_blocks.specs.inside.Bits.{flags}
 use Rattle.dam_blocks.proofs.Bits.{flags-turned, turned_small}
-use Rattle.dam_blocks.proofs.selection.Selection.turned.Goals as goal
+use Rattle.dam_blocks.proofs.selection.Selection.reversed.Goals as goal
 
 weight : (k : ℕ) → k < most_blocks → (1 * 2 ^ k) % 2 ^ 32 ≡ 2 ^ k
 weight k h = one_shl k 32 (omega (arith, h))
