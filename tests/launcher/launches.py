@@ -129,7 +129,6 @@ class LaunchTests(DamCase):
 
     def test_an_edit_of_the_handles(self):
         """The proofs of all crates depend on the file HANDLES."""
-        self.at.write("HANDLES", "Handles allowed: Threads.\n")
         self.prove_program_and_assert()
         self.assertEqual(self.at.run_dam("x"), (0, "words: x\n", ""))
         self.at.write("HANDLES", "Handles allowed: Threads, Wait.\n")
@@ -240,7 +239,6 @@ class LaunchTests(DamCase):
             status, out, error = self.at.run_dam(*words, env=lacks)
             self.assertEqual((status, out), (70, ""))
             self.assertIn("there is no python3 on the path", error)
-        self.at.write("HANDLES", "Handles allowed: Threads.\n")
         self.prove_program_and_assert()
         self.assertEqual(self.at.run_dam("x", given="text", env=lacks), (0, "words: x\ntext", ""))
 
