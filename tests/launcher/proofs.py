@@ -121,6 +121,24 @@ class ProveTests(RepositoryCase):
         self.assertIn("dam_cli is not proved", error)
         self.assertFalse(os.path.exists(self.at.program))
 
+    def test_a_killed_rt(self):
+        """It ends without a status of its own, and the program of before stays, with its record."""
+        self.at.run_prove("dam_cli")
+        name = "crates/dam_cli/out/dam_cli"
+        record = self.at.read(f"{name}.json")
+        for killed, source in (("low", "src/lib.rt"), ("high", "src/lib.rt"), ("dam_cli", "src/main.rt")):
+            before, called = self.at.read(f"crates/{killed}/{source}"), len(self.at.read_calls())
+            self.at.write(f"crates/{killed}/{source}", f"{before}# KILLED")
+            status, out, error = self.at.run_prove("--jobs", "1", "dam_cli")
+            self.assertEqual((status, out), (1, ""))
+            self.assertTrue(error.endswith(f"{killed} is not proved: rt ended with status {-signal.SIGKILL}\n"), error)
+            above = {"low": ["left", "right", "high", "dam_cli"], "high": ["dam_cli"], "dam_cli": []}[killed]
+            self.assertFalse([it for it in self.at.read_calls()[called:] if it[1] in above], "above it nothing is proved")
+            self.assertEqual((self.at.read(name), self.at.read(f"{name}.json")), (PROGRAM, record))
+            self.assertEqual(self.capture_stale_words_or_none(), f"{name} was built of other sources: {killed} changed since")
+            self.assertTrue(self.at.has_no_copy())
+            self.at.write(f"crates/{killed}/{source}", before)
+
     def test_an_edit_meanwhile(self):
         self.at.write("crates/low/src/lib.rt", "SECONDS 1")
         with self.at.start(f"{self.at.top}/tools/prove", "dam_cli") as process:
