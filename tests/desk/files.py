@@ -15,7 +15,7 @@ import time
 import journals
 import kills
 import streams
-from device import ABOVE_ANY_CALL, DESK, INPUT, LOCKED_LINE, OUTPUT, SECONDS, STREAM, SYNC, WRITE, RefusedFileCalls
+from device import ABOVE_ANY_CALL, DESK, INPUT, LOCKED_LINE, OUTPUT, READ, SECONDS, STREAM, SYNC, WRITE, RefusedFileCalls
 from images import HEAD, MOST_FILE_BYTES, is_at_rest, parse_marked_lines_or_none
 from journals import CLOSE, rules
 from shared.preload import HostileProgram
@@ -34,7 +34,8 @@ READS = 70_000  # more than 16 bits count
 LINES = 300_000  # of an input that comes in by as many reads
 LENGTHS = [round(1.5**power) for power in range(1, 29)]  # of lines, up to one that is too long
 PATHS = (1_001, 1_024, 2_500, 4_000)  # bytes of long paths
-MEMORY = 32 << 20  # bytes of addresses, for the longest inputs
+MEMORY = 32 << 20  # bytes of addresses, for the longest inputs and files
+TOO_MANY_BYTES = (MOST_FILE_BYTES + 1, 3 << 30, 1 << 32)  # of a file
 OTHER_FILES = [(0, 0, 1), (0, 0, 1 << 32), (0, 1, 0), (1, 0, 0)]  # how much greater their devices and numbers are than the desk's file's
 FEW_FAULTS, MANY_FAULTS = 40_000, 90_000  # lines that have the same fault, of more than one batch
 # A line for each fault that a line has after its day.
@@ -106,6 +107,7 @@ def check_files(counts, desk, dam, whole):
     files.check_command_lines()
     files.check_other_day()
     files.check_longest_file()
+    files.check_too_long_files()
     files.check_cut_lines()
     files.check_closed_pipe()
     files.check_own_output()
@@ -282,6 +284,19 @@ class FileTests:
         self.check_run("a file with line ends after its mark", self.run_on_text([file]), 0, b"day,24\n1,done\n", b"")
         self.counts.check("a file with line ends after its mark is at rest", is_at_rest(file.read_bytes()))
 
+    def check_too_long_files(self):
+        """Files that are too long are refused by their length: no byte of them is read, and no memory taken for them."""
+        for count, words in itertools.product(TOO_MANY_BYTES, [(), ("--journal",)]):
+            file = write_desk_file(self.desk.make_folder(), file_of_records(DAY))
+            os.truncate(file, count)
+            got = self.run_on_text([*words, file], preexec_fn=limit_memory)
+            self.check_run(f"{words} of a file of {count:,} bytes, in little memory", got, 1, b"", TOO_LONG)
+            self.counts.check(f"{words} of a file of {count:,} bytes: it stays as long", file.stat().st_size == count)
+            if got.stderr == TOO_LONG:
+                read = [event for event in self.desk.run(file, words=words).events if event.kind == READ]
+                self.counts.check(f"{words} of a file of {count:,} bytes: {len(read)} reads", not read)
+            file.unlink()
+
     def check_cut_lines(self):
         """An input that ends anywhere: the last line isn't entered, even if it is a record."""
         text = DAY + b"submit,A,S1,hour,sell,3000,1:10,,\r\n" + b"cancel,A,S1,,,,,,\n"
@@ -449,7 +464,7 @@ class FileTests:
         for about, text, word in rows:
             file = write_desk_file(self.desk.make_folder(), file_of_records(DAY))
             begun = time.monotonic()
-            got = self.run_on_text([file], text, preexec_fn=lambda: resource.setrlimit(resource.RLIMIT_AS, (MEMORY, MEMORY)))
+            got = self.run_on_text([file], text, preexec_fn=limit_memory)
             count = max(1, text.count(b"\n"))
             right = b"day,24\n" + b"".join(b"fault,%d,%b\n" % (number, word(number)) for number in range(1, count + 1))
             is_right = (got.status, got.stdout, got.stderr) == (0, right, b"") and file.read_bytes() == file_of_records(DAY)
@@ -473,6 +488,11 @@ class FileTests:
         is_right = (printed.status, printed.stderr, answered) == (0, b"", text.count(b"\n"))
         self.counts.check(f"{answered:,} lines are answered with the fault {word}: {printed!r:.300}", is_right)
         return peak
+
+
+def limit_memory():
+    """This process has little memory."""
+    resource.setrlimit(resource.RLIMIT_AS, (MEMORY, MEMORY))
 
 
 def write_desk_file(folder, bytes_=b"x"):
