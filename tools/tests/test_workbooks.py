@@ -19,7 +19,7 @@ from lib.runs import errors
 from lib.sheets import cell_values, command_table, order_table, sheets
 from lib.tool import command
 from lib.whatif import changes, scenarios
-from lib.workbooks import first_rows, package, reading, styles
+from lib.workbooks import first_rows, formulas, package, reading, styles
 from lib.workbooks.cells import Changed, Formatted, Rounded
 from lib.workbooks.limits import BadWorkbook
 from lib.journal.book import Book
@@ -431,6 +431,15 @@ class Unlike(unittest.TestCase):
                 self.assertIsNone(self.read(J=cell)[1])
         found, _ = self.read(self.computed('calcId="1"'), E="<c><f>10+2</f><v>12</v></c>")
         self.assertEqual(found.order.price, 1_200)
+
+    def test_brackets_that_are_not_closed(self):
+        """Excel writes none. The rest of the formula is read once, and counts as it is."""
+        for first, again, last in (("", "['", ""), ("[", "'[", ""), ("[", "'[", "[[[")):
+            began = time.process_time()
+            self.assertTrue(formulas.has_volatile_function(f"NOW(){first}{again * 30_000}{last}"))
+            self.assertLess(time.process_time() - began, 2)
+        for formula, is_volatile in (("[NOW()", True), ("[[[NOW()]]]", True), ("[a+'NOW()'!A1", True), ("'NOW()'!A1+[a", False), ("[NOW()]+[a", False)):
+            self.assertEqual(formulas.has_volatile_function(formula), is_volatile, formula)
 
     def defined(self, **formulas):
         """The list of sheets, with names of formulas."""

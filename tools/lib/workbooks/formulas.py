@@ -4,14 +4,16 @@ import re
 
 # The functions that Excel computes again once it opens a workbook.
 VOLATILE = re.compile(r"\b(?:NOW|TODAY|RAND(?:BETWEEN|ARRAY)?|OFFSET|INDIRECT|CELL|INFO|RTD)\s*\(")
-# What in a formula names no function: a text, a quoted name of a sheet, and the brackets of a table or a file, in which ' marks one.
-QUOTED = re.compile(r'''"[^"]*"|'[^']*'|\[(?:[^\[\]']|'.|\[(?:[^\[\]']|'.)*\])*\]''', re.DOTALL)
+# What in a formula names no function: a text, a quoted name of a sheet, and the brackets of a table or a file, in which ' marks one. Excel
+# writes no bracket that isn't closed, or that has brackets in its inner ones: the group takes it with the rest of the formula, so that the
+# rest isn't read again from each later one.
+QUOTED = re.compile(r'''"[^"]*"|'[^']*'|\[(?:[^\[\]']|'.|\[(?:[^\[\]']|'.)*\])*\]|(\[.*)''', re.DOTALL)
 NAME = re.compile(r"[\w.\\?]+")
 
 
 def unquoted(formula):
-    """A formula in capitals, with a mark in place of each such part."""
-    return QUOTED.sub("'", formula.upper())
+    """A formula in capitals, with a mark in place of each such part, up to a bracket that Excel doesn't write."""
+    return QUOTED.sub(r"\1'", formula.upper())
 
 
 def has_volatile_function(formula):
