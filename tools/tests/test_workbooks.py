@@ -1088,6 +1088,37 @@ class Unlike(unittest.TestCase):
                     data = made.workbook_of_sheet(made.ROOT, b"<sheetData>", first, made.CLOSE, **named)
                     self.assertEqual(order_table.parse_tables([("", data)], 24).notes, ["of 2 sheets, 'Orders' was read, but not 'first'"])
 
+    def test_a_sheet_is_empty_only_if_it_was_read_to_its_end(self):
+        """A cell with a shared string of spaces counts among the first rows, but can't be seen."""
+        blank, heads = b"<row><c t='s'><v>0</v></c></row>", made.OPEN[made.OPEN.index(b"<row") :]
+        orders, wide = heads + b"<row><c t='str'><v>A</v></c></row>", b"<row><c r='IW2' t='str'><v>x</v></c></row>"
+        for first, is_empty in (
+            (blank * 9, True), (b"", True), (blank * 10 + orders, False), (blank + b"<row r='101'/>" + orders, False), (blank + wide, False),
+        ):  # fmt: skip
+            for spaces in (" ", ""):
+                shared = {made.SHARED: f'<sst xmlns="{made.MAIN[0]}"><si><t xml:space="preserve">{spaces}</t></si></sst>'.encode()}
+                parts = {**self.parts_of_two("first", "", "second", ""), **shared}
+                pieces = [made.ROOT, b"<sheetData>", first, made.CLOSE]
+                with self.subTest(first, spaces=spaces):
+                    read = order_table.parse_tables([("", made.workbook_of_sheet(*pieces, **parts))], 24)
+                    self.assertEqual([submit.name for _, submit in read.submits], ["K2"])
+                    self.assertEqual(read.notes, ["of 2 sheets, 'second' was read" + ("" if is_empty else ", but not 'first'")])
+                    parts["xl/worksheets/sheet2.xml"] = b"".join(pieces)
+                    with self.assertRaises(order_table.BadOrders) as raised:
+                        order_table.parse_tables([("", made.workbook_of_sheet(made.ROOT, b"<sheetData/></worksheet>", **parts))], 24)
+                    fault, note = str(raised.exception).split("\n")
+                    self.assertIn("the table is empty: ", fault)
+                    self.assertEqual(note, "of 2 sheets, 'first' was read" + ("" if is_empty else ", but not 'second'"))
+
+    def test_a_fault_after_the_first_heading_of_a_sheet_that_isnt_read(self):
+        """The sheet is no table of orders by its first row; a cell that can't be seen is no heading."""
+        shared = {made.SHARED: f'<sst xmlns="{made.MAIN[0]}"><si><t> </t></si><si><t>x</t></si></sst>'.encode()}
+        parts, twice = {**self.parts_of_two("first", "", "second", ""), **shared}, b"<row><c r='A2'/><c r='A2'/></row>"
+        blank, seen = (made.workbook_of_sheet(made.ROOT, b"<sheetData><row><c t='s'><v>%d</v></c></row>" % at, twice, made.CLOSE, **parts) for at in (0, 1))
+        with self.assertRaisesRegex(order_table.BadOrders, "^sheet 'first', cell A2: it occurs twice: repair the sheet 'first', or name "):
+            order_table.parse_tables([("", blank)], 24)
+        self.assertEqual(order_table.parse_tables([("", seen)], 24).notes, ["of 2 sheets, 'second' was read, but not 'first'"])
+
     def test_the_fault_of_a_sheet_that_isnt_read_holds_no_frames(self):
         """They would hold the parser of each such sheet, and all that it has kept."""
         cut = made.OPEN[: made.OPEN.index(b"<c t=")]

@@ -263,7 +263,7 @@ def parse_cells(data, most=MOST_ROWS, is_long=False):
     except sheets.BadTable as fault:
         raise BadOrders(str(fault)) from None
     if not count:
-        raise BadOrders(f"the table is empty: its first line should name the columns {', '.join(ORDER)}")
+        raise BadOrders("\n".join([f"the table is empty: its first line should name the columns {', '.join(ORDER)}", *read]))
     return Cells(rows, decimal_comma, read)
 
 

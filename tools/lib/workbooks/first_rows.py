@@ -54,12 +54,13 @@ class Enough(Exception):
 
 
 class FirstRows(Sheet):
-    """The first rows of a sheet that aren't empty. If it can't be read, or its first row has formulas without their values that may be the
-    names, it is `unread`: the fault."""
+    """The first rows of a sheet that have a cell, which may be a shared string of spaces. If it can't be read as far as its first heading,
+    or its first row has formulas without their values that may be the names, it is `unread`: the fault."""
 
     def __init__(self, name, part, book, names):
         super().__init__(name, part, book, None)
         self.names, self.found, self.unread = names, [], None
+        self.is_whole = True  # whether all its cells were looked at, unless a fault ended it
         self.uncomputed = 0  # how many cells of the first row are formulas without their values
         self.headings = []  # of each row, once the shared strings are known
 
@@ -85,8 +86,9 @@ class FirstRows(Sheet):
     def close_row(self):
         """Keeps of a row the cells that may be headings: the first place of each."""
         if self.cells:
-            places = {}
-            for at, cell in enumerate(self.cells[: MOST_COLUMNS if self.found else None], 1):
+            places, seen = {}, self.cells[: MOST_COLUMNS if self.found else None]
+            self.is_whole = self.is_whole and len(seen) == len(self.cells)
+            for at, cell in enumerate(seen, 1):
                 if cell != "":
                     places.setdefault(cell, at)
             self.found.append((self.row, places))
@@ -95,25 +97,21 @@ class FirstRows(Sheet):
             raise Enough
 
     def parse_and_note_first_rows(self):
-        """Parses the sheet until they were read. A fault after the first one is left to a reader of the whole sheet."""
+        """Parses the sheet until they were read."""
         try:
             self.book.package.parse_into_or_refuse(self.part, self)
         except Enough:
-            pass
+            self.is_whole = False
         except BadWorkbook as fault:
-            self.note_unread(fault)
+            self.unread = BadWorkbook(str(fault))  # without its frames, which would hold the parser
         self.needed = {cell for _, cells in self.found for cell in cells if isinstance(cell, int)}
-
-    def note_unread(self, fault):
-        """Notes a fault without its frames, which would hold the parser, if the first row wasn't read."""
-        self.unread = None if self.found else BadWorkbook(str(fault))
 
     def count(self):
         """How many cells are kept."""
         return sum(len(cells) for _, cells in self.found)
 
     def note_headings_or_unread(self, shared):
-        """Finds the headings by the shared strings."""
+        """Finds the headings by the shared strings. A fault after the first ones is left to a reader of the whole sheet."""
         for row, cells in self.found:
             columns = {}
             for cell, column in cells.items():
@@ -125,11 +123,17 @@ class FirstRows(Sheet):
                     columns.setdefault(words.strip().lower(), column)
             if columns:
                 self.headings.append(Headings(row, columns))
+        if self.headings:
+            self.unread = None
         lacking = self.names.names - set(self.headings[0].columns if self.headings else ())
         if not self.headings and not self.found and not self.has_data and not self.unread:
             self.unread = self.error_of("it has no table of cells")
         if 0 < len(lacking) <= self.uncomputed:
             self.unread = BadWorkbook(f"{self.place}: a formula of its first row was saved without its value")
+
+    def is_empty(self):
+        """Whether the sheet was read to its end without a cell that can be seen."""
+        return self.is_whole and not self.headings and not self.unread
 
     def has_columns(self):
         """Whether the first row has all names."""

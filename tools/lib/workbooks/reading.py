@@ -203,7 +203,7 @@ class Workbook(Part):
         for name, row in rows.items():
             if name != read:
                 row.refuse_headings(read, preferred)
-        return read, [name for name, row in rows.items() if not row.headings and not row.unread]
+        return read, [name for name, row in rows.items() if row.is_empty()]
 
     def parse_strings(self, needed):
         """The shared strings, of which those that are needed are read."""
