@@ -4,12 +4,14 @@ import contextlib
 import errno
 import itertools
 import os
+import pty
 import random
 import re
 import resource
 import select
 import socket
 import subprocess
+import termios
 import time
 
 import journals
@@ -38,6 +40,7 @@ MEMORY = 32 << 20  # bytes of addresses, for the longest inputs and files
 TOO_MANY_BYTES = (MOST_FILE_BYTES + 1, 3 << 30, 1 << 32)  # of a file
 OTHER_FILES = [(0, 0, 1), (0, 0, 1 << 32), (0, 1, 0), (1, 0, 0)]  # how much greater their devices and numbers are than the desk's file's
 FEW_FAULTS, MANY_FAULTS = 40_000, 90_000  # lines that have the same fault, of more than one batch
+END = b"\x04"  # the byte that Ctrl-D sends to a terminal: a read ends there
 # A line for each fault that a line has after its day.
 LINES_BY_FAULT = {"NotAscii,7": b"cancel,\xff,,,,,,,\n", "NotOneRecord": b"\r\n", "FieldCount": b"cancel,A\n",
                   "BadField,3": b"cancel,A,a,,,,,,\n", "OtherDay": b"day,25,,,,,,,\n"}  # fmt: skip
@@ -115,6 +118,7 @@ def check_files(counts, desk, dam, whole):
     files.check_other_output()
     files.check_full_journals()
     files.check_half_a_line()
+    files.check_end_at_terminal()
     files.check_long_batches()
     files.check_many_reads()
     files.check_many_lines()
@@ -405,6 +409,35 @@ class FileTests:
             self.counts.check(f"a line is answered before the next one is whole: {got!r}", got == b"day,24\n")
             rest, _ = desk.communicate(CLOSE[3:])
             self.counts.check(f"and that one then: {rest!r}", rest == b"1,done\n")
+
+    def check_end_at_terminal(self):
+        """At a terminal, one Ctrl-D at the beginning of a line ends the input, and one in a line doesn't. Two more are typed, so that a
+        desk that reads on ends too."""
+        cut = CLOSE[:3]
+        for typed, stdout, counts in [
+            ([b""], b"", [0]),
+            ([DAY], b"day,24\n", [len(DAY), 0]),
+            ([DAY + CLOSE], b"day,24\n1,done\n", [len(DAY), len(CLOSE), 0]),
+            ([DAY + cut, CLOSE[3:]], b"day,24\n1,done\n", [len(DAY), len(cut), len(CLOSE) - len(cut), 0]),
+            ([DAY + cut, b""], b"day,24\nfault,2,CutShort\n", [len(DAY), len(cut), 0]),
+        ]:  # fmt: skip
+            ran = self.run_at_terminal(b"".join(part + END for part in [*typed, b"", b""]))
+            read = [event.answer for event in ran.events if event.kind == INPUT]
+            about = f"{typed} typed, with Ctrl-D after each: {ran.status}, {ran.stdout}, {ran.stderr}, reads of {read} bytes"
+            self.counts.check(about, (ran.status, ran.stdout, ran.stderr, read) == (0, stdout, b"", counts))
+
+    def run_at_terminal(self, typed):
+        """Runs the desk with a terminal as its input, at which this was typed before."""
+        ours, theirs = pty.openpty()
+        modes = termios.tcgetattr(theirs)
+        modes[3] &= ~termios.ECHO
+        termios.tcsetattr(theirs, termios.TCSANOW, modes)
+        os.write(ours, typed)
+        try:
+            return self.desk.run(self.desk.make_folder() / "day.desk", source=theirs)
+        finally:
+            os.close(ours)
+            os.close(theirs)
 
     def check_long_batches(self):
         """A file as the input comes in by reads of 65,536 bytes, and each of these is a batch of two syncs, two writes and one output."""

@@ -178,6 +178,7 @@ class RandomStreams:
             yield f"status {ran.status}, {ran.stderr[:80]!r}, {first_difference(ran.stdout, expected)}"
         yield from self.try_kept_records(file, reader)
         yield from faults_of_syncs(ran.events)
+        yield from faults_of_end(ran.events)
 
     def try_kept_records(self, file, reader):
         """The differences of the file and its journal from the entered records."""
@@ -232,6 +233,13 @@ def faults_of_syncs(events):
     wrong = [count for count in counts if count not in ([0, 0], [2, 2])]
     if wrong:
         yield f"a batch with {wrong[0][0]} writes and {wrong[0][1]} syncs"
+
+
+def faults_of_end(events):
+    """The input ends with the first read that gets no byte: no read comes after it."""
+    counts = [event.answer for event in events if event.kind == INPUT]
+    if counts.count(0) != 1 or counts[-1] != 0:
+        yield f"the input is read again after its end, or not up to it: the last reads get {counts[-3:]} bytes"
 
 
 def check_second_desk(counts, desk, dam):
