@@ -10,6 +10,24 @@ import time
 from repository import FORKING, IGNORING_SIGCHLD, LIBRARIES, PROGRAM, TOP, RepositoryCase, TerminalRun
 
 
+# Prints `read_possible_jobs` of tools/prove on a machine with so many processors and these files: a path, its text, and so on.
+JOBS = """import importlib.machinery, importlib.util, io, os, sys
+loader = importlib.machinery.SourceFileLoader("prove", sys.argv[1])
+prove = importlib.util.module_from_spec(importlib.util.spec_from_loader("prove", loader))
+loader.exec_module(prove)
+files = dict(zip(sys.argv[3::2], sys.argv[4::2]))
+
+def open_given_file(path, **_):
+    if path not in files:
+        raise FileNotFoundError(path)
+    return io.StringIO(files[path])
+
+os.sched_getaffinity = lambda _: range(int(sys.argv[2]))
+prove.open = open_given_file
+print(prove.read_possible_jobs())
+"""
+
+
 class ProveTests(RepositoryCase):
     def test_order_and_copies(self):
         for name in ("left", "right"):
@@ -215,6 +233,34 @@ class ProveTests(RepositoryCase):
         self.assertEqual(len(names), len({*names}))
         self.assertEqual(names[-1], "dam_cli")
         self.assertIn(" minutes, ", out.splitlines()[-1])
+
+    def test_the_number_of_jobs(self):
+        """It is limited by the processors and by the free memory, of the machine and of the control group."""
+        meminfo = lambda free: {"/proc/meminfo": f"MemTotal:       65536000 kB\nMemFree:        1024 kB\nMemAvailable:   {free} kB\n"}
+        group = lambda name, text: {f"/sys/fs/cgroup/{name}": f"{text}\n"}
+        # 2.5 GB are 2,441,406.25 KiB
+        many, three, two, one = (meminfo(free) for free in (50_000_000, 7_324_219, 7_324_218, 2_441_407))
+        held = group("memory.current", 1_000_000_000)
+        for processors, files, jobs in (
+            (8, {}, 8),
+            (8, many, 8),
+            (2, many, 2),
+            (8, three, 3),
+            (8, two, 2),
+            (8, one, 1),
+            (8, meminfo(100_000), 1),
+            (8, many | group("cpu.max", "350000 100000"), 3),
+            (8, many | group("cpu.max", "50000 100000"), 1),
+            (8, many | group("cpu.max", "max 100000"), 8),
+            (8, many | group("memory.max", 11_000_000_000) | held, 4),
+            (8, many | group("memory.max", 10_999_999_999) | held, 3),
+            (8, two | group("memory.max", 11_000_000_000) | held, 2),
+            (8, many | group("memory.max", 900_000_000) | held, 1),
+            (8, many | group("memory.max", "max") | held, 8),
+        ):
+            words = [word for it in files.items() for word in it]
+            ran = self.at.run(sys.executable, "-c", JOBS, f"{self.at.top}/tools/prove", f"{processors}", *words)
+            self.assertEqual(ran, (0, f"{jobs}\n", ""), (processors, files))
 
     def test_the_bar_of_a_proof(self):
         self.at.write("crates/left/src/lib.rt", "SECONDS 2")
