@@ -87,6 +87,13 @@ class Columns(unittest.TestCase):
         said = "line 3, column 16383: 'y' is in a column without a name: write one, or remove it"
         self.assertEqual(wrong("A,H,hour,buy,1,8,5", f"A,I,hour,buy,1,8,5{',' * 16_376}y", header=header), [said])
 
+    def test_headings_of_many_digits(self):
+        """Each is read once to see whether it may be a part of an order."""
+        headings = [f"{number}{'1' * 30_000}x" for number in range(9)]
+        began = time.process_time()
+        self.assertEqual(len(records_and_notes(self.ROW, header=",".join([HEADER, *headings]))[1]), 9)
+        self.assertLess(time.process_time() - began, 3)
+
     def test_all_wrong_columns_at_once(self):
         found = wrong(self.ROW, header="participants,order,order,side,price,periods,volume,parnt,group")
         self.assertEqual(found[0], "line 1, column 1: 'participants' is not a column: write participant")

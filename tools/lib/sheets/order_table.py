@@ -33,8 +33,8 @@ FULL = {
     "BlocksFull": f"a book holds at most {rules.MOST_BLOCKS} blocks",
 }
 DAYS = [str(periods) for periods in rules.DAYS]
-# Parts of an order or a command that are no heading: words, and cells of digits.
-KINDS, SIDES, DIGITS = ("hour", "block"), ("buy", "sell"), re.compile(r"[\W\d]*\d[\W\d]*")
+# Parts of an order or a command that are no heading: words, and cells with a digit and no letter.
+KINDS, SIDES, LETTER, DIGIT = ("hour", "block"), ("buy", "sell"), re.compile(r"[^\W\d]"), re.compile(r"\d")
 COMMAND_AT_END = re.compile("(?:submit|amend|cancel)$")  # of a cell
 
 
@@ -300,7 +300,7 @@ def refuse_lost_order(line, unused, rows):
     """Refuses a header that goes on with an order: with a kind or side, and at least two of its price, periods and volume. In a table
     without rows, one of these may be what is left of them."""
     words = [at for at, cell in unused.items() if cell.strip().lower() in KINDS + SIDES]
-    numbers = [at for at, cell in unused.items() if DIGITS.fullmatch(cell)]
+    numbers = [at for at, cell in unused.items() if DIGIT.search(cell) and not LETTER.search(cell)]
     if words and len(numbers) > 1 or (words or numbers) and next(iter(rows), None) is None:
         raise lost_row_error(line, min(words + numbers), unused, "an", "order")
 
