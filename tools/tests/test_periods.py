@@ -1,6 +1,7 @@
 """Periods as people write them: sets of them in words, and clock times, on the days too on which the clocks change."""
 
 import unittest
+from unittest import mock
 
 import support  # noqa: F401 (it makes lib found)
 
@@ -83,6 +84,13 @@ class Between(unittest.TestCase):
         for periods in (23, 92):
             self.refused(periods, "02:00", "04:00", "no period of the day begins at 02:00")
             self.assertEqual(clock.parse_periods_between_times(periods, "00:00", "02:00"), clock.parse_periods_between_times(periods, "00:00", "03:00"))
+
+    def test_times_of_a_day_are_computed_once(self):
+        clock.periods_by_begin_and_end.cache_clear()
+        with mock.patch.object(clock, "begin_minutes", wraps=clock.begin_minutes) as counted:
+            for _ in range(50):
+                self.assertEqual(clock.parse_periods_between_times(96, "00:15", "00:45"), [2, 3])
+        self.assertLess(counted.call_count, 96 * 10)
 
 
 if __name__ == "__main__":

@@ -1,5 +1,8 @@
 """Clock times of a delivery day: when its periods begin, also on the days on which the clocks change."""
 
+import collections
+import functools
+
 from . import rules
 
 USUAL = 24 * 60  # minutes of a day on which the clocks don't change
@@ -33,13 +36,23 @@ def end_times(periods, number):
     return begin_time(periods, number + 1), time_span(periods, number).rpartition(" ")[2]
 
 
+@functools.lru_cache
+def periods_by_begin_and_end(periods):
+    """The periods of a day by the time at which they begin, and by that at which they end: as the next one begins, or, of the times at which
+    none does so, by the clock at its own beginning."""
+    starts, stops, own_stops = collections.defaultdict(list), collections.defaultdict(list), collections.defaultdict(list)
+    for number in range(1, periods + 1):
+        end, own_end = end_times(periods, number)
+        starts[begin_time(periods, number)].append(number)
+        stops[end].append(number)
+        own_stops[own_end].append(number)
+    return starts, {**own_stops, **stops}
+
+
 def parse_periods_between_times(periods, first, last):
     """The periods of a day from one clock time to another, such as `07:00` and `09:00`. A ValueError names the fault of a time."""
-    numbers = range(1, periods + 1)
-    starts = [number for number in numbers if begin_time(periods, number) == first]
     last = "24:00" if last == "00:00" else last
-    stops = [number for number in numbers if end_times(periods, number)[0] == last]
-    stops = stops or [number for number in numbers if end_times(periods, number)[1] == last]
+    starts, stops = (numbers.get(time, []) for numbers, time in zip(periods_by_begin_and_end(periods), (first, last)))
     for found, time, does in (starts, first, "begins"), (stops, last, "ends"):
         if not found:
             raise ValueError(f"no period of the day {does} at {time}")
