@@ -16,7 +16,7 @@ from support import AUCTION, AUCTION_RESULTS, FIRST, QUARTERS, QUARTERS_RESULTS,
 
 from lib.base import rules, text
 from lib.journal import book, journal
-from lib.sheets import order_table, sheets, tables
+from lib.sheets import command_table, order_table, sheets, tables
 from lib.tool import command, modules, output
 
 HEADER = "participant,order,kind,side,price_eur_mwh,periods,volume_mw,parent,group"
@@ -126,6 +126,28 @@ class Orders(unittest.TestCase):
         )
         self.assertEqual(self.records(HOUR.replace(",", "\t"), header=HEADER.replace(",", "\t")), made)
         self.assertEqual(self.records(HOUR + "\r", header="\ufeff" + HEADER.upper() + "\r"), made)
+
+    def test_a_list_that_semicolons_may_have_separated(self):
+        """A number after the volume may be of its list: a note names the first one, except in a column of further numbers."""
+        heads, row = HEADER.removesuffix(",parent,group"), "A,{},block,sell,64.5,8-9,5,25"
+        said = "line 2, column 8: '25' is a number after the volume{}: if the row has a list of periods or volumes, write quotes around it"
+        for further, separator, names, notes in (
+            ("group", ";", "K", [said.format("")]),
+            ("group", ";", "KLM", [said.format(", as in 2 other lines")]),
+            ("note", ";", "KL", ["the column 'note' isn't used", said.format(", as in 1 other line")]),
+            ("group", ",", "K", []),
+            ("group", "\t", "K", []),
+            ("offered_mwh", ";", "K", []),
+        ):
+            lines = [f"{heads},{further}", *(row.format(name) for name in names)]
+            with self.subTest(further, separator=separator):
+                data = "\n".join(lines).replace(",", separator).encode()
+                self.assertEqual(order_table.parse_tables([("", data)], 24).notes, notes)
+        for volume, group in (("5;25", ""), ("5", "G25"), ("5", ""), ("5;6", "25")):
+            data = f'{heads},group\nA,K,block,sell,64.5,8-9,"{volume}",{group}'.replace(",", ";").encode()
+            self.assertEqual(order_table.parse_tables([("", data)], 24).notes, [], volume)
+        cancels = order_table.parse_cells(b"note;what;participant;order\n25;cancel;A;K\n")
+        self.assertEqual(command_table.parse_commands_and_notes(cancels, 24)[1], ["the column 'note' isn't used"])
 
     def test_errors_name_line_and_column(self):
         for old, new, column, words in (

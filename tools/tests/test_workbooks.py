@@ -1093,8 +1093,12 @@ class Unlike(unittest.TestCase):
         blank, heads = b"<row><c t='s'><v>0</v></c></row>", made.OPEN[made.OPEN.index(b"<row") :]
         orders, wide = heads + b"<row><c t='str'><v>A</v></c></row>", b"<row><c r='IW2' t='str'><v>x</v></c></row>"
         for first, is_empty in (
-            (blank * 9, True), (b"", True), (blank * 10 + orders, False), (blank + b"<row r='101'/>" + orders, False), (blank + wide, False),
-        ):  # fmt: skip
+            (blank * 9, True),
+            (b"", True),
+            (blank * 10 + orders, False),
+            (blank + b"<row r='101'/>" + orders, False),
+            (blank + wide, False),
+        ):
             for spaces in (" ", ""):
                 shared = {made.SHARED: f'<sst xmlns="{made.MAIN[0]}"><si><t xml:space="preserve">{spaces}</t></si></sst>'.encode()}
                 parts = {**self.parts_of_two("first", "", "second", ""), **shared}
@@ -1114,7 +1118,8 @@ class Unlike(unittest.TestCase):
         """The sheet is no table of orders by its first row; a cell that can't be seen is no heading."""
         shared = {made.SHARED: f'<sst xmlns="{made.MAIN[0]}"><si><t> </t></si><si><t>x</t></si></sst>'.encode()}
         parts, twice = {**self.parts_of_two("first", "", "second", ""), **shared}, b"<row><c r='A2'/><c r='A2'/></row>"
-        blank, seen = (made.workbook_of_sheet(made.ROOT, b"<sheetData><row><c t='s'><v>%d</v></c></row>" % at, twice, made.CLOSE, **parts) for at in (0, 1))
+        rows = [b"<sheetData><row><c t='s'><v>%d</v></c></row>" % at + twice for at in (0, 1)]
+        blank, seen = (made.workbook_of_sheet(made.ROOT, row, made.CLOSE, **parts) for row in rows)
         with self.assertRaisesRegex(order_table.BadOrders, "^sheet 'first', cell A2: it occurs twice: repair the sheet 'first', or name "):
             order_table.parse_tables([("", blank)], 24)
         self.assertEqual(order_table.parse_tables([("", seen)], 24).notes, ["of 2 sheets, 'second' was read, but not 'first'"])

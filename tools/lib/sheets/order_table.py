@@ -234,11 +234,11 @@ class Table(NamedTuple):
 
 
 class Cells(NamedTuple):
-    """The cells of a table: its rows that aren't empty, each with the number of its first line; whether a comma may be the decimal point;
-    and notes on what was read of the file."""
+    """The cells of a table: its rows that aren't empty, each with the number of its first line; what separates the cells of a text; and
+    notes on what was read of the file."""
 
     rows: object  # of a workbook or a long text they are read again whenever they are gone through
-    decimal_comma: bool
+    separator: str  # None for a workbook
     read: list
 
     def line_and_header(self):
@@ -258,13 +258,13 @@ def parse_cells(data, most=MOST_ROWS, is_long=False):
     if kind in kinds.FILES - {kinds.EXCEL}:
         raise BadOrders(f"this is {kind}: {kinds.ADVICE[kind]}")
     try:
-        rows, decimal_comma = sheets.parse_rows_and_add_notes(data, NEEDED, read, most, is_long)
+        rows, separator = sheets.parse_rows_and_add_notes(data, NEEDED, read, most, is_long)
         count = count_rows_or_refuse(rows, most)
     except sheets.BadTable as fault:
         raise BadOrders(str(fault)) from None
     if not count:
         raise BadOrders("\n".join([f"the table is empty: its first line should name the columns {', '.join(ORDER)}", *read]))
-    return Cells(rows, decimal_comma, read)
+    return Cells(rows, separator, read)
 
 
 def count_rows_or_refuse(rows, most):
@@ -293,7 +293,29 @@ def require_order_table(name, table_cells, needed=NEEDED, further=()):
     again = [number for number, cells in table_cells.rows_below() if cells == header]
     if again:
         notes.append(f"line {', '.join(map(str, again))} names the columns once more")
-    return Table(name, Below(table_cells), places, len(header), table_cells.decimal_comma, notes, read)
+    if table_cells.separator == ";" and "volume_mw" in places:
+        notes += unquoted_list_notes(places, unused, table_cells.rows_below())
+    return Table(name, Below(table_cells), places, len(header), table_cells.separator != ",", notes, read)
+
+
+def unquoted_list_notes(places, unused, rows):
+    """A note on the rows with a number after the volume, in a column that may have any text: the numbers may be of one list, which
+    semicolons have separated."""
+    at = places["volume_mw"] + 1
+    is_free = at + 1 in unused or at in map(places.get, OPTIONAL)
+    pairs = ((line, cells[at - 1 : at + 1]) for line, cells in (rows if is_free else ()) if at < len(cells))
+    found = ((line, pair[1].strip()) for line, pair in pairs if all(map(is_bare_number, pair)))
+    line, cell = next(found, (None, None))
+    if line is None:
+        return []
+    more = sum(1 for _ in found)
+    others = f", as in {text.counted(more, 'other line')}" if more else ""
+    words = f"is a number after the volume{others}: if the row has a list of periods or volumes, write quotes around it"
+    return [f"line {line}, column {at + 1}: {text.quoted(cell)} {words}"]
+
+
+def is_bare_number(cell):
+    return bool(cell_values.DECIMAL[True].fullmatch(cell.strip()))
 
 
 def refuse_lost_order(line, unused, rows):

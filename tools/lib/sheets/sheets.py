@@ -43,21 +43,21 @@ def is_workbook(data):
 
 
 def parse_rows_and_add_notes(data, needed=(), notes=None, most=None, is_long=False):
-    """The rows of a table, each with the number of its first line; and whether a comma may be the decimal point. A text is separated by
-    commas, semicolons or tabs, whichever its header has most of. Of a workbook it is the sheet `orders`, or else the only one that has the
-    needed columns. It isn't read further if it has more than `most` rows after its first one. Notes say which sheet was read, that a text
-    isn't in UTF-8, and that formulas may get other values. The rows of a workbook are kept packed, and of a text that may be long not at
-    all."""
+    """The rows of a table, each with the number of its first line; and the separator of its cells, None for a workbook. A text is separated
+    by commas, semicolons or tabs, whichever its header has most of. Of a workbook it is the sheet `orders`, or else the only one that has
+    the needed columns. It isn't read further if it has more than `most` rows after its first one. Notes say which sheet was read, that a
+    text isn't in UTF-8, and that formulas may get other values. The rows of a workbook are kept packed, and of a text that may be long not
+    at all."""
     notes = [] if notes is None else notes
     if not is_workbook(data):
         found = Text(data, notes, most, MANY if is_long or most is None else 1)
-        return found if is_long else list(found), found.has_decimal_comma
+        return found if is_long else list(found), found.separator
     try:
         rows, found = reading.parse_rows_and_notes(data, PREFERRED, needed, most)
     except limits.BadWorkbook as fault:
         raise BadTable(str(fault)) from None
     notes += found
-    return rows, True
+    return rows, None
 
 
 def require_encoding_and_add_note(data, notes):
@@ -163,8 +163,7 @@ class Text:
         """`times`: how many times the cells and the text of a workbook it may have."""
         self.data, self.most, self.times = data, most, times
         self.encoding = require_encoding_and_add_note(data, notes)
-        self.delimiter = max(",;\t", key=self.first_line().count)
-        self.has_decimal_comma = self.delimiter != ","
+        self.separator = max(",;\t", key=self.first_line().count)
         self.is_counted = False  # once it was read to its end, it keeps to the limits
 
     def text_stream(self):
@@ -176,10 +175,10 @@ class Text:
         return next(filter(WORD.search, itertools.islice(lines, MOST_LINES)), "")
 
     def __iter__(self):
-        lines, found, count = Lines(self.text_stream(), self.delimiter), 0, Count(self.times)
+        lines, found, count = Lines(self.text_stream(), self.separator), 0, Count(self.times)
         width = None  # of the header, with its empty cells
         try:
-            for whole in csv.reader(lines, delimiter=self.delimiter, strict=True):
+            for whole in csv.reader(lines, delimiter=self.separator, strict=True):
                 if cells := trimmed(whole):
                     width = len(whole) if width is None else width
                     # more cells than the header, even empty ones: a number with a comma may be two of them
