@@ -10,7 +10,7 @@ import time
 from repository import FORKING, IGNORING_SIGCHLD, LIBRARIES, PROGRAM, TOP, RepositoryCase, TerminalRun
 
 
-# Prints `read_possible_jobs` of tools/prove on a machine with so many processors and these files: a path, its text, and so on.
+# Prints `read_possible_jobs` of tools/prove with a number of processors and with files, each given by its path and its text.
 JOBS = """import importlib.machinery, importlib.util, io, os, sys
 loader = importlib.machinery.SourceFileLoader("prove", sys.argv[1])
 prove = importlib.util.module_from_spec(importlib.util.spec_from_loader("prove", loader))
@@ -140,7 +140,7 @@ class ProveTests(RepositoryCase):
         self.assertFalse(os.path.exists(self.at.program))
 
     def test_a_killed_rt(self):
-        """It ends without a status of its own, and the program of before stays, with its record."""
+        """It ends without a status of its own, and the earlier program stays, with its record."""
         self.at.run_prove("dam_cli")
         name = "crates/dam_cli/out/dam_cli"
         record = self.at.read(f"{name}.json")
