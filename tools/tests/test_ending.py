@@ -478,6 +478,25 @@ class Interrupted(unittest.TestCase):
             with ending.exiting_at_signals():
                 self.assertEqual(signal.getsignal(number), signal.SIG_IGN)
 
+    def test_signals_are_held(self):
+        """Each ends the tool at the end of the steps that belong together, also if one of them fails, unless it is ignored."""
+        for number, kind in ((signal.SIGINT, KeyboardInterrupt), (signal.SIGTERM, ending.Ended), (signal.SIGHUP, ending.Ended)):
+            self.addCleanup(signal.signal, number, signal.getsignal(number))
+            for fault in (None, OSError):
+                signal.signal(number, ending.raise_signal)
+                with self.subTest(number, fault=fault), mock.patch.object(ending, "heeded", []):
+                    done = []
+                    with self.assertRaises(kind), ending.holding_signals():
+                        for _ in range(3):
+                            os.kill(os.getpid(), number)
+                            done.append(number)
+                        if fault:
+                            raise fault
+                    self.assertEqual((len(done), signal.getsignal(number)), (3, ending.raise_signal))
+            signal.signal(number, signal.SIG_IGN)
+            with ending.holding_signals():
+                self.assertEqual(signal.getsignal(number), signal.SIG_IGN)
+
     def test_a_step_of_a_run(self):
         def main():
             raise KeyboardInterrupt

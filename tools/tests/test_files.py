@@ -8,6 +8,7 @@ import io
 import itertools
 import os
 import resource
+import signal
 import subprocess
 import sys
 import unittest
@@ -17,7 +18,7 @@ from unittest import mock
 
 from support import AUCTION, AUCTION_RESULTS, TOOLS, make_folder_for_case, read_results, run_tool
 
-from lib.base import replacing
+from lib.base import ending, replacing
 from lib.sheets import tables
 from lib.tool import command, file_io, modules
 
@@ -317,6 +318,47 @@ class Files(unittest.TestCase):
         self.assertEqual(run_tool("table", *texts, "--replace", "--all", folder), (command.NO_INPUT, b"", said))
         self.assertEqual({path.read_bytes() for path in folder.iterdir() if path.is_file()}, {b"old"})
         self.assertEqual(sorted(folder.iterdir()), names)
+
+    def heed_interrupts(self):
+        """From now on Ctrl-C is an exception, as it is in a tool."""
+        self.addCleanup(signal.signal, signal.SIGINT, signal.signal(signal.SIGINT, ending.raise_signal))
+        patch = mock.patch.object(ending, "heeded", [])
+        patch.start()
+        self.addCleanup(patch.stop)
+
+    def test_an_interrupt_leaves_all_files_or_none(self):
+        """Before the first is in its place none is written, and from then on all are."""
+        self.heed_interrupts()
+        for advice, call in ((None, "rename"), (file_io.NAMED_BY_OUT, "link")):
+            for name, is_written in (("fsync", False), (call, True)):
+                paths, real = [str(self.folder / f"{call} {name} {number}") for number in range(4)], getattr(os, name)
+
+                def interrupted(*words):
+                    os.kill(os.getpid(), signal.SIGINT)
+                    return real(*words)
+
+                ending.heeded.clear()
+                with self.subTest(call, name=name), mock.patch.object(os, name, interrupted):
+                    self.assertRaises(KeyboardInterrupt, file_io.write_files, "table", dict.fromkeys(paths, b"new"), advice)
+                    self.assertEqual([os.path.exists(path) for path in paths], [is_written] * 4)
+                    self.assertEqual([path for path in self.folder.iterdir() if path.name.startswith(".")], [])
+
+    def test_an_interrupt_ends_the_wait_for_a_reader(self):
+        self.heed_interrupts()
+        pipe, came = self.folder / "pipe", []
+        os.mkfifo(pipe)
+
+        def interrupt_or_read(*_):
+            if came:
+                self.addCleanup(os.close, os.open(pipe, os.O_RDONLY | os.O_NONBLOCK))  # it waits still: the test fails
+            came.append(1)
+            os.kill(os.getpid(), signal.SIGINT)
+
+        self.addCleanup(signal.signal, signal.SIGALRM, signal.signal(signal.SIGALRM, interrupt_or_read))
+        self.addCleanup(signal.setitimer, signal.ITIMER_REAL, 0)
+        signal.setitimer(signal.ITIMER_REAL, 0.2, 20)
+        self.assertRaises(KeyboardInterrupt, file_io.write_files, "table", {str(pipe): b"new"})
+        self.assertEqual(len(came), 1)
 
     def test_tables_replace_files_if_they_are_asked_to(self):
         texts, folder = [self.journal, self.results], self.folder / "tables"

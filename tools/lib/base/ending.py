@@ -189,3 +189,21 @@ def exiting_at_signals():
     finally:
         for number in heeding:
             signal.signal(number, raise_signal)
+
+
+@contextlib.contextmanager
+def holding_signals():
+    """In the main thread, Ctrl-C or a signal that comes in this block ends the tool only at the block's end: each of its steps is done. None
+    of them may wait for another process."""
+    came, held = [], []
+    if threading.current_thread() is threading.main_thread():
+        held = [number for number in (signal.SIGINT, *ENDING) if signal.getsignal(number) == raise_signal]
+    for number in held:
+        signal.signal(number, lambda number, _: came.append(number))
+    try:
+        yield
+    finally:
+        for number in held:
+            signal.signal(number, raise_signal)
+        if came:
+            raise_signal(came[0], None)

@@ -131,15 +131,28 @@ def write_file_or_stdout(tool, path, data, advice=None):
 
 
 def write_files(tool, files, advice=None):
-    """Writes files by their paths. None is put in its place before each is whole. With advice, none replaces a file that is there by then:
-    the tool ends as by `refuse_to_replace`."""
+    """Writes files by their paths. None is put in its place before each is whole, and from then on Ctrl-C ends the tool only once all are.
+    With advice, none replaces a file that is there by then: the tool ends as by `refuse_to_replace`."""
     prepare = replacing.write_new_beside_and_return_put if advice else replacing.write_beside_and_return_put
+    written = []
     with contextlib.ExitStack() as cleanups:
         puts = {path: call_or_stop(path, prepare, path, data, cleanups) for path, data in files.items()}
-        for path, put in puts.items():
-            call_or_stop(path, put, advice=advice)
-            if sys.stderr.isatty():
+        try:
+            with contextlib.nullcontext() if any(map(is_device_or_pipe, files)) else ending.holding_signals():
+                for path, put in puts.items():
+                    call_or_stop(path, put, advice=advice)
+                    written.append(path)
+        finally:
+            for path in written if sys.stderr.isatty() else []:
                 command.print_note(tool, f"{command.shown(path)} was written")
+
+
+def is_device_or_pipe(path):
+    """Whether a path has a file that a write may have to wait for."""
+    try:
+        return not stat.S_ISREG(os.stat(path).st_mode)
+    except OSError:
+        return False
 
 
 def call_or_stop(path, call, *words, advice=None):
