@@ -330,12 +330,13 @@ class Files(unittest.TestCase):
         """Before the first is in its place none is written, and from then on all are."""
         self.heed_interrupts()
         for advice, call in ((None, "rename"), (file_io.NAMED_BY_OUT, "link")):
-            for name, is_written in (("fsync", False), (call, True)):
+            for name, is_written in (("open", False), ("fsync", False), (call, True)):
                 paths, real = [str(self.folder / f"{call} {name} {number}") for number in range(4)], getattr(os, name)
 
                 def interrupted(*words):
+                    returned = real(*words)
                     os.kill(os.getpid(), signal.SIGINT)
-                    return real(*words)
+                    return returned
 
                 ending.heeded.clear()
                 with self.subTest(call, name=name), mock.patch.object(os, name, interrupted):

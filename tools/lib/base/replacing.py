@@ -8,6 +8,8 @@ import secrets
 import stat
 from pathlib import Path
 
+from . import ending
+
 # The errors if an old file can be written but not replaced, because of its folder, its owner or its file system.
 FIXED = (errno.EACCES, errno.EPERM, errno.EROFS, errno.EBUSY, errno.EXDEV, errno.ENOTSUP)
 FULL = (errno.ENOSPC, errno.EDQUOT, errno.EFBIG)
@@ -129,8 +131,9 @@ def path_beside(path):
 
 def create_file(path, data, cleanups, prepared=None):
     """Writes a file that isn't there yet, and that `cleanups` removes. Before, a call may give it rights, by its number."""
-    number = os.open(path, os.O_WRONLY | os.O_CREAT | os.O_EXCL | os.O_CLOEXEC, 0o666)
-    cleanups.callback(remove_file, path)
+    with ending.holding_signals():
+        number = os.open(path, os.O_WRONLY | os.O_CREAT | os.O_EXCL | os.O_CLOEXEC, 0o666)
+        cleanups.callback(remove_file, path)
     with open(number, "wb") as file:
         if prepared:
             prepared(number)
