@@ -15,7 +15,7 @@ import make_blocks
 import make_family
 from clearing import MOST_OF_BEFORE, MOST_OF_DEEP, THE_TWIN, BooksTogether, parse_kinds_or_exit, write_timed_book
 from figures import Figures
-from running import TWIN, make_audit_command_or_none
+from running import TWIN, clear_for_audit_words_or_exit_or_none
 
 DEFAULT = ["2", "3"]  # the default plan: workers, and how many of the first blocks are cut
 MOST_OF_OTHERS = {"before": MOST_OF_BEFORE, THE_TWIN: 2, "enumeration": 0.1}  # times as long
@@ -25,7 +25,7 @@ MOST_TOGETHER = {"without blocks": 12, "before": 1}
 def write_book_and_record(figures, drawn):
     book = write_timed_book("blocks", drawn)
     twin = [TWIN, *DEFAULT] if drawn in make_family.BOOKS else None
-    book.run_and_note_seconds_or_exit({"enumeration": make_audit_command_or_none(book.path)}, twin)
+    book.run_and_note_seconds_or_exit({"enumeration": clear_for_audit_words_or_exit_or_none(book.path)}, twin)
     book.record_clear(figures, MOST_OF_DEEP, MOST_OF_OTHERS)
     book.run_and_record_peers(figures)
     return book

@@ -11,7 +11,7 @@ import sys
 import make_blocks
 import make_family
 from figures import Figures
-from running import TWIN, run_in_time_or_none, run_to_file_or_exit
+from running import TWIN, run_in_time_or_exit_or_none, run_to_file_or_exit
 
 BLOCKS = (8, 12, 16, 20, 24)
 MOST_NODES = 2 ** (BLOCKS[-1] + 1) // 100  # nodes
@@ -21,12 +21,12 @@ FAMILIES = [*make_family.FAMILIES, BASE]
 PICTURE = "../docs/growth.svg"
 
 
-def write_book_and_measure_nodes_or_none(family, periods, blocks):
-    """The nodes of a book; None if the twin didn't end in time."""
+def write_book_and_measure_or_exit_or_none(family, periods, blocks):
+    """The nodes of a book, which is written first. Returns None if the twin didn't end in time, and ends the bench if it failed."""
     usual = ["./make_blocks.py", BASE, str(make_blocks.USUAL), "1", PERIODS[periods], str(blocks)]
     words = usual if family == BASE else ["./make_family.py", family, "500", str(blocks), PERIODS[periods]]
     path = run_to_file_or_exit(f"out/growth-{family}-{periods}-{blocks}.csv", *words)
-    searched = run_in_time_or_none([TWIN, "1", "0"], path)
+    searched = run_in_time_or_exit_or_none([TWIN, "1", "0"], path)
     return searched and int(searched.text.split()[-1])
 
 
@@ -68,7 +68,7 @@ def main():
     nodes = {}
     for family in FAMILIES:
         for periods in PERIODS:
-            nodes[family, periods] = [write_book_and_measure_nodes_or_none(family, periods, blocks) for blocks in BLOCKS]
+            nodes[family, periods] = [write_book_and_measure_or_exit_or_none(family, periods, blocks) for blocks in BLOCKS]
             record_nodes(figures, family, periods, nodes[family, periods])
     write_picture_if_possible(nodes)
 

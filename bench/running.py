@@ -45,10 +45,10 @@ class Run(NamedTuple):
 
 def run_or_exit(words, given=os.devnull):
     """Runs a program on a file, and ends the bench if it failed or didn't end in time."""
-    return run_in_time_or_none(words, given) or sys.exit(f"{' '.join(words)} < {given}: it didn't end in {LIMIT:g} s")
+    return run_in_time_or_exit_or_none(words, given) or sys.exit(f"{' '.join(words)} < {given}: it didn't end in {LIMIT:g} s")
 
 
-def run_in_time_or_none(words, given=os.devnull, limit=LIMIT, padding=0):
+def run_in_time_or_exit_or_none(words, given=os.devnull, limit=LIMIT, padding=0):
     """Runs a program on a file. Returns None if it didn't end in time, and ends the bench if it failed. The padding is the number of bytes
     that are added to its environment, which move its stack."""
     with open(given, "rb") as text, tempfile.TemporaryFile() as printed, tempfile.TemporaryFile() as errors:
@@ -105,7 +105,7 @@ def run_in_turns_or_exit(programs, given=os.devnull, most=31, seconds=5.0, longe
 
     def runs(name, words):
         read = (inputs or {}).get(name, given)
-        return lambda turn: run_in_time_or_none(words, read, limit=limit, padding=STACKS * (turn % PLACES))
+        return lambda turn: run_in_time_or_exit_or_none(words, read, limit=limit, padding=STACKS * (turn % PLACES))
 
     return call_in_turns({name: runs(name, words) for name, words in programs.items()}, most, seconds, longest_of_repeated)
 
@@ -118,11 +118,11 @@ def measure_peak_mebibytes(words, given):
         return int(used.read()) / 1024
 
 
-def make_audit_command_or_none(path):
-    """The command that tries all selections of a book by `tools/audit`, with four threads, and fails if the results of `dam` aren't right
-    and best; None if numpy is missing, or `dam` takes too long."""
+def clear_for_audit_words_or_exit_or_none(path):
+    """Clears a book, and returns the command that tries all its selections by `tools/audit`, with four threads, and fails if the results
+    of `dam` aren't right and best. Returns None if numpy is missing, or `dam` takes too long, and ends the bench if it fails."""
     has_numpy = modules.has_module("numpy") or modules.run_and_see_if_debian_has("numpy")
-    cleared = run_in_time_or_none([DAM, "clear"], path) if has_numpy else None
+    cleared = run_in_time_or_exit_or_none([DAM, "clear"], path) if has_numpy else None
     if cleared is None:
         return None
     results = f"{path}.txt"

@@ -17,7 +17,7 @@ import make_blocks
 import make_family
 from clearing import MOST_OF_BEFORE, BooksTogether, parse_kinds_or_exit, write_timed_book
 from figures import Figures
-from running import make_audit_command_or_none
+from running import clear_for_audit_words_or_exit_or_none
 
 MOST_SECONDS = 3.0  # seconds
 MOST_OF_SUM_BEFORE, ONE_IN = 1 / 6, 20
@@ -27,7 +27,7 @@ BOOKS = make_blocks.THIN + make_blocks.HARDEST + make_blocks.BOUND + make_family
 
 def write_book_and_record(figures, drawn):
     book = write_timed_book("thin", drawn)
-    book.run_and_note_seconds_or_exit({"enumeration": make_audit_command_or_none(book.path)})
+    book.run_and_note_seconds_or_exit({"enumeration": clear_for_audit_words_or_exit_or_none(book.path)})
     book.record_clear(figures, MOST_SECONDS, {"before": MOST_OF_BEFORE, "enumeration": MOST_OF_ENUMERATION[drawn.is_thin]})
     if not drawn.is_thin:
         book.run_and_record_peers(figures)
