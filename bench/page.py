@@ -1,5 +1,5 @@
 #!/usr/bin/env python3
-"""page.py [PART..]: takes the figures that these parts of the bench have printed over into measured/PART.csv, notes the run in
+"""page.py [PART..]: copies the figures that these parts of the bench have printed to measured/PART.csv, notes the run in
 measured/runs.csv, and writes docs/MEASURED.md from all these files. Without a part it only writes the page again.
 
 If --before names a program, BEFORE_IS in the environment says what that is, such as its commit."""
@@ -189,8 +189,9 @@ def read_and_compose_section(part):
     return "\n".join(filter(None, [f"## `bench/run {part}`\n", words, *tables, PICTURES.get(part)]))
 
 
-def read_row_of_run(part, load, notes):
-    """The row of a part's run, with its figures and how many of its targets are missed; of the load the mean of the last minute."""
+def cells_of_recorded_run(part, load, notes):
+    """The cells of the page's row for the run of a part: how many figures it has kept, how many of their targets are missed, and the mean of
+    the load in the last minute."""
     rows = read_rows(KEPT / f"{part}.csv")
     counts = collections.Counter(holds for _, _, _, holds, _ in rows)
     wrong = f"{counts['MISSED']} of {counts['MISSED'] + counts['holds']}"
@@ -212,7 +213,8 @@ def read_and_compose_page():
     """The page, from the kept figures of all parts."""
     runs = read_rows(KEPT / "runs.csv")
     notes = list(dict.fromkeys(note for run in runs for note in run[6].split("; ") if note))
-    lines = [read_row_of_run(run[0], run[4], " ".join(f"({notes.index(note) + 1})" for note in run[6].split("; ") if note)) for run in runs]
+    marks = [" ".join(f"({notes.index(note) + 1})" for note in run[6].split("; ") if note) for run in runs]
+    lines = [cells_of_recorded_run(run[0], run[4], mark) for run, mark in zip(runs, marks)]
     when = markdown_table(["Part", "Figures", "Targets missed", "Load", "Notes"], lines)
     notes = "; ".join(f"({number}) {note}" for number, note in enumerate(notes, 1))
     circumstances = "".join(text_of_values(runs, column, words) for column, words in CIRCUMSTANCES.items())
