@@ -28,8 +28,8 @@ pub enum RunFault {
     /// The journal of a day's gate and the receipts of its participants don't fit together. By contract, no run
     /// ends so. If memory ran out, the fault is `Memory` of this type.
     Mismatch(Mismatch),
-    /// The search visited as many nodes of this piece as the plan allows, and needed another. Only tests show
-    /// that it is the least such piece.
+    /// The search visited as many nodes of this piece as the plan allows, and needed another. Each lesser piece is
+    /// finished.
     Unfinished { piece: u32, visited: Nodes },
     /// The answers of the search's workers lack this piece or repeat it. The search never answers so, and
     /// so no run does. Its line has the word `Collected`.

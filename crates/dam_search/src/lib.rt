@@ -9,10 +9,10 @@
 //! share. A contract sees a [`Plan`] as its three numbers, an [`Incumbent`] as the greatest value read of it and the
 //! greatest welfare offered to it, and a selection as its list of acceptances. Only tests show that the number of
 //! visited nodes in an answer is the number visited, that few are visited if the limit on nodes can't stop the
-//! search, and that the incumbent is read at each; the least limit on nodes with which a search ends; which of several
-//! unfinished pieces is named; that the first selection is a good one; that a turnstile is called with the piece's
-//! number; that pieces are walked at the same time, and that one worker reads the offers of another; and that a search
-//! reports out of memory only if memory has run out.
+//! search, and that the incumbent is read at each; the least limit on nodes with which a search ends; that the first
+//! selection is a good one; that a turnstile is called with the piece's number; that pieces are walked at the same
+//! time, and that one worker reads the offers of another; and that a search reports out of memory only if memory has
+//! run out.
 //!
 //! The crate doesn't know how prices are found. It doesn't know texts.
 #![tactic(auto)]
