@@ -115,7 +115,8 @@ first_file is_number (word ∷ words) =
 -- blank, unless it has such a quote itself. The bytes of a blank and of the quote are 32 and 39
 abbrev pub quote_of : List ℕ → List ℕ
 quote_of name =
-    if (length name == 0 || list_any (λ byte. byte == 32) name) && not (list_any (λ byte. byte == 39) name)
+    if (length name == 0 || list_any (λ byte. byte == 32) name)
+    && not (list_any (λ byte. byte == 39) name)
     then codes "'"
     else []
 

@@ -111,7 +111,8 @@ fn print_journal<W: Write>(
 ) -> Result<(), DeskFault>
     requires { writer.old.failed ≡ false }
     ensures printed { IfOk result (λ _. (file : List ℕ) × (journal : Option Journal)
-        × OpensTo journal file × Appends writer.old.taken writer.new.taken (desk_journal_text journal)) }
+        × OpensTo journal file
+        × Appends writer.old.taken writer.new.taken (desk_journal_text journal)) }
     ensures cause { OnOk result (writer.new.failed ≡ false) }
 {
     let bytes = read_file_bytes(rt, path)?;

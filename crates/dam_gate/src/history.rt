@@ -78,7 +78,8 @@ impl<J: GateName> Model for History<J> {
 
     ghost view = { λ h. h.entries.log };
 
-    ghost invariant = { λ h. (h.held ≡ length h.entries.log) × (h.entries.book ≡ J.opening.history) };
+    ghost invariant = { λ h. (h.held ≡ length h.entries.log)
+        × (h.entries.book ≡ J.opening.history) };
 }
 
 impl<J: GateName> History<J> {

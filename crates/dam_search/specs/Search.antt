@@ -18,7 +18,8 @@ pub record IsFinished (problem : ProblemState) (depth nodes piece : ℕ) : Type 
   pub sound : IsSound problem (choice depth piece) best incumbent_read true
   pub reached : IsReached problem incumbent_read
   pub spent :
-      IsSpent problem (choice depth piece) (length problem.blocks - depth) 0 nodes visited incumbent_read true
+      IsSpent problem (choice depth piece) (length problem.blocks - depth)
+      0 nodes visited incumbent_read true
 
 -- the least piece of the cutting that isn't finished: it visited as many nodes as it may, which is less than either
 -- bound on those that it can need

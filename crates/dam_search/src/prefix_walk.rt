@@ -56,7 +56,8 @@ impl<A: Allocator, B: Allocator> PrefixWalk<'_, A, B> {
         requires full { length self.now.problem.now.blocks ≡ length prefix.now }
         requires offered { welfare_found found.old.best ≤ I.greatest_offer incumbent.old }
         ensures finds { Finds self.now.problem.now prefix.now found.old.best found.new.best }
-        ensures covers { Covers self.now.problem.now prefix.now found.new.best found.new.incumbent_read }
+        ensures covers { Covers self.now.problem.now prefix.now
+            found.new.best found.new.incumbent_read }
         ensures offered { I.greatest_offer incumbent.new
             ≡ max (I.greatest_offer incumbent.old) (welfare_found found.new.best) }
         ensures greatest_read { I.greatest_read incumbent.new ≡ I.greatest_read incumbent.old }

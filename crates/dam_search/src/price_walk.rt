@@ -52,7 +52,8 @@ pub(crate) struct PriceWalk<'a, A: Allocator, P: PricedProblem> {
 /// so far. The welfare of an eligible selection is never below 0.
 fn solution_if_better(selection: Selection, welfare: i64, found: &WalkState) -> Option<Solution>
     ensures none { IfNone result
-        ((welfare <ℤ pos found.now.incumbent_read) ⊎ IsMatched welfare selection found.now.best) }
+        ((welfare <ℤ pos found.now.incumbent_read)
+        ⊎ IsMatched welfare selection found.now.best) }
     ensures some { IfSome result (λ b. (b.selection ≡ selection) × (pos b.welfare ≡ welfare)
         × Rises found.now.best (Some b)) }
 {
@@ -75,7 +76,8 @@ fn is_passed(node: &Node, found: &WalkState) -> bool
         → IsOpen node.now.accepted node.now.left.now selection → w ≤ℤ node.now.bound
         → (w <ℤ pos found.now.incumbent_read) ⊎ IsMatched w selection found.now.best }
     ensures reached { result ≡ false
-        → (pos found.now.incumbent_read ≤ℤ node.now.bound) × (found.now.incumbent_read < 2 ^ 63) }
+        → (pos found.now.incumbent_read ≤ℤ node.now.bound)
+        × (found.now.incumbent_read < 2 ^ 63) }
 {
     if !bound_reaches(node.bound, found.incumbent_read) {
         return true;
@@ -199,7 +201,8 @@ impl<A: Allocator, P: PricedProblem> PriceWalk<'_, A, P> {
             node.now.accepted node.now.left.now node.now.bound }
         requires slack { IsSlack self.now.problem.now self.now.limits.now.limits
             node.now.accepted node.now.left.now node.now.slack.now }
-        requires reached { (pos found.old.incumbent_read ≤ℤ node.now.bound) × (found.old.incumbent_read < 2 ^ 63) }
+        requires reached { (pos found.old.incumbent_read ≤ℤ node.now.bound)
+            × (found.old.incumbent_read < 2 ^ 63) }
         requires ready { IsReady
             (I.greatest_read incumbent.old) (I.greatest_offer incumbent.old) found.old }
         ensures walked { IsWalkedOpen self.now.problem.now node.now.accepted node.now.left.now
@@ -240,7 +243,8 @@ impl<A: Allocator, P: PricedProblem> PriceWalk<'_, A, P> {
             node.now.accepted node.now.left.now node.now.bound }
         requires slack { IsSlack self.now.problem.now self.now.limits.now.limits
             node.now.accepted node.now.left.now node.now.slack.now }
-        requires reached { (pos found.old.incumbent_read ≤ℤ node.now.bound) × (found.old.incumbent_read < 2 ^ 63) }
+        requires reached { (pos found.old.incumbent_read ≤ℤ node.now.bound)
+            × (found.old.incumbent_read < 2 ^ 63) }
         requires ready { IsReady
             (I.greatest_read incumbent.old) (I.greatest_offer incumbent.old) found.old }
         ensures walked { IsWalkedOpen self.now.problem.now node.now.accepted node.now.left.now

@@ -23,7 +23,8 @@ IsNext {J} slot changes = (change : NextShown J) × (changes ≡ change ∷ []) 
 
 -- the name of the slot that is shown when these changes are made, if the slot of that name was shown before
 abbrev pub name_after : {J : Type 0} → ℕ → List (NextShown J) → ℕ
-name_after {J} slot changes = fold (λ (before : ℕ) (change : NextShown J). slot_name change.slot) slot changes
+name_after {J} slot changes =
+    fold (λ (before : ℕ) (change : NextShown J). slot_name change.slot) slot changes
 
 -- nothing waits; or, if a slot was left, just the change that shows it does
 abbrev pub IsAtMostNext : {J A : Type 0} → Option (Arc (Global × ℕ) A) → List (NextShown J) → Type 0
