@@ -1,5 +1,5 @@
 -- A text and its front that is one byte longer than a journal may be: if one of them is short enough, they are equal.
-use Rattle.std.proofs.Common.{◌≡◌, ◌≤◌, ℕ, true, min, List, Err, length, take, refl, subst, arith}
+use Rattle.std.proofs.Common.{◌≡◌, ◌≤◌, ℕ, true, min, List, Err, length, take, subst, arith}
 use Rattle.std.proofs.lemmas.List.{take_all, length-take}
 use Rattle.dam_book.specs.Book.{BookState}
 use Rattle.dam_blocks.specs.Problem.{problem_of}
