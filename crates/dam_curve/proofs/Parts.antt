@@ -151,10 +151,3 @@ part_welfare Buy limit c a q x b s t w v u el f e =
 part_welfare Sell limit c a q x b s t w v u el f e =
     let m = limit_times limit c a x el in
     omega (arith, ints, m, e)
-
-pub times_net : (p net : ℤ) (b s : ℕ) → pos s +ℤ net ≡ pos b → p *ℤ pos b ≡ p *ℤ pos s +ℤ p *ℤ net
-times_net p net b s e =
-    let k : s + up net ≡ b + down net = omega (arith, ints) in
-    let m = ap (λ (n : ℕ). up p * n) k in
-    let n = ap (λ (n : ℕ). down p * n) k in
-    omega (arith, ints, m, n)

@@ -18,5 +18,6 @@ pub mod Magnitude
 pub mod Joining
 pub mod Answering
 pub mod Fairness
+pub mod Exchanges
 pub mod Reordering
 pub mod Falling
