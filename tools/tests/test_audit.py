@@ -433,7 +433,7 @@ class CommandLine(unittest.TestCase):
         with tempfile.TemporaryDirectory() as folder:
             copy = shutil.copy(support.TOOLS / "audit", folder)
             ran = subprocess.run([sys.executable, copy, *words], capture_output=True)
-            said = f"audit: the rest of this tool is missing: the folder {os.path.realpath(folder)}/lib\n"
+            said = f"audit: it can't start: [Errno 2] No such file or directory: '{os.path.realpath(folder)}/lib/start.py'\n"
             self.assertEqual((ran.returncode, ran.stdout, ran.stderr.decode()), (command.FAILED, b"", said))
 
     def test_what_was_not_checked_is_said(self):

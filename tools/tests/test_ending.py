@@ -7,6 +7,7 @@ import functools
 import io
 import itertools
 import json
+import math
 import os
 import re
 import resource
@@ -209,9 +210,14 @@ class Failing(unittest.TestCase):
                 path = Path(folder, name)
                 path.write_bytes((TOOLS / name).read_bytes())
                 ran = subprocess.run([sys.executable, "-I", "-S", path], capture_output=True, text=True)
-                said = "it can't start: No module named 'lib'"
-                said = f"the rest of this tool is missing: the folder {folder}/lib" if name == "audit" else said
-                self.assertEqual((ran.returncode, ran.stdout, ran.stderr), (command.FAILED, "", f"{name}: {said}\n"))
+                said = f"{name}: it can't start: [Errno 2] No such file or directory: '{folder}/lib/start.py'\n"
+                self.assertEqual((ran.returncode, ran.stdout, ran.stderr), (command.FAILED, "", said))
+            Path(folder, "lib").mkdir()
+            Path(folder, "lib", "start.py").write_bytes((TOOLS / "lib" / "start.py").read_bytes())
+            for name in place.TOOLS:
+                ran = subprocess.run([sys.executable, "-I", "-S", Path(folder, name)], capture_output=True, text=True)
+                said = f"{name}: it can't start: No module named 'lib.base'\n"
+                self.assertEqual((ran.returncode, ran.stdout, ran.stderr), (command.FAILED, "", said))
 
     def test_right_results_are_never_called_wrong(self):
         """The search for a better selection needs far more memory than the rest."""
@@ -249,38 +255,26 @@ class Failing(unittest.TestCase):
         run = "import sys; from lib.base import ending; ending.guard_tool('lint'); raise MemoryError"
         ran = subprocess.run([sys.executable, "-B", "-c", run], cwd=TOOLS, capture_output=True, text=True)
         self.assertEqual((ran.returncode, ran.stderr), (command.FAILED, "lint: out of memory\n"))
-        for name in PACKAGES:
-            text = (TOOLS / name).read_text()
-            self.assertIn(f'from lib.base import ending\n\nending.guard_tool("{name}")\n\n', text)
 
 
 class Start(unittest.TestCase):
     """The first lines of tools, which each has for itself: nothing that they share can be imported before."""
 
-    HOOK = "sys.excepthook = exit_by_fault\n"
+    INTERRUPT = re.compile(r'"""\n\n(import _signal\n(?:import posix\n)?\nif .*\n    _signal.signal.*\n)\n')
+    START = re.compile(r'"""\n\n(import _signal\n(?:.*\n)*?    posix._exit\(5\)\n)')
 
-    def lines_until_guarded(self, name):
-        """The lines of a tool from its first import until it is guarded."""
-        _, begin, rest = (TOOLS / name).read_text().partition("\nimport _signal\n")
-        lines, guard, _ = rest.partition(f'\nending.guard_tool("{name}")\n')
-        self.assertTrue(begin and guard, name)
-        return lines.replace(f"{name}: ", "TOOL: ")
-
-    def test_tools_that_say_why_they_cannot_start(self):
-        """They begin alike. The audit alone also says that its folder is missing."""
-        names = {path.name for path in TOOLS.iterdir() if path.is_file() and self.HOOK in path.read_text()}
-        self.assertGreater(len(names), 8)
-        starts = {name: self.lines_until_guarded(name) for name in names}
-        audit_hook, _, _ = starts.pop("audit").partition(self.HOOK)
-        (start,) = set(starts.values())
-        self.assertEqual(audit_hook, start.partition(self.HOOK)[0])
+    def test_tools_start_alike(self):
+        """Each says why it can't start; those of the launcher start by themselves, with an older Python too."""
+        names = {path.name for path in TOOLS.iterdir() if path.is_file() and "/lib/start.py" in path.read_text()}
+        self.assertLessEqual({*place.TOOLS, "manual", "package", "reading-list"}, names)
+        starts = {self.START.search((TOOLS / name).read_text())[1].replace(f"{name}: ", "TOOL: ") for name in names}
+        self.assertEqual(len(starts), 1)
 
     def test_each_tool_can_be_interrupted_from_its_first_line(self):
-        first = self.lines_until_guarded("plot").partition("\nimport ")[0]
         names = [path.name for path in TOOLS.iterdir() if path.is_file() and path.read_text().startswith("#!/usr/bin/env -S python3 ")]
         self.assertGreater(len(names), 12)
-        for name in names:
-            self.assertIn(f'"""\n\nimport _signal\n{first}\nimport ', (TOOLS / name).read_text(), name)
+        found = {self.INTERRUPT.search((TOOLS / name).read_text())[1].replace("import posix\n", "") for name in names}
+        self.assertEqual(len(found), 1)
 
 
 class Interrupted(unittest.TestCase):
@@ -440,7 +434,7 @@ class Interrupted(unittest.TestCase):
     def test_signals_after_one(self):
         """They don't stop its end, but a later one is heeded again."""
         for first, kind in ((signal.SIGTERM, ending.Ended), (signal.SIGINT, KeyboardInterrupt)):
-            with mock.patch.object(ending, "heeded", []), mock.patch.object(time, "monotonic") as clock:
+            with mock.patch.object(ending.Guarded, "heeded", -math.inf), mock.patch.object(time, "monotonic") as clock:
                 for now, is_heeded in ((100, True), (100, False), (104, False), (105, True)):
                     clock.return_value = now
                     if is_heeded:
@@ -484,7 +478,7 @@ class Interrupted(unittest.TestCase):
             self.addCleanup(signal.signal, number, signal.getsignal(number))
             for fault in (None, OSError):
                 signal.signal(number, ending.raise_signal)
-                with self.subTest(number, fault=fault), mock.patch.object(ending, "heeded", []):
+                with self.subTest(number, fault=fault), mock.patch.object(ending.Guarded, "heeded", -math.inf):
                     done = []
                     with self.assertRaises(kind), ending.holding_signals():
                         for _ in range(3):

@@ -6,6 +6,7 @@ import functools
 import gzip
 import io
 import itertools
+import math
 import os
 import resource
 import signal
@@ -322,7 +323,7 @@ class Files(unittest.TestCase):
     def heed_interrupts(self):
         """From now on Ctrl-C is an exception, as it is in a tool."""
         self.addCleanup(signal.signal, signal.SIGINT, signal.signal(signal.SIGINT, ending.raise_signal))
-        patch = mock.patch.object(ending, "heeded", [])
+        patch = mock.patch.object(ending.Guarded, "heeded", -math.inf)
         patch.start()
         self.addCleanup(patch.stop)
 
@@ -338,7 +339,7 @@ class Files(unittest.TestCase):
                     os.kill(os.getpid(), signal.SIGINT)
                     return returned
 
-                ending.heeded.clear()
+                ending.Guarded.heeded = -math.inf
                 with self.subTest(call, name=name), mock.patch.object(os, name, interrupted):
                     self.assertRaises(KeyboardInterrupt, file_io.write_files, "table", dict.fromkeys(paths, b"new"), advice)
                     self.assertEqual([os.path.exists(path) for path in paths], [is_written] * 4)

@@ -1,12 +1,12 @@
 """How a tool ends if it fails itself, because memory or files run out or it has a defect: with one line on standard error, and a status that
 is no verdict. With DAM_DEBUG=1 in the environment Python's traceback comes before the line.
 
-A tool calls `guard_tool` before it imports anything else of this folder, since an import may fail too, and Ctrl-C may come in the midst of
-it. If this import fails, a function `exit_by_fault` of its script ends it. The launcher's call `guard_process`, for which Python 3.8 is
-enough. From `turn_signals_into_exceptions` on, signals are exceptions: so the tool's processes are ended, and its temporary files removed."""
+lib/start.py calls `guard_tool` before a tool imports anything else, since an import may fail too, and Ctrl-C may come in the midst of it.
+The launcher's call `guard_process`, for which Python 3.8 is enough. From `turn_signals_into_exceptions` on, signals are exceptions: so the tool's processes are ended, and its temporary files removed."""
 
 import atexit
 import contextlib
+import math
 import os
 import resource
 import signal
@@ -29,12 +29,19 @@ NO_MEMORY = ("cannot allocate memory", "failed to map segment", "can't start new
              "error return without exception set", "without setting an exception")  # fmt: skip
 # And those of both if the process may open no more files.
 NO_FILES = ("too many open files", "cannot open shared object file: error 24")
+
+
+class Guarded:
+    """What is known of this process."""
+
+    tool = None  # its name, once it is guarded
+    failed = FAILED  # its status if it fails
+    heeded = -math.inf  # when the last signal was heeded
+    lost = None  # the exception of a signal, if it was lost
+
+
 # What a tool has to do before it ends like this: a call that gets the status and the message.
 last_duties = []
-watched = []  # the name of the tool, once it is guarded
-of_failures = [FAILED]  # the tool's status if it fails
-heeded = []  # when the last signal was heeded
-lost = []  # the exception of a signal, if it was lost
 
 
 class Ended(KeyboardInterrupt):
@@ -74,7 +81,7 @@ def status_and_message_of_interrupt(fault):
 
 def exit_by_failure(tool, fault):
     """Ends the process at once."""
-    status, message = of_failures[0], None
+    status, message = Guarded.failed, None
     try:
         if isinstance(fault, KeyboardInterrupt):
             status, message = status_and_message_of_interrupt(fault)
@@ -103,10 +110,18 @@ def guard_tool(tool):
         sys.exit(FAILED)
     guard_process(tool)
     exit_if_stack_is_small(tool)
-    if sys.flags.no_site:  # the packages of the system, which may run code of their own, are left until now
+    if sys.flags.no_site:
+        find_packages_of_system(tool)
+
+
+def find_packages_of_system(tool):
+    """Lets Python find the packages of the system, which may run code of their own, only now that the tool is guarded."""
+    try:
         import site
 
         site.main()
+    except Exception as fault:
+        exit_by_failure(tool, fault)
 
 
 def exit_if_stack_is_small(tool):
@@ -120,7 +135,7 @@ def exit_if_stack_is_small(tool):
 def guard_process(tool, failed=FAILED):
     """From now on any exception that nothing handles ends the tool in this way, with the status `failed`, and Ctrl-C at once, and the tool is
     apart from the working folder."""
-    watched[:], of_failures[:] = [tool], [failed]
+    Guarded.tool, Guarded.failed = tool, failed
     surroundings.isolate_environment()
     sys.excepthook = lambda _, fault, trace: exit_by_failure(tool, fault.with_traceback(trace))
     if signal.getsignal(signal.SIGINT) != signal.SIG_IGN:
@@ -129,7 +144,7 @@ def guard_process(tool, failed=FAILED):
 
 def exit_by_interrupt(*_):
     """Ctrl-C while modules are imported, of which some would take the exception for a fault of their own."""
-    exit_by_failure(watched[0], KeyboardInterrupt())
+    exit_by_failure(Guarded.tool, KeyboardInterrupt())
 
 
 def turn_signals_into_exceptions():
@@ -147,21 +162,25 @@ def raise_ignored_later(ignored):
     if not issubclass(ignored.exc_type, KeyboardInterrupt):
         sys.__unraisablehook__(ignored)
         return
-    lost[:] = [ignored.exc_value or KeyboardInterrupt()]
+    Guarded.lost = ignored.exc_value or KeyboardInterrupt()
     atexit.register(signal.setitimer, signal.ITIMER_REAL, 0)
     signal.signal(signal.SIGALRM, raise_lost)
     signal.setitimer(signal.ITIMER_REAL, AGAIN)
 
 
-def raise_lost(*_):
-    raise lost[0]
+def raise_lost(_, frame):
+    """Raises it later, if it would be lost again since Python still ignores another one."""
+    if frame.f_code is raise_ignored_later.__code__:
+        signal.setitimer(signal.ITIMER_REAL, AGAIN)
+    else:
+        raise Guarded.lost
 
 
 def raise_signal(number, _):
     """Ctrl-C or a signal that ends the tool came."""
     now = time.monotonic()
-    if not heeded or now - heeded[0] >= PAUSE:
-        heeded[:] = [now]
+    if now - Guarded.heeded >= PAUSE:
+        Guarded.heeded = now
         raise KeyboardInterrupt if number == signal.SIGINT else Ended(number)
 
 

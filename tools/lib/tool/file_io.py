@@ -64,7 +64,7 @@ def refuse_as_own_output(path, found):
     except OSError:  # it is closed
         return
     if is_own:
-        if ending.watched:  # not a program that calls the package for Python
+        if ending.Guarded.tool:  # not a program that calls the package for Python
             command.redirect_to_devnull(sys.stdout)
         raise OwnOutput(f"standard output goes to {command.shown(path)}, which is one of the inputs: write to another file")
 
