@@ -13,6 +13,7 @@ use Rattle.dam_blocks.specs.Selection.{accepts, empty_selection, net_volume_of_b
 use Rattle.dam_blocks.specs.Eligible.{ArePrices, added, period_welfare, welfare_from, IsEligible}
 use Rattle.dam_blocks.proofs.Sums.{over_accepted-replicate}
 use Rattle.dam_blocks.proofs.Choices.{accepts-replicate}
+use Rattle.dam_blocks.proofs.PeriodByPeriod.{raised_is}
 
 -- the laws of one period on a net volume within its offers
 pub record ExistenceLaws : Type 0 where
@@ -52,9 +53,6 @@ pub record Cleared (blocks : List Block) (sel : List Bool) (t : ℕ) (hours : Li
 both : (x y : Option ℤ) (u v : ℤ) → x ≡ Some u → y ≡ Some v → added x y ≡ Some (u +ℤ v)
 both x y u v e f = rw (e, f)
 
-raised : (x : Option ℤ) (k g : ℤ) → x ≡ Some g → option_map (λ w. w +ℤ k) x ≡ Some (g +ℤ k)
-raised x k g e = rw e
-
 pub cleared : ExistenceLaws → (blocks : List Block) (sel : List Bool) (t : ℕ) (hours : List (List Step)) → AreHoursInRange hours
     → AreWithin blocks sel t hours
     → Cleared blocks sel t hours
@@ -70,7 +68,7 @@ cleared laws blocks sel t (ss ∷ hours) are within =
       welfare = (welfare_of ss best.0 +ℤ accepted_value blocks sel t) +ℤ rest.welfare;
       welfare_is = both (period_welfare blocks sel t ss) (welfare_from blocks sel (suc t) hours)
           (welfare_of ss best.0 +ℤ accepted_value blocks sel t) rest.welfare
-          (raised (greatest_welfare ss net) (accepted_value blocks sel t) (welfare_of ss best.0) (laws.welfare ss net best.0 best.1))
+          (raised_is (greatest_welfare ss net) (accepted_value blocks sel t) (welfare_of ss best.0) (laws.welfare ss net best.0 best.1))
           rest.welfare_is;
     }
 

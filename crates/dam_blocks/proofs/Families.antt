@@ -35,7 +35,7 @@ sum_below-at_least zero g h = omega (arith, ints)
 sum_below-at_least (suc n) g h = let rest = sum_below-at_least n g h in let here = h n in omega (arith, ints, rest, here)
 
 -- ---- a number at one place
-abbrev where_true : Bool → ℤ → ℤ
+abbrev pub where_true : Bool → ℤ → ℤ
 where_true true x = x
 where_true false x = pos 0
 
@@ -189,7 +189,7 @@ root_is_top blocks sel (suc n) j (Some p) chains e acc l =
     let least = deeper.1 in
     (deeper.0, omega (arith, least, below))
 
-or_false : (x : Bool) → (x || false) ≡ x
+pub or_false : (x : Bool) → (x || false) ≡ x
 or_false true = refl
 or_false false = refl
 

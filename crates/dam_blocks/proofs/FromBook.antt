@@ -23,6 +23,8 @@ use Rattle.dam_blocks.specs.declared.problem.ProblemRow.{ProblemRow}
 use Rattle.dam_blocks.specs.Problem.{ProblemState, step_in, steps_in, hours_from, block_under, blocks_in, place_after, rows_after}
 use Rattle.dam_blocks.specs.Problem.{problem_of, hourly_orders, AreHoursInRange, AreBlocks, HasParentBefore, StandsAt, IsProblem}
 use Rattle.dam_blocks.specs.inside.Making.{hourly_step}
+use Rattle.dam_book.proofs.Keys.{both_true}
+use Rattle.dam_blocks.proofs.WelfareAtLeastZero.{same_block}
 
 -- the block of a row
 abbrev block_of : Key → BlockTerms → Block
@@ -146,9 +148,6 @@ few_blocks (r ∷ rs) = let here = block_more r.0 r.1 (blocks_in rs) in let rest
     omega (arith, here, rest, sum)
 
 -- ---- names
-both_true : (a b : Bool) → (a && b) ≡ true → (a ≡ true) × (b ≡ true)
-both_true true b e = (refl, e)
-both_true false b e = (e, absurd (cc))
 
 same_key-equal : (k l : Key) → same_key k l ≡ true → (k.0 ≡ l.0) × (k.1 ≡ l.1)
 same_key-equal k l e =
@@ -215,7 +214,7 @@ blocks_apart (r ∷ rs) u =
     apart_option r.0 r.1 rs (not_none (lookup (same_key r.0) rs) both.0) (blocks_apart rs both.1)
 
 -- ---- parents
-true_not : (b : Bool) → not b ≡ true → b ≡ false
+pub true_not : (b : Bool) → not b ≡ true → b ≡ false
 true_not true e = absurd (cc)
 true_not false e = refl
 
@@ -277,9 +276,6 @@ parent_before front k o rest name has parent =
       lesser = slice_get_within (blocks_in front) at.0 at.1 at.2;
     }
 
-same_some : (a b : Block) → Some a ≡ Some b → a ≡ b
-same_some a b e = cc
-
 parents_before : (front rs : List Row) (i : ℕ) (b : Block) (name : List ℕ) → are_linked front rs ≡ true
     → slice_get (blocks_in rs) i ≡ Some b → b.order.parent ≡ Some name
     → HasParentBefore (blocks_in (front ++ rs)) (length (blocks_in front) + i) b
@@ -301,7 +297,7 @@ parents_before front (r ∷ rs) i b name linked at parent =
         (subst (λ (ps : List Row). HasParentBefore (blocks_in ps) (length (blocks_in (front ++ (k, Hour o) ∷ [])) + i) b)
         (append_assoc front ((k, Hour o) ∷ []) rs) (rest i at))
     by_order front k (BlockVariant o) rs zero b name has at parent rest =
-        let is : block_of k o ≡ b = same_some (block_of k o) b at in
+        let is : block_of k o ≡ b = same_block (block_of k o) b at in
         let own : o.parent ≡ Some name = ap (λ (c : Block). c.order.parent) is ∙ parent in
         let here : length (blocks_in front) ≡ length (blocks_in front) + 0 = omega arith in
         subst (λ (n : ℕ). HasParentBefore (blocks_in (front ++ (k, BlockVariant o) ∷ rs)) n b) here
@@ -319,7 +315,7 @@ parents_before front (r ∷ rs) i b name linked at parent =
         (append_assoc front ((k, BlockVariant o) ∷ []) rs) (rest i at))
 
 -- ---- where the rows stand
-steps-append : (t : ℕ) (front rs : List Row) → steps_in t (front ++ rs) ≡ steps_in t front ++ steps_in t rs
+pub steps-append : (t : ℕ) (front rs : List Row) → steps_in t (front ++ rs) ≡ steps_in t front ++ steps_in t rs
 steps-append t front rs = filter_map-append (λ (r : Row). step_in t r.1) front rs
 
 not_beyond : (n t : ℕ) → nat_lt n t ≡ false → t ≤ n

@@ -25,11 +25,12 @@ use Rattle.dam_blocks.specs.Changes.{with_limit}
 use Rattle.dam_blocks.proofs.Families.{accepts_descendant}
 use Rattle.dam_blocks.proofs.GroupCounts.{count_at_most, count_alone, other_has_group}
 use Rattle.dam_blocks.proofs.Descending.{descends_is}
-use Rattle.dam_blocks.proofs.WelfareAtLeastZero.{added_some, raised_some}
+use Rattle.dam_blocks.proofs.WelfareAtLeastZero.{added_some, raised_some, same_block}
 use Rattle.dam_blocks.proofs.Sums.{over_accepted-nil}
 use Rattle.dam_blocks.proofs.Participants.{over_accepted-agree}
 use Rattle.dam_blocks.proofs.Transfer.{prices_transfer}
-use Rattle.dam_blocks.proofs.Repricing.{minus_times, value_raised, surplus_raised}
+use Rattle.dam_blocks.proofs.Repricing.{value_raised, surplus_raised}
+use Rattle.dam_hour.proofs.Numbers.{minus_times}
 
 -- ---- one place decided otherwise
 decided_there : (xs : List Bool) (i : ℕ) (d : Bool) → i < length xs → accepts (set xs i d) i ≡ d
@@ -73,8 +74,6 @@ accepted_within (x ∷ xs) zero on = omega arith
 accepted_within (x ∷ xs) (suc j) on = let rest = accepted_within xs j on in omega (arith, rest)
 
 -- ---- blocks that stand alone
-same_block : (a b : Block) → Some a ≡ Some b → a ≡ b
-same_block a b e = cc
 
 childless : (bs : List Block) (i k : ℕ) (b : Block) → slice_get bs i ≡ Some b → StandsAlone bs b → Descends bs i k → ⊥
 childless bs i _ b at alone (Child k is) =

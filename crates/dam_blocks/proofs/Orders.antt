@@ -16,9 +16,9 @@ use Rattle.dam_blocks.specs.Problem.{ProblemState, step_in, steps_in, hours_from
 use Rattle.dam_blocks.specs.Selection.{accepts}
 use Rattle.dam_blocks.specs.Eligible.{surplus_of, surplus_at, selection_welfare}
 use Rattle.dam_blocks.specs.Market.{IsOutcome, hourly_surplus, accepted_surplus, order_surplus_at, order_surplus_in, gain_of, over_orders}
-use Rattle.dam_blocks.proofs.Families.{unequal}
+use Rattle.dam_blocks.proofs.Families.{unequal, where_true}
 use Rattle.dam_blocks.proofs.FromBook.{blocks-append, steps_same, steps_apart}
-use Rattle.dam_blocks.proofs.Participants.{by_place, by_place-all, where_true, StandFrom, stand_later}
+use Rattle.dam_blocks.proofs.Participants.{by_place, by_place-all, StandFrom, stand_later}
 use Rattle.dam_blocks.proofs.Sharing.{SharingLaws, shared, length_prices}
 
 -- ---- one period, from a place on

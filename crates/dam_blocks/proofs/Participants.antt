@@ -23,8 +23,8 @@ use Rattle.dam_blocks.specs.Family.{descends, accepted_where, accepted_descendan
 use Rattle.dam_blocks.specs.Eligible.{ArePrices, surplus_of, surplus_at, family_surplus, HasNoLoss, IsEligible}
 use Rattle.dam_blocks.specs.Market.{AreBestExecutions, IsOutcome, order_surplus_at, order_surplus_in, gain_of, over_orders_of}
 use Rattle.dam_blocks.proofs.Sums.{over_accepted-nil}
-use Rattle.dam_blocks.proofs.Families.{AreChains, no_loss_in_families, accepts_where, accepts_descendant}
-use Rattle.dam_blocks.proofs.WelfareAtLeastZero.{are_chains, parent_found}
+use Rattle.dam_blocks.proofs.Families.{AreChains, no_loss_in_families, accepts_where, accepts_descendant, where_true}
+use Rattle.dam_blocks.proofs.WelfareAtLeastZero.{are_chains, parent_found, same_block}
 use Rattle.dam_blocks.proofs.Descending.{descends_is}
 use Rattle.dam_blocks.proofs.PricesUnique.{prices_unique}
 use Rattle.dam_blocks.proofs.FromBook.{blocks-append}
@@ -111,9 +111,6 @@ mine_from who blocks sel i b acc at own =
     accepts_mine who blocks sel i
     ∙ ap₂ (λ (x : Bool) (o : Option Block). x && is_of who o) acc at
     ∙ (bytes_decides b.who who).1 own
-
-same_block : (a b : Block) → Some a ≡ Some b → a ≡ b
-same_block a b e = cc
 
 own_of : (who : List ℕ) (blocks : List Block) (i : ℕ) (b : Block) → slice_get blocks i ≡ Some b → is_of who (slice_get blocks i) ≡ true
     → b.who ≡ who
@@ -208,10 +205,6 @@ descendants_gain problem sel w prices executions i eligible outcome acc =
     (subst (λ (ps : List ℤ). HasNoLoss problem.blocks sel ps) one eligible.no_loss).gains i acc
 
 -- ---- row by row
-abbrev pub where_true : Bool → ℤ → ℤ
-where_true true x = x
-where_true false x = pos 0
-
 -- the sum over the accepted ones, the list of blocks beginning at place n
 abbrev pub by_place : (BlockTerms → ℤ) → List Bool → ℕ → List Block → ℤ
 by_place f xs n [] = pos 0

@@ -62,7 +62,7 @@ pub record IsClearedSoFar (blocks : List Block) (sel : List Bool) (hours : List 
   pub each : (k : ℕ) (ss : List Step) → k < place → slice_get hours k ≡ Some ss
       → IsClearingPrice ss (net_volume blocks sel (k + 1)) (get_or prices k (pos 0))
 
-added_assoc : (w v : ℤ) (x : Option ℤ) → added (Some w) (added (Some v) x) ≡ added (Some (w +ℤ v)) x
+pub added_assoc : (w v : ℤ) (x : Option ℤ) → added (Some w) (added (Some v) x) ≡ added (Some (w +ℤ v)) x
 added_assoc w v None = refl
 added_assoc w v (Some r) = let e : w +ℤ (v +ℤ r) ≡ (w +ℤ v) +ℤ r = omega (arith, ints) in ap (λ (z : ℤ). Some z) e
 
@@ -85,7 +85,7 @@ get_or-set_below (q ∷ prices) zero k p h = absurd (omega (arith, h))
 get_or-set_below (q ∷ prices) (suc i) zero p h = refl
 get_or-set_below (q ∷ prices) (suc i) (suc k) p h = get_or-set_below prices i k p (omega (arith, h))
 
-raised_is : (x : Option ℤ) (k g : ℤ) → x ≡ Some g → option_map (λ w. w +ℤ k) x ≡ Some (g +ℤ k)
+pub raised_is : (x : Option ℤ) (k g : ℤ) → x ≡ Some g → option_map (λ w. w +ℤ k) x ≡ Some (g +ℤ k)
 raised_is x k g e = rw e
 
 pub cleared_more : (blocks : List Block) (sel : List Bool) (hours : List (List Step)) (place t : ℕ) (welfare : ℤ) (prices : List ℤ)

@@ -24,12 +24,13 @@ use Rattle.dam_blocks.specs.Eligible.{welfare_from, IsEligible}
 use Rattle.dam_blocks.specs.Result.{RanksAtOrBelow, IsResult}
 use Rattle.dam_blocks.specs.Market.{IsOutcome, AreBestExecutions}
 use Rattle.dam_blocks.specs.Changes.{with_limit, IsWithLimit}
-use Rattle.dam_blocks.proofs.Families.{accepts_descendant}
+use Rattle.dam_blocks.proofs.Families.{accepts_descendant, where_true}
 use Rattle.dam_blocks.proofs.GroupCounts.{same_count}
 use Rattle.dam_blocks.proofs.WelfareAtLeastZero.{added_some, raised_some}
 use Rattle.dam_blocks.proofs.Participants.{over_accepted-agree}
 use Rattle.dam_blocks.proofs.Ranks.{same_rank}
 use Rattle.dam_blocks.proofs.Transfer.{prices_transfer, executions_transfer, welfare_transfer}
+use Rattle.dam_hour.proofs.Numbers.{minus_times}
 
 -- ---- the block and its fellows
 -- the blocks with that limit for the one at a place
@@ -207,10 +208,6 @@ limited_admissible bs sel i limit is = record {
 }
 
 -- ---- sums
-abbrev where_true : Bool → ℤ → ℤ
-where_true true x = x
-where_true false x = pos 0
-
 -- the sum changes by the change of the block, if it is accepted
 sum_changed : (f : BlockTerms → ℤ) (bs : List Block) (sel : List Bool) (i : ℕ) (b : Block) (limit : ℤ) → slice_get bs i ≡ Some b
     → over_accepted f (repriced bs i limit) sel
@@ -264,12 +261,6 @@ sum_raised f bs sel i b limit at less =
 times_at_least : (z : ℤ) (x : ℕ) → pos 0 ≤ℤ z → pos 0 ≤ℤ (z *ℤ pos x)
 times_at_least (pos n) x h = omega (arith, ints)
 times_at_least (negsuc n) x h = absurd (let no : 0 < 0 = omega (arith, ints, h) in omega (arith, no))
-
-pub minus_times : (a b : ℤ) (x : ℕ) → (a -ℤ b) *ℤ pos x +ℤ b *ℤ pos x ≡ a *ℤ pos x
-minus_times a b x =
-    let e : up (a -ℤ b) + down a + up b ≡ down (a -ℤ b) + up a + down b = omega (arith, ints) in
-    let m = ap (λ (n : ℕ). n * x) e in
-    omega (arith, ints, m)
 
 times_grows : (a b : ℤ) (x : ℕ) → a ≤ℤ b → (a *ℤ pos x) ≤ℤ (b *ℤ pos x)
 times_grows a b x h =

@@ -21,7 +21,7 @@ use Rattle.dam_blocks.specs.declared.problem.Place.TheVariants.{Hour as AtHour, 
 use Rattle.dam_blocks.specs.declared.problem.ProblemRow.{ProblemRow}
 use Rattle.dam_blocks.specs.Problem.{step_in, steps_in, hours_from, block_under, blocks_in, place_after, rows_after, hourly_orders}
 use Rattle.dam_blocks.specs.inside.Making.{hourly_step, with_step}
-use Rattle.dam_blocks.proofs.FromBook.{hour_stands, few_hours}
+use Rattle.dam_blocks.proofs.FromBook.{hour_stands, few_hours, blocks-append, steps-append}
 
 pub drop_at : {X : Type 0} (xs : List X) (i : ℕ) (x : X) → slice_get xs i ≡ Some x → drop i xs ≡ x ∷ drop (i + 1) xs
 drop_at xs i x e = go xs i x e ∙ ap (λ (n : ℕ). x ∷ drop n xs) (let one : suc i ≡ i + 1 = omega arith in one)
@@ -81,12 +81,6 @@ rows_more all place r rows rows' q at is pushed so_far =
     ∙ ap (λ (p : ProblemRow). rows ++ p ∷ rows_after (take place all ++ r ∷ []) (drop (place + 1) all)) is
     ∙ ap (λ (zs : List Row). rows ++ rows_after (take place all) zs) (sym (drop_at all place r at))
     ∙ so_far
-
-steps-append : (t : ℕ) (front rs : List Row) → steps_in t (front ++ rs) ≡ steps_in t front ++ steps_in t rs
-steps-append t front rs = filter_map-append (λ (r : Row). step_in t r.1) front rs
-
-blocks-append : (front rs : List Row) → blocks_in (front ++ rs) ≡ blocks_in front ++ blocks_in rs
-blocks-append front rs = filter_map-append (λ (r : Row). block_under r.0.0 r.0.1 r.1) front rs
 
 blocks_more : (all : List Row) (place : ℕ) (k : Key) (o : BlockTerms) → slice_get all place ≡ Some (k, BlockVariant o)
     → length (blocks_in (take (place + 1) all)) ≡ length (blocks_in (take place all)) + 1

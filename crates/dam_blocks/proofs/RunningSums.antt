@@ -9,6 +9,7 @@ use Rattle.dam_blocks.specs.declared.problem.Block.{Block}
 use Rattle.dam_blocks.specs.Magnitude.{greatest_gain}
 use Rattle.dam_blocks.specs.Selection.{accepts, over_accepted}
 use Rattle.dam_blocks.specs.Eligible.{surplus_in, surplus_from}
+use Rattle.dam_blocks.proofs.Sums.{over_accepted-nil}
 
 one_more : (i : ℕ) → suc i ≡ i + 1
 one_more i = omega arith
@@ -21,11 +22,6 @@ sum-accepted f i (c ∷ bs) b [] e a = absurd (cc)
 sum-accepted f zero (c ∷ bs) b (true ∷ sel) e a = let same : c ≡ b = cc in ap (λ (d : Block). f d.order +ℤ over_accepted f bs sel) same
 sum-accepted f zero (c ∷ bs) b (false ∷ sel) e a = absurd (cc)
 sum-accepted f (suc i) (c ∷ bs) b (x ∷ sel) e a = sum-accepted f i bs b sel e a
-
--- a rejected one adds nothing
-over_accepted-nil : (f : BlockTerms → ℤ) (bs : List Block) → over_accepted f bs [] ≡ pos 0
-over_accepted-nil f [] = refl
-over_accepted-nil f (b ∷ bs) = refl
 
 nothing_left : (f : BlockTerms → ℤ) (i : ℕ) (sel : List Bool)
     → over_accepted f (drop i []) (drop i sel) ≡ over_accepted f (drop (suc i) []) (drop (suc i) sel)

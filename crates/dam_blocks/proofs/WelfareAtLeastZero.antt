@@ -106,8 +106,8 @@ parent_found blocks j p e = from (slice_get blocks j) refl
 pub same_text_in : (xs ys : List ℕ) → Some xs ≡ Some ys → xs ≡ ys
 same_text_in xs ys e = cc
 
-same_block_in : (a b : Block) → Some a ≡ Some b → a ≡ b
-same_block_in a b e = cc
+pub same_block : (a b : Block) → Some a ≡ Some b → a ≡ b
+same_block a b e = cc
 
 -- in a problem a parent stands before its child
 pub parent_stands_before : (problem : ProblemState) (j p : ℕ) → IsProblem problem → parent_place problem.blocks j ≡ Some p → p < j
@@ -125,7 +125,7 @@ are_chains problem sel is admissible = record {
   before = λ j p e. parent_stands_before problem j p is e;
   with_parent = λ j p acc e. (let found = parent_found problem.blocks j p e in
       let allowed = admissible.each j acc in
-      let block : found.child ≡ allowed.block = same_block_in _ _ (sym found.child_stands ∙ allowed.stands) in
+      let block : found.child ≡ allowed.block = same_block _ _ (sym found.child_stands ∙ allowed.stands) in
       allowed.parent p found.parent found.parent_stands (subst (λ (b : Block). IsParent found.parent b) block found.is_parent));
   within = λ j acc. (let allowed = admissible.each j acc in (allowed.block, allowed.stands));
 }

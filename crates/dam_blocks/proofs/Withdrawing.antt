@@ -25,6 +25,7 @@ use Rattle.dam_blocks.proofs.GroupCounts.{count_none}
 use Rattle.dam_blocks.proofs.Descending.{descends_is}
 use Rattle.dam_blocks.proofs.Participants.{over_accepted-agree}
 use Rattle.dam_blocks.proofs.Transfer.{prices_transfer, executions_transfer, welfare_transfer}
+use Rattle.dam_blocks.proofs.WelfareAtLeastZero.{same_block}
 
 -- ---- places
 -- the place in the whole of the block at place j of the rest
@@ -195,9 +196,6 @@ child_down whole rest i gone a b both at = record {
   child_stands = stands_down whole rest i gone b at.child both.without at.child_stands;
   is_parent = at.is_parent;
 }
-
-same_block : (a b : Block) → Some a ≡ Some b → a ≡ b
-same_block a b e = cc
 
 descends_down : (whole rest : ProblemState) (i : ℕ) (gone : Block) (a b j : ℕ) → AreBoth whole rest i gone → Descends whole.blocks (up i a) j
     → up i b ≡ j → Descends rest.blocks a b

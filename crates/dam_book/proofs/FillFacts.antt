@@ -10,7 +10,8 @@ use Rattle.dam_book.specs.declared.order.Order.{Order}
 use Rattle.dam_book.specs.Book.{Key, Row, same_key}
 use Rattle.dam_book.specs.inside.Gaps.{Label, same_label, Place, with_place, held, one_if_gap, gap_count, IsNumbered, AreNumbered}
 use Rattle.dam_book.proofs.Keys.{equal_or_not}
-use Rattle.dam_book.proofs.GapFacts.{AlikeAt, Alike, alike, and_false, none_head, flat, lookup-held, same_label-equal, some_is}
+use Rattle.dam_book.proofs.GapFacts.{AlikeAt, Alike, alike, and_false, flat, lookup-held, same_label-equal, some_is}
+use Rattle.dam_book.proofs.RowFacts.{none_head}
 
 -- No place has the label of a filler of another place.
 

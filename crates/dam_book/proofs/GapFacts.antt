@@ -17,6 +17,7 @@ use Rattle.dam_book.specs.inside.Gaps.{Label, same_label, Place, with_place, hel
 use Rattle.dam_book.specs.inside.Gaps.{is_child_place}
 use Rattle.dam_book.proofs.ChangeFacts.{set_value-changed}
 use Rattle.dam_book.proofs.Keys.{both_true, same_key-equal}
+use Rattle.dam_book.proofs.RowFacts.{none_head}
 
 same_key_equiv : IsEquivalence same_key
 same_key_equiv = record {
@@ -53,10 +54,6 @@ and_true false = refl
 pub and_false : (b : Bool) → (b && false) ≡ false
 and_false true = refl
 and_false false = refl
-
-pub none_head : {V : Type 0} (b : Bool) (v : V) (o : Option V) → cond b (Some v) o ≡ None → (b ≡ false) × (o ≡ None)
-none_head true v o e = absurd (cc)
-none_head false v o e = (refl, e)
 
 -- the order that a place holds, if there is one
 abbrev pub flat : Option (Option Order) → Option Order

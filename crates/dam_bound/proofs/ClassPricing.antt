@@ -26,9 +26,8 @@ use Rattle.dam_bound.proofs.ClassPlaces.{over_next, over_same}
 use Rattle.dam_bound.proofs.PeriodPrices.{AreEndsUnique}
 use Rattle.dam_bound.proofs.LineByLine.{IsAtPlace}
 use Rattle.dam_bound.proofs.LossPrices.{AreDescendants, class_price, joint_price_is, surplus_is}
-use Rattle.dam_bound.proofs.Members.{member_more, no_members}
+use Rattle.dam_bound.proofs.Members.{member_more, no_members, stands}
 use Rattle.dam_bound.proofs.PlaceSums.{times_within}
-use Rattle.dam_bound.proofs.Rivalry.{block_there}
 
 -- ---- the prices of the classes so far
 pub record ArePricedSoFar (problem : ProblemState) (sel : List Bool) (j : ℕ) (prices : List ℤ) : Type 0 where
@@ -121,7 +120,7 @@ gain_small problem prices j i gain few so_far =
     let l = so_far.small.at_least in let h = so_far.small.at_most in
     record { at_least = omega (arith, ints, l, few); at_most = omega (arith, ints, h, few) }
 
-surplus_there : (blocks : List Block) (prices : List ℤ) (i : ℕ) (b : Block) → slice_get blocks i ≡ Some b
+pub surplus_there : (blocks : List Block) (prices : List ℤ) (i : ℕ) (b : Block) → slice_get blocks i ≡ Some b
     → surplus_at blocks prices i ≡ surplus_of prices b.order
 surplus_there blocks prices i b at = ap (λ (o : Option Block). unwrap_or (option_map (λ (x : Block). surplus_of prices x.order) o) (pos 0)) at
 
@@ -130,7 +129,7 @@ pub whole_gain : AreEndsUnique → (problem : ProblemState) (sel : List Bool) (p
     → i < length problem.blocks → length (class_places problem) ≤ j → AreClassPrices problem sel prices
     → ArePrices problem.blocks sel 1 problem.hours day → IsGainSoFar problem prices j i gain → gain ≡ surplus_at problem.blocks day i
 whole_gain law problem sel prices day j i gain inside past priced are so_far =
-    let found = block_there problem.blocks i inside in let o = found.0.order in let places = class_places problem in
+    let found = stands problem.blocks i inside in let o = found.0.order in let places = class_places problem in
     let f = (λ (c : ℕ). get_or prices c (pos 0) *ℤ net_volume_of_block (c + 1) o) in
     let own = so_far.is found.0 found.1 in
     let whole = ap (over_places f) (take_all j places past) in

@@ -13,6 +13,7 @@ use Rattle.dam_blocks.specs.Family.{descends}
 use Rattle.dam_blocks.specs.Eligible.{surplus_of, surplus_at}
 use Rattle.dam_bound.specs.inside.Families.{IsFamily, AreFamilies}
 use Rattle.dam_bound.proofs.Accepted.{if_accepted}
+use Rattle.dam_blocks.proofs.Sums.{over_accepted-nil}
 
 -- ---- the descendants among the first places
 pub record AreDescendantsSoFar (blocks : List Block) (place count : ℕ) (descendants : List Bool) : Type 0 where
@@ -39,9 +40,6 @@ none_met blocks place family met are e h j l =
     unmet (descends blocks place j) met e (λ t. h (j, is ∙ t, is ∙ t))
 
 -- ---- sums over accepted places
-over_accepted-nil : (f : BlockTerms → ℤ) (bs : List Block) → over_accepted f bs [] ≡ pos 0
-over_accepted-nil f [] = refl
-over_accepted-nil f (b ∷ bs) = refl
 
 first_apart : (f : BlockTerms → ℤ) (b : Block) (bs : List Block) (c : Bool) (sel : List Bool)
     → over_accepted f (b ∷ bs) (c ∷ sel) ≡ if_accepted c (f b.order) +ℤ over_accepted f bs sel
@@ -63,7 +61,7 @@ from_place f (suc i) (c ∷ bs) b (a ∷ sel) e = from_place f i bs b sel e
 next_place : (i : ℕ) → suc i ≡ i + 1
 next_place i = omega arith
 
-stands : (bs : List Block) (i : ℕ) → i < length bs → (b : Block) × (slice_get bs i ≡ Some b)
+pub stands : (bs : List Block) (i : ℕ) → i < length bs → (b : Block) × (slice_get bs i ≡ Some b)
 stands [] i l = absurd (omega (arith, l))
 stands (b ∷ bs) zero l = (b, refl)
 stands (b ∷ bs) (suc i) l = stands bs i (omega (arith, l))

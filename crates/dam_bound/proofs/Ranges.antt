@@ -17,13 +17,11 @@ use Rattle.dam_blocks.specs.Eligible.{period_welfare, welfare_from}
 use Rattle.dam_blocks.specs.Magnitude.{IsWithin, greatest_selection_welfare}
 use Rattle.dam_bound.specs.Relaxed.{step_of, as_steps, relaxed_hours, relaxed_welfare}
 use Rattle.dam_bound.proofs.Standing.{stand}
-use Rattle.dam_bound.proofs.Covering.{Laws, added_some, raised_some}
+use Rattle.dam_bound.proofs.Covering.{Laws}
+use Rattle.dam_blocks.proofs.WelfareAtLeastZero.{added_some, raised_some}
+use Rattle.dam_blocks.proofs.Magnitudes.{volume_small}
 
 -- ---- the steps
-volume_small : (ps : List Pair) (t : ℕ) → ArePairs ps → volume_in ps t ≤ greatest_volume
-volume_small [] t are = omega arith
-volume_small (p ∷ ps) t are =
-    elim (p.0 == t) as (λ b. cond b p.1 (volume_in ps t) ≤ greatest_volume) [ true ↦ are.1.at_most | false ↦ volume_small ps t are.2 ]
 
 pub steps_in_range : (periods t : ℕ) (bs : List Block) → AreBlocks periods bs → AreInRange (as_steps t bs)
 steps_in_range periods t [] are = tt

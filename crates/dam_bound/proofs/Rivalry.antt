@@ -35,9 +35,10 @@ use Rattle.dam_bound.proofs.AtPlaces.{at_block, all_within, order_at, value_smal
 use Rattle.dam_bound.proofs.ClassPlaces.{times_plus, over_same, over_plus, over_times, over_next}
 use Rattle.dam_bound.proofs.Lining.{net_inside}
 use Rattle.dam_bound.proofs.LineByLine.{IsAtPlace}
-use Rattle.dam_bound.proofs.Members.{no_members}
+use Rattle.dam_bound.proofs.Members.{no_members, stands}
 use Rattle.dam_bound.proofs.PlaceSums.{times_within}
 use Rattle.dam_bound.proofs.PricesByClass.{class_price, gain_by, class_price_is, surplus_is}
+use Rattle.dam_bound.proofs.ClassPricing.{surplus_there}
 
 -- ---- two numbers, each times its weight
 pub record AreWeighed (weights : Weights) (x y : ℤ) (n : ℕ) : Type 0 where
@@ -196,10 +197,6 @@ two_is problem f weights a b places =
     (λ j c at. weigh_times weights (f c) (net_volume_of_block (c + 1) a) (net_volume_of_block (c + 1) b)) in
     omega (arith, ints, sell, buy, one, two, sum, each)
 
-surplus_there : (blocks : List Block) (prices : List ℤ) (i : ℕ) (b : Block) → slice_get blocks i ≡ Some b
-    → surplus_at blocks prices i ≡ surplus_of prices b.order
-surplus_there blocks prices i b at = ap (λ (o : Option Block). unwrap_or (option_map (λ (x : Block). surplus_of prices x.order) o) (pos 0)) at
-
 pub all_classes : (problem : ProblemState) (j sell buy : ℕ) (weights : Weights) (most : ℤ) → length (class_places problem) ≤ j
     → (a b : Block) → slice_get problem.blocks sell ≡ Some a → slice_get problem.blocks buy ≡ Some b
     → IsMostSoFar problem j sell buy weights most → IsMost problem sell buy weights most
@@ -219,10 +216,6 @@ all_classes problem j sell buy weights most past a b at there so_far selection p
         record { net = _; at_least = net.0; at_most = net.1; joint = class_price_is problem selection prices c are }
 
 -- ---- the numbers as the code has them
-pub block_there : (bs : List Block) (i : ℕ) → i < length bs → (b : Block) × (slice_get bs i ≡ Some b)
-block_there [] i l = absurd (omega (arith, l))
-block_there (b ∷ bs) zero l = (b, refl)
-block_there (b ∷ bs) (suc i) l = block_there bs i (omega (arith, l))
 
 -- a number that is small enough, as 64 bits hold it
 abbrev Held : ℕ → ℤ → Type 0

@@ -9,6 +9,7 @@ use Rattle.dam_hour.specs.Execution.{volume_on}
 use Rattle.dam_hour.specs.Price.{IsBetter, IsWorse}
 use Rattle.dam_hour.specs.Best.{signed}
 use Rattle.dam_curve.proofs.Units.{if_any}
+use Rattle.dam_hour.proofs.Numbers.{minus_times}
 
 -- ---- the volume of a step, if it stands under a height or up to it
 any_full : (g q : ℕ) → 0 < g → if_any g q ≡ q
@@ -118,12 +119,6 @@ part_cost a h q y b w = elim (cases_lt a h) [
         omega (arith, z, k))
   ]
 ]
-
-minus_times : (a b : ℤ) (x : ℕ) → (a -ℤ b) *ℤ pos x +ℤ b *ℤ pos x ≡ a *ℤ pos x
-minus_times a b x =
-    let e : up (a -ℤ b) + down a + up b ≡ down (a -ℤ b) + up a + down b = omega (arith, ints) in
-    let m = ap (λ (n : ℕ). n * x) e in
-    omega (arith, ints, m)
 
 -- a limit times a volume, by the limit's height
 limit_times : (limit c : ℤ) (a x : ℕ) → limit ≡ c +ℤ pos a → limit *ℤ pos x ≡ c *ℤ pos x +ℤ pos (a * x)

@@ -33,7 +33,7 @@ stands n e es (r ∷ rs) one = elim (r.number == n) as (λ (b : Bool). r.number 
 numbered-middle : (m : ℕ) (front back : List Entry) (e : Entry) → numbered m (front ++ e ∷ back) ≡ numbered m front ++ numbered m (e ∷ back)
 numbered-middle m front back e = filter-append (λ (x : Entry). x.number == m) front (e ∷ back)
 
-numbered-both : (m : ℕ) (front back : List Entry) → numbered m (front ++ back) ≡ numbered m front ++ numbered m back
+pub numbered-both : (m : ℕ) (front back : List Entry) → numbered m (front ++ back) ≡ numbered m front ++ numbered m back
 numbered-both m front back = filter-append (λ (x : Entry). x.number == m) front back
 
 no_more : (xs ys : List Entry) (e : Entry) → xs ++ e ∷ ys ≡ e ∷ [] → xs ++ ys ≡ []

@@ -17,7 +17,7 @@ use Rattle.dam_gate.specs.Pass.{is_close, knowing_nothing, new_account, with_rec
 use Rattle.dam_gate.specs.Settled.{numbered, receipts_of, IsSettled}
 use Rattle.dam_gate.specs.inside.Tally.{AreReceipts}
 use Rattle.dam_gate.specs.inside.Entering.{AreApart, AreServed, IsClosedByOperator}
-use Rattle.dam_gate.proofs.Accounts.{AreEntries, each_once}
+use Rattle.dam_gate.proofs.Accounts.{AreEntries, each_once, numbered-both}
 use Rattle.dam_gate.proofs.Counts.{first-entry, all-entries}
 use Rattle.dam_gate.proofs.Beginnings.{prefix_trans}
 use Rattle.dam_gate.proofs.Days.{accounts, filter-no, filter-yes, of_command, is_number, none_in_order, no_commands, no_closes, shares}
@@ -76,9 +76,6 @@ entries-front es (r ∷ front) back are = (are.0, entries-front es front back ar
 entries-back : (es front back : List Entry) → AreEntries es (front ++ back) → AreEntries es back
 entries-back es [] back are = are
 entries-back es (r ∷ front) back are = entries-back es front back are.1
-
-numbered-both : (m : ℕ) (front back : List Entry) → numbered m (front ++ back) ≡ numbered m front ++ numbered m back
-numbered-both m front back = filter-append (λ (x : Entry). x.number == m) front back
 
 -- two lists that have each number once, and no entry both, have it once together
 both-once : (es front back : List Entry) (m : ℕ) → AreEntries es (front ++ back) → length (numbered m front) ≤ 1

@@ -28,9 +28,7 @@ use Rattle.clap.specs.declared.error.kind.ErrorKind.TheVariants as kind
 use Rattle.clap.specs.declared.builder.action.ArgAction.TheVariants.{Set, Help}
 use Rattle.clap.specs.declared.parser.matches.ValueSource.{ValueSource}
 use Rattle.clap.specs.declared.parser.matches.ValueSource.TheVariants.{CommandLine, DefaultValue}
-
-pub no_value : {X : Type 0} (x : X) → None ≡ Some x → ⊥
-no_value x is = cc
+use Rattle.dam_line.proofs.Program.{no_value}
 
 pub same_value : {X : Type 0} (x y : X) → Some x ≡ Some y → x ≡ y
 same_value x y is = cc

@@ -21,7 +21,7 @@ pub is_free-program : is_simple_and_free program ≡ true
 unfolding clap_on_literals
 is_free-program = refl
 
-no_value : {X : Type 0} (x : X) → None ≡ Some x → ⊥
+pub no_value : {X : Type 0} (x : X) → None ≡ Some x → ⊥
 no_value x is = cc
 
 -- each shape has a subcommand's name

@@ -18,7 +18,8 @@ use Rattle.clap.proofs.OnLiterals.{clap_on_literals}
 use Rattle.clap.proofs.ValueTestLemmas.{accepts-Accepts}
 use Rattle.dam_line.specs.Line.{HasPlan, IsInItsRange, IsOption, OptionTerms, cut, is_number, nodes, number_in, program, read_number}
 use Rattle.dam_line.specs.Line.{rule_for, workers}
-use Rattle.dam_line.proofs.Accepted.{Each, IsGiven, IsUsual, Stands, level_gives, none_of_both, no_value, same_value}
+use Rattle.dam_line.proofs.Accepted.{Each, IsGiven, IsUsual, Stands, level_gives, none_of_both, same_value}
+use Rattle.dam_line.proofs.Program.{no_value}
 use Rattle.dam_line.proofs.Numbers.{digits_pass}
 
 -- ---- a text that passes the option's parser

@@ -28,6 +28,7 @@ use Rattle.dam_results.specs.declared.published.RowResult.TheVariants.{Hour as H
 use Rattle.dam_results.specs.Published.{prices_of, IsPeriodResult, ArePeriodResults, IsExecuted, HasSurplus, AreRowResults}
 use Rattle.dam_results.specs.Clearing.{IsClearing}
 use Rattle.dam_results.specs.Market.{price_in, published_gains, published_trades}
+use Rattle.dam_blocks.proofs.Families.{where_true}
 
 -- the laws below
 pub record AddingLaws : Type 0 where
@@ -45,7 +46,7 @@ same_some a b e = cc
 pub same_hour : (t i s j : ℕ) → AtHour t i ≡ AtHour s j → (t ≡ s) × (i ≡ j)
 same_hour t i s j e = (cc, cc)
 
-same_block : (i j : ℕ) → AtBlock i ≡ AtBlock j → i ≡ j
+pub same_block : (i j : ℕ) → AtBlock i ≡ AtBlock j → i ≡ j
 same_block i j e = cc
 
 hour_no_block : (t i j : ℕ) → AtHour t i ≡ AtBlock j → ⊥
@@ -268,10 +269,6 @@ welfare_adds_up laws book welfare periods rows is clearing =
     ∙ ap (λ (z : ℤ). Some z) (rows_gain laws book sel periods executions.0 [] book.rows rows day refl published.rows_are))
 
 -- ---- the volumes of a period
-abbrev where_true : Bool → ℤ → ℤ
-where_true true x = x
-where_true false x = pos 0
-
 no_selection : (f : BlockTerms → ℤ) (bs : List Block) → over_accepted f bs [] ≡ pos 0
 no_selection f [] = refl
 no_selection f (b ∷ bs) = refl

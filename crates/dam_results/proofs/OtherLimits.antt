@@ -29,6 +29,7 @@ use Rattle.dam_results.specs.Published.{prices_of, ArePeriodResults, IsRowResult
 use Rattle.dam_results.specs.Clearing.{IsBestSelection, IsClearing}
 use Rattle.dam_results.specs.Market.{IsWithoutRow, IsWithOtherLimit}
 use Rattle.dam_results.proofs.Withdrawn.{parted, blocks_split, steps_split, gone_block}
+use Rattle.dam_results.proofs.AddingUp.{same_some}
 
 -- ---- a block less
 pub record OneMoreLaws : Type 0 where
@@ -97,9 +98,6 @@ block_line problem sel prices who name n (BlockResult own named accepted surplus
 same_line : (who name own named : List ℕ) (a b : Bool) (x y : ℤ) → BlockResult who name a x ≡ BlockResult own named b y
     → (who ≡ own) × (name ≡ named) × (a ≡ b)
 same_line who name own named a b x y e = (cc, cc, cc)
-
-same_some : {A : Type 0} (a b : A) → Some a ≡ Some b → a ≡ b
-same_some a b e = cc
 
 -- the published line of a block in a clearing
 line_in : (book : BookState) (front back : List Row) (key : Key) (order : BlockTerms) (place welfare : ℕ) (periods : List PeriodResult)

@@ -18,15 +18,13 @@ use Rattle.dam_results.specs.declared.published.RowResult.{RowResult}
 use Rattle.dam_results.specs.declared.published.RowResult.TheVariants.{Hour as HourResult, Block as BlockResult}
 use Rattle.dam_results.specs.Published.{prices_of, IsPeriodResult, ArePeriodResults, IsExecuted, HasSurplus, IsRowResult, AreRowResults}
 use Rattle.dam_results.specs.Published.{ArePublished}
+use Rattle.dam_results.proofs.AddingUp.{same_some, same_hour, same_block}
 
 -- the law of one period
 pub record IsOfOne : Type 0 where
   pub ends : (steps : List Step) (net low high other_low other_high : ℤ) → AreEnds steps net low high
       → AreEnds steps net other_low other_high → (low ≡ other_low) × (high ≡ other_high)
   pub best : (steps : List Step) (net : ℤ) (xs ys : List ℕ) → IsBest steps net xs → IsBest steps net ys → xs ≡ ys
-
-same_some : {A : Type 0} (a b : A) → Some a ≡ Some b → a ≡ b
-same_some a b e = cc
 
 price-one : IsOfOne → (ss : List Step) (net p q : ℤ) → IsClearingPrice ss net p → IsClearingPrice ss net q → p ≡ q
 price-one law ss net p q a b =
@@ -71,12 +69,6 @@ surplus-one : (blocks : List Block) (prices : List ℤ) (i : ℕ) (x y : ℤ) �
 surplus-one blocks prices i x y a b =
     let block : a.block ≡ b.block = same_some a.block b.block (sym a.stands ∙ b.stands) in
     a.surplus_is ∙ ap (λ (b : Block). surplus_of prices b.order) block ∙ sym b.surplus_is
-
-same_hour : (t i s j : ℕ) → AtHour t i ≡ AtHour s j → (t ≡ s) × (i ≡ j)
-same_hour t i s j e = (cc, cc)
-
-same_block : (i j : ℕ) → AtBlock i ≡ AtBlock j → i ≡ j
-same_block i j e = cc
 
 apart : {A : Type 0} (t i j : ℕ) (at : Place) → at ≡ AtHour t i → at ≡ AtBlock j → A
 apart t i j at a b = absurd (cc)

@@ -14,17 +14,13 @@ use Rattle.dam_bound.specs.Prefix.{IsCompletion}
 use Rattle.dam_search.specs.Piece.{IsFind, IsSound}
 use Rattle.dam_search.specs.inside.PriceWalk.{are_distinct, IsDecisionOrder, IsNode, IsOpenFind, FindsOpen, CoversOpen}
 use Rattle.dam_search.proofs.Ordering.{distinct_parts}
-use Rattle.dam_search.proofs.Prefixes.{length-choice}
+use Rattle.dam_blocks.proofs.Choices.{length-choice}
+use Rattle.dam_search.proofs.Sets.{accepts-none}
 
 -- ---- the decisions of the piece
 
-none_past : (n i : ℕ) → accepts (replicate n false) i ≡ false
-none_past zero i = refl
-none_past (suc n) zero = refl
-none_past (suc n) (suc i) = none_past n i
-
 accepts_past : (prefix : List Bool) (n i : ℕ) → length prefix ≤ i → accepts (prefix ++ replicate n false) i ≡ false
-accepts_past [] n i h = none_past n i
+accepts_past [] n i h = accepts-none n i
 accepts_past (x ∷ prefix) n zero h = absurd (omega (arith, h))
 accepts_past (x ∷ prefix) n (suc i) h = accepts_past prefix n i (omega (arith, h))
 

@@ -17,6 +17,7 @@ use Rattle.dam_search.specs.Piece.{IsSound}
 use Rattle.dam_search.specs.inside.PriceWalk.{AgreesUnder, IsNode, IsDecisionOrder, IsSlack, with_place_if}
 use Rattle.dam_search.proofs.FirstNode.{among_first, not_among_before, piece_sound}
 use Rattle.dam_search.proofs.Opens.{finds_none, open_any, open_here}
+use Rattle.dam_bound.proofs.Opening.{differ}
 
 -- ---- fewer places are open
 taken_positive : (accept : Bool) (z : ℤ) → pos 0 ≤ℤ slack_taken accept z
@@ -62,11 +63,6 @@ pub agrees_here : (at : ℕ) (accepted sel : List Bool) → AgreesUnder (at + 1)
 agrees_here at accepted sel agrees = agrees at (omega arith)
 
 -- ---- the slack of a node
-differ : (m n : ℕ) → m ≢ n → (m == n) ≡ false
-differ m n ne = elim (m == n) as (λ b. (m == n) ≡ b → b ≡ false) [
-  | true ↦ λ e. absurd (ne (eqb-true m n e))
-  | false ↦ λ e. refl
-] refl
 
 pub others_among : (place p : ℕ) (left : List ℕ) → p ≢ place → is_among p left ≡ is_among p (place ∷ left)
 others_among place p left apart = sym (ap (λ (b : Bool). b || is_among p left) (differ p place apart))

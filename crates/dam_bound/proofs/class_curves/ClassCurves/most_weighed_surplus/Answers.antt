@@ -7,7 +7,8 @@ use Rattle.dam_bound.specs.ClassCurves.{AreClassCurves}
 use Rattle.dam_bound.specs.declared.class_curves.Class.{Class}
 use Rattle.dam_bound.specs.inside.Rivals.{weigh}
 use Rattle.dam_bound.proofs.LineByLine.{own_class, as_many}
-use Rattle.dam_bound.proofs.Rivalry.{no_class, class_more, all_classes, block_there, value_held, net_held, values_held, volume_held}
+use Rattle.dam_bound.proofs.Rivalry.{no_class, class_more, all_classes, value_held, net_held, values_held, volume_held}
+use Rattle.dam_bound.proofs.Members.{stands}
 use Rattle.dam_bound.proofs.class_curves.ClassCurves.most_weighed_surplus.Goals as goal
 
 abbrev nothing : Class
@@ -102,7 +103,7 @@ returns g c =
     let long = ap (λ (xs : List Class). length xs) c.deref-class-items.ensures.value in
     let past = c.loop-class-test.false in
     let many = as_many c.args.self.now _ _ are.classes_are in
-    let sell = block_there c.args.self.now.blocks c.args.sell c.requires.sell in
-    let buy = block_there c.args.self.now.blocks c.args.buy c.requires.buy in
+    let sell = stands c.args.self.now.blocks c.args.sell c.requires.sell in
+    let buy = stands c.args.self.now.blocks c.args.buy c.requires.buy in
     all_classes c.args.self.now c.loop-class.class-index c.args.sell c.args.buy c.args.weights _ (omega (arith, past, long, many))
     sell.0 buy.0 sell.1 buy.1 c.loop-class.invariant
