@@ -20,10 +20,12 @@ use Rattle.dam_desk.specs.InputLines.{Says, record_of, text_after}
 use Rattle.dam_desk.specs.declared.desk_day.Day.{Day}
 use Rattle.dam_desk.specs.declared.reading.Said.TheVariants.{Command as Commands}
 use Rattle.dam_desk.specs.inside.Intake.{periods_of}
-use Rattle.dam_results.proofs.SpelledRecords.{one_from}
 
+first_from : (n : ℕ) (s : State) (xs : List ℕ) (row : Fields) (t : State) (ys : List ℕ)
+    → next_record default_config s [] [] xs ≡ Some (row, t, ys)
+    → records_from default_config (suc n) s xs ≡ row ∷ records_from default_config n t ys
 unfolding records_from
-one_from n s xs row t ys e = rw e refl
+first_from n s xs row t ys e = rw e refl
 
 -- the record of a day, and then what comes after it
 after_day : (periods : ℕ) → is_day periods ≡ true → (text : List ℕ) (n : ℕ)
@@ -32,7 +34,7 @@ after_day : (periods : ℕ) → is_day periods ≡ true → (text : List ℕ) (n
 after_day periods day text n =
     subst (λ (line : List ℕ). records_from default_config (suc n) st.StartRecord (line ++ text)
     ≡ day_row periods ∷ records_from default_config n st.StartRecord text) (row_text-line (day_row periods) (day_fields periods day))
-    (one_from n st.StartRecord (row_text default_writer (day_row periods) ++ text) (day_row periods) st.StartRecord text
+    (first_from n st.StartRecord (row_text default_writer (day_row periods) ++ text) (day_row periods) st.StartRecord text
     (read-write (day_row periods) text))
 
 abbrev first_of : List Fields → Fields

@@ -12,12 +12,16 @@ use Rattle.dam_store.specs.FileLines.{has_byte, text_of}
 use Rattle.dam_desk.specs.inside.Intake.{records_text}
 use Rattle.dam_desk.specs.inside.TextLines.{BeginsWith, is_ended}
 use Rattle.dam_desk.specs.declared.desk_day.Day.{Day}
-use Rattle.dam_store.proofs.Lines.{split_at, text-append}
 
 pub none_has : (bytes : List ℕ) → ((k : ℕ) → k < length bytes → (slice_index bytes k == 10) ≡ true → ⊥) → has_byte 10 bytes ≡ false
 none_has [] none = refl
 none_has (b ∷ bytes) none = or_from (b == 10) (has_byte 10 bytes) (false_from_ne_true (b == 10) (none 0 (omega arith))) (none_has bytes
     (λ k low. none (suc k) (omega arith)))
+
+split_at : (bytes : List ℕ) (k : ℕ) → k < length bytes → bytes ≡ take k bytes ++ slice_index bytes k ∷ drop (suc k) bytes
+split_at [] k low = absurd (omega arith)
+split_at (b ∷ bytes) zero low = refl
+split_at (b ∷ bytes) (suc k) low = ap (λ (l : List ℕ). b ∷ l) (split_at bytes k (omega arith))
 
 none_before : (bytes : List ℕ) (k : ℕ) → ((j : ℕ) → j < k → (slice_index bytes j == 10) ≡ true → ⊥) → has_byte 10 (take k bytes) ≡ false
 none_before bytes zero none = refl
@@ -33,6 +37,11 @@ first_of bytes k low none newline = record {
   whole = none_before bytes k none;
 }
 
+pub text_snoc : (lines : List (List ℕ)) (line : List ℕ) → text_of (lines ++ line ∷ []) ≡ text_of lines ++ (line ++ 10 ∷ [])
+text_snoc [] line = refl
+text_snoc (l ∷ lines) line = ap (λ (t : List ℕ). l ++ 10 ∷ t) (text_snoc lines line)
+    ∙ sym (append_assoc l (10 ∷ text_of lines) (line ++ 10 ∷ []))
+
 pub text_more : (lines more : List (List ℕ)) → text_of (lines ++ more) ≡ text_of lines ++ text_of more
 text_more [] more = refl
 text_more (l ∷ lines) more = ap (λ (t : List ℕ). l ++ 10 ∷ t) (text_more lines more) ∙ sym (append_assoc l (10 ∷ text_of lines) (text_of more))
@@ -43,7 +52,7 @@ pub line_more : (lines : List (List ℕ)) (begun line after : List ℕ)
 line_more lines begun line after =
     ap (λ (t : List ℕ). text_of lines ++ t) (sym (append_assoc begun line (10 ∷ after)) ∙ sym (append_assoc (begun ++ line) (10 ∷ []) after))
     ∙ sym (append_assoc (text_of lines) ((begun ++ line) ++ 10 ∷ []) after)
-    ∙ ap (λ (t : List ℕ). t ++ after) (sym (text-append lines (begun ++ line)))
+    ∙ ap (λ (t : List ℕ). t ++ after) (sym (text_snoc lines (begun ++ line)))
 
 pub none_both : (front back : List ℕ) → has_byte 10 front ≡ false → has_byte 10 back ≡ false → has_byte 10 (front ++ back) ≡ false
 none_both [] back none also = also

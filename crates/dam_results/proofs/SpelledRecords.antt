@@ -172,7 +172,7 @@ unfolding records_from
 blank_from zero s t xs ys e = refl
 blank_from (suc n) s t xs ys e = rw e refl
 
-pub one_from : (n : ℕ) (s : State) (xs : List ℕ) (row : Fields) (t : State) (ys : List ℕ) → next_record default_config s [] [] xs ≡ Some
+one_from : (n : ℕ) (s : State) (xs : List ℕ) (row : Fields) (t : State) (ys : List ℕ) → next_record default_config s [] [] xs ≡ Some
     (row, t, ys)
     → records_from default_config (suc n) s xs ≡ row ∷ records_from default_config n t ys
 unfolding records_from

@@ -70,7 +70,7 @@ none_has [] none = refl
 none_has (b ∷ bytes) none = or_from (b == 10) (has_newline bytes) (false_from_ne_true (b == 10) (none 0 (omega arith))) (none_has bytes
     (λ k low. none (suc k) (omega arith)))
 
-pub split_at : (bytes : List ℕ) (k : ℕ) → k < length bytes → bytes ≡ take k bytes ++ slice_index bytes k ∷ drop (suc k) bytes
+split_at : (bytes : List ℕ) (k : ℕ) → k < length bytes → bytes ≡ take k bytes ++ slice_index bytes k ∷ drop (suc k) bytes
 split_at [] k low = absurd (omega arith)
 split_at (b ∷ bytes) zero low = refl
 split_at (b ∷ bytes) (suc k) low = ap (λ (l : List ℕ). b ∷ l) (split_at bytes k (omega arith))
@@ -105,7 +105,7 @@ first_line (b ∷ bytes) (suc k) low mark none newline =
       within = omega arith;
     }
 
-pub text-append : (lines : List (List ℕ)) (line : List ℕ) → text_of (lines ++ line ∷ []) ≡ text_of lines ++ (line ++ 10 ∷ [])
+text-append : (lines : List (List ℕ)) (line : List ℕ) → text_of (lines ++ line ∷ []) ≡ text_of lines ++ (line ++ 10 ∷ [])
 text-append [] line = refl
 text-append (l ∷ lines) line = ap (λ (t : List ℕ). l ++ 10 ∷ t) (text-append lines line)
     ∙ sym (append_assoc l (10 ∷ text_of lines) (line ++ 10 ∷ []))

@@ -2,8 +2,7 @@
 use Rattle.std.proofs.Common.{◌++◌, ◌∷◌, [], List, ℕ, sym, ap, ◌∙◌, append_assoc, append-nil}
 use Rattle.dam_store.specs.FileLines.{text_of}
 use Rattle.dam_desk.specs.inside.TextLines.{is_ended}
-use Rattle.dam_desk.proofs.Texts.{ended_after, ended_none}
-use Rattle.dam_store.proofs.Lines.{text-append}
+use Rattle.dam_desk.proofs.Texts.{ended_after, ended_none, text_snoc}
 use Rattle.dam_desk.proofs.intake.push_lines.Goals as goal
 
 pub loop-line-preserved : goal.loop-line-preserved
@@ -14,7 +13,7 @@ loop-line-preserved c ended =
     let after = c.in-Some.after.now in
     let first = c.in-Some.ensures.first in (
       sym (ended_after line after) ∙ ap is_ended (sym first.split) ∙ so_far.0,
-      ap (λ (ls : List (List ℕ)). text_of ls ++ after) c.in_ok-push_line.ensures ∙ ap (λ (t : List ℕ). t ++ after) (text-append lines line)
+      ap (λ (ls : List (List ℕ)). text_of ls ++ after) c.in_ok-push_line.ensures ∙ ap (λ (t : List ℕ). t ++ after) (text_snoc lines line)
           ∙ append_assoc (text_of lines) (line ++ 10 ∷ []) after
           ∙ ap (λ (t : List ℕ). text_of lines ++ t) (append_assoc line (10 ∷ []) after ∙ sym first.split) ∙ so_far.1,
     )
