@@ -1,4 +1,3 @@
-#!/usr/bin/env python3
 """The desk compared with `dam replay`, which keeps nothing, and with python3's sqlite3 on the same disk, which keeps each record as a
 row, in one transaction a batch (WAL, `synchronous=FULL`).
 
@@ -19,11 +18,10 @@ import time
 from concurrent.futures import ThreadPoolExecutor
 from pathlib import Path
 
-from figures import MIB, PER_SECOND, Figures
-from running import DAM, DESK, call_in_turns, measure_peak_mebibytes, run_or_exit, run_to_file_or_exit
+from figures import MIB, PER_SECOND
+from running import DAM, DESK, OUT, call_in_turns, make_journal_or_exit, measure_peak_mebibytes, run_or_exit
 
-JOURNAL, MEMORY = "out/journal.csv", "/dev/shm"
-BLOCKS = "out/desk-blocks.csv"
+JOURNAL, MEMORY = f"{OUT}/journal.csv", "/dev/shm"
 PIPE_BYTES = 1 << 20  # that a pipe to a desk holds
 TURNS, DISK_TURNS = 31, 5
 TARGETS = {1: 0.8, 64: 2, 1_000: 2}  # times as many records as sqlite3, by the records of a batch
@@ -102,11 +100,11 @@ def run_and_time_desk_or_exit(folder, batches):
 
 def read_answers_or_exit(desk, batches):
     """The next answers of a desk, one for each line of these batches."""
-    parts, left = [], sum(batch.count(b"\n") for batch in batches)
+    answers, left = [], sum(batch.count(b"\n") for batch in batches)
     while left > 0:
-        parts.append(os.read(desk.stdout.fileno(), 1 << 16) or sys.exit(f"the desk ended, and {left} lines weren't answered"))
-        left -= parts[-1].count(b"\n")
-    return b"".join(parts)
+        answers.append(os.read(desk.stdout.fileno(), 1 << 16) or sys.exit(f"the desk ended, and {left} lines weren't answered"))
+        left -= answers[-1].count(b"\n")
+    return b"".join(answers)
 
 
 def write_and_time_sqlite(folder, size):
@@ -124,26 +122,22 @@ def write_and_time_sqlite(folder, size):
 
 
 def run_and_record_memory(figures, folder):
-    run_to_file_or_exit(BLOCKS, "./make_journal.py", "blocks")
-    for about, journal in [("10,000 records", JOURNAL), ("10,000 blocks of 100 volumes", BLOCKS)]:
+    blocks = make_journal_or_exit("desk-blocks", "make_journal.py", "blocks")
+    for about, journal in [("10,000 records", JOURNAL), ("10,000 blocks of 100 volumes", blocks)]:
         replay = measure_peak_mebibytes([DAM, "replay"], journal)
         file = remove_files_and_return_desk_path(folder)
         for what, given in [("a desk", journal), ("an opening", os.devnull)]:
             more, detail = measure_peak_mebibytes([DESK, file], given) - replay, f"dam replay has {MIB(replay)}"
-            figures.record_at_most(f"memory of {what} above dam replay's, {about}", more, 10, shown=MIB, detail=detail)
+            figures.record_at_most(f"memory of {what} above dam replay's, {about}", [more], 10, shown=MIB, details=detail)
 
 
-def main():
-    figures = Figures("out/desk.tsv")
-    in_memory = MEMORY if os.path.isdir(MEMORY) else "out"
+def run_and_record(figures, _given):
+    make_journal_or_exit("journal", "make_journal.py")
+    in_memory = MEMORY if os.path.isdir(MEMORY) else OUT
     with tempfile.TemporaryDirectory(dir=in_memory, prefix="desk-") as folder:
         run_and_record_writing(figures, folder)
         run_and_record_opening(figures, folder, "in memory")
         run_and_record_memory(figures, folder)
-    with tempfile.TemporaryDirectory(dir="out", prefix="desk-") as folder:
+    with tempfile.TemporaryDirectory(dir=OUT, prefix="desk-") as folder:
         run_and_record_opening(figures, folder, "on disk")
         run_and_record_rates(figures, folder)
-
-
-if __name__ == "__main__":
-    main()

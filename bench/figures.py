@@ -1,6 +1,45 @@
-"""A line for each figure of the bench: its name, the figure, its target, and whether the target holds."""
+"""A line for each figure of the bench: its name, the figure, its quartiles, its target, and the verdict: whether the target holds.
+
+A figure is the median of several runs, with their quartiles. The quartiles of a multiple are the least and the greatest that the quartiles
+of both make. A target `holds` if the median and both quartiles meet it, and is `MISSED` if none of them does. Otherwise the verdict is
+`unclear`: the runs differ too much to decide."""
 
 import statistics
+from typing import NamedTuple
+
+HOLDS, MISSED, UNCLEAR = "holds", "MISSED", "unclear"
+ONE_RUN = "one run"  # in place of quartiles
+
+
+class Figure(NamedTuple):
+    """A figure in words, as a row of `measured/` has it. Without a target it has no verdict, and a count has no quartiles."""
+
+    name: str
+    figure: str
+    quartiles: str
+    target: str
+    verdict: str
+    details: str
+
+
+class Quartiles(NamedTuple):
+    """The median of several runs, between the lower and the upper quartile. One run has no others."""
+
+    lower: float
+    median: float
+    upper: float
+
+    def multiple_of(self, other):
+        return Quartiles(self.lower / other.upper, self.median / other.median, self.upper / other.lower)
+
+
+def quartiles_of(values):
+    return Quartiles(*(statistics.quantiles(values, method="inclusive") if len(values) > 1 else [values[0]] * 3))
+
+
+def verdict_of(is_met):
+    """The verdict on a target that these values meet, or not."""
+    return HOLDS if all(is_met) else UNCLEAR if any(is_met) else MISSED
 
 
 def seconds_text(value):
@@ -19,39 +58,50 @@ def multiple_text(value, digits=2):
     return f"{value:.{digits}g} x" if value < 0.1 else f"{value:.{digits}f} x" if value < 100 else f"{value:,.0f} x"
 
 
+def span_text(least, greatest):
+    """From one figure to another, with their unit once if it is the same."""
+    number, _, unit = least.partition(" ")
+    return f"{number if unit and greatest.endswith(f' {unit}') else least} to {greatest}"
+
+
 class Figures:
-    """The figures of a part: each is printed, and kept in a file for `page.py`."""
+    """The figures of a part, each of which is printed."""
 
-    def __init__(self, path):
-        self.path = path
+    def __init__(self):
+        self.recorded = []
 
-    def record(self, what, shown, target="", holds=None, detail=""):
-        """`holds` is None if there is no target."""
-        verdict = {None: "", True: "holds", False: "MISSED"}[holds]
-        print(f"{what:<76} {shown:>10}  {target:<18} {verdict:<7} {detail}".rstrip(), flush=True)
-        with open(self.path, "a") as kept:
-            print(what, shown, target, verdict, detail, sep="\t", file=kept)
+    def record(self, name, figure, target="", is_met=None, details=""):
+        """Records a figure that isn't of several runs. `is_met` is None if there is no target."""
+        self.keep_and_print(Figure(name, figure, "", target, "" if is_met is None else verdict_of([is_met]), details))
 
-    def record_at_most(self, what, value, target, shown=seconds_text, detail=""):
-        self.record(what, shown(value), f"at most {shown(target)}", value <= target, detail)
+    def keep_and_print(self, figure):
+        self.recorded.append(figure)
+        print("{:<76} {:>10}  {:<18} {:<18} {:<7} {}".format(*figure).rstrip(), flush=True)
 
-    def record_ratio(self, what, ours, theirs, most=None, least=None, shown=seconds_text, note=""):
-        """Records the median of `ours` as a multiple of `theirs`' median; the details have both, and the multiple for the least of both."""
-        own, their = statistics.median(ours), statistics.median(theirs)
-        value = own / their
-        bound = most or least
-        holds = None if not bound else value <= most if most else value >= least
-        # a missed target has no equal figure
-        digits = 3 if holds is False and multiple_text(value) == multiple_text(bound) else 2
-        target = f"at most {multiple_text(most, digits)}" if most else f"at least {multiple_text(least, digits)}" if least else ""
-        detail = f"{shown(own)} and {shown(their)}"
-        if len(ours) > 1:
-            detail += f"; of the least {multiple_text(min(ours) / min(theirs))}"
-        if note:
-            detail += f"; {note}"
-        self.record(what, multiple_text(value, digits), target, holds, detail)
+    def record_quartiles(self, name, value, shown, most=None, least=None, details=""):
+        """Records a median between its quartiles, and the verdict on its target, which is `most`, `least` or none."""
+        bound = least if most is None else most
+        verdict = "" if bound is None else verdict_of([each >= bound if most is None else each <= bound for each in value])
+        target = "" if bound is None else f"at {'least' if most is None else 'most'} {shown(bound)}"
+        quartiles = ONE_RUN if value.lower == value.upper else span_text(shown(value.lower), shown(value.upper))
+        self.keep_and_print(Figure(name, shown(value.median), quartiles, target, verdict, details))
 
-    def record_times(self, what, ours, theirs, most=None, least=None):
+    def record_at_most(self, name, values, most, shown=seconds_text, details=""):
+        self.record_quartiles(name, quartiles_of(values), shown, most=most, details=details)
+
+    def record_ratio(self, name, ours, theirs, most=None, least=None, shown=seconds_text, note=""):
+        """Records the median of our runs as a multiple of the median of theirs; the details have both."""
+        self.record_multiple(name, quartiles_of(ours), quartiles_of(theirs), most, least, shown, note)
+
+    def record_multiple(self, name, ours, theirs, most=None, least=None, shown=seconds_text, note=""):
+        value, bound = ours.multiple_of(theirs), least if most is None else most
+        details = "; ".join(filter(None, [f"{shown(ours.median)} and {shown(theirs.median)}", note]))
+        # a figure on the wrong side of its target doesn't look equal to it
+        is_equal = bound is not None and value.median != bound and multiple_text(value.median) == multiple_text(bound)
+        digits = 3 if is_equal and (value.median > bound) == (most is not None) else 2
+        self.record_quartiles(name, value, lambda each: multiple_text(each, digits), most, least, details)
+
+    def record_times(self, name, ours, theirs, most=None, least=None):
         """Records the wall and the processor time of runs as multiples of those of theirs."""
         for field in ("wall", "processor"):
-            self.record_ratio(f"{what}, {field} time", *([getattr(each, field) for each in runs] for runs in (ours, theirs)), most, least)
+            self.record_ratio(f"{name}, {field} time", *([getattr(each, field) for each in runs] for runs in (ours, theirs)), most, least)

@@ -6,6 +6,7 @@ from dataclasses import dataclass
 from typing import NamedTuple
 
 HOURS = 24
+PERIODS = (1, 4)  # of an hour
 BLOCKS, MOST_HOURLY = 24, 4_000  # the limits of a book
 PARTICIPANTS = ["ALPHA", "BRAVO", "CHARLIE", "DELTA", "ECHO", "FOXTROT", "GOLF", "HOTEL"]
 CLOSE = "close,,,,,,,,"
@@ -34,40 +35,39 @@ def draw_side(rng):
 
 
 class DayMarket:
-    """The periods of a day, of which each hour has `parts`, and the generator of its orders."""
+    """The periods of a day, of which each hour has as many, and the generator of its orders."""
 
-    def __init__(self, parts, rng):
-        self.parts, self.rng = parts, rng
-        self.count = HOURS * parts  # of periods
+    def __init__(self, per_hour, rng):
+        self.per_hour, self.rng = per_hour, rng
+        self.periods = HOURS * per_hour
 
     def price_at(self, period):
         """The price around which the hourly orders of a period lie, in cents per MWh."""
-        hour = 1 + (period - 1) // self.parts
+        hour = 1 + (period - 1) // self.per_hour
         return round(6_000 + 2_500 * math.sin((hour - 7) * math.pi / 12))
 
     def periods_of(self, first, last):
         """The periods of these hours, without the last one."""
-        return range(1 + self.parts * (first - 1), 1 + self.parts * (last - 1))
+        return range(1 + self.per_hour * (first - 1), 1 + self.per_hour * (last - 1))
 
     def draw_side(self):
         return draw_side(self.rng)
 
 
 class DrawnBook(NamedTuple):
-    """A book with the most blocks: its name, the script and the arguments that print it, and those that print it without blocks."""
+    """A book with the most blocks: its name, and the script and the arguments that print it."""
 
     name: str
     kind: str
     script: str
     words: list[str]
-    words_without_blocks: list[str]
     is_thin: bool
     note: str = ""  # a fact about the book that explains a long search
 
 
-def parse_number_or_exit(name, word, allowed, of=""):
-    """A number on the command line, one of the allowed ones."""
+def parse_number_or_exit(name, word, allowed):
+    """A number on the command line, one of the allowed ones: a range, or two numbers."""
     if not (word.isascii() and word.isdecimal()) or int(word) not in allowed:
-        program, of = sys.argv[0].rpartition("/")[2], of or f"a number from 0 to {allowed[-1]}"
-        sys.exit(f"{program}: {name} is '{word}' and should be {of}")
+        wanted = f"a number from 0 to {allowed[-1]}" if isinstance(allowed, range) else "{} or {}".format(*allowed)
+        sys.exit(f"{sys.argv[0].rpartition('/')[2]}: {name} is '{word}' and should be {wanted}")
     return int(word)

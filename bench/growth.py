@@ -1,4 +1,3 @@
-#!/usr/bin/env python3
 """How a search grows with its book: each family with 8 to 24 blocks and 500 hourly orders, and `base`, with baseload blocks within 50 cents
 of the mean price and 3,800 hourly orders; on days of 24 and of 96 periods. An enumeration would try 2^n selections of n blocks.
 
@@ -10,28 +9,27 @@ import sys
 
 import make_blocks
 import make_family
-from figures import Figures
-from running import TWIN, run_in_time_or_exit_or_none, run_to_file_or_exit
+from running import TOP, TWIN, make_journal_or_exit, run_in_time_or_exit_or_none
 
 BLOCKS = (8, 12, 16, 20, 24)
 MOST_NODES = 2 ** (BLOCKS[-1] + 1) // 100  # nodes
-PERIODS = {24: "1", 96: "4"}  # and how many of them an hour has
+PERIODS = {24: 1, 96: 4}  # and how many of them an hour has
 BASE = "base"
 FAMILIES = [*make_family.FAMILIES, BASE]
-PICTURE = "../docs/growth.svg"
+PICTURE = f"{TOP}/docs/growth.svg"
 
 
-def write_book_and_measure_or_exit_or_none(family, periods, blocks):
+def make_book_and_count_nodes_or_exit_or_none(family, periods, blocks):
     """The nodes of a book, which is written first. Returns None if the twin didn't end in time, and ends the bench if it failed."""
-    usual = ["./make_blocks.py", BASE, str(make_blocks.USUAL), "1", PERIODS[periods], str(blocks)]
-    words = usual if family == BASE else ["./make_family.py", family, "500", str(blocks), PERIODS[periods]]
-    path = run_to_file_or_exit(f"out/growth-{family}-{periods}-{blocks}.csv", *words)
+    usual = ["make_blocks.py", BASE, make_blocks.USUAL, 1, PERIODS[periods], blocks]
+    words = usual if family == BASE else ["make_family.py", family, 500, blocks, PERIODS[periods]]
+    path = make_journal_or_exit(f"growth-{family}-{periods}-{blocks}", *words)
     searched = run_in_time_or_exit_or_none([TWIN, "1", "0"], path)
     return searched and int(searched.text.split()[-1])
 
 
 def record_nodes(figures, family, periods, counts):
-    """Prints the nodes of a family's books: those of the greatest, and in the details the others."""
+    """Records the nodes of a family's books: those of the greatest, and in the details the others."""
     *smaller, most = ("?" if nodes is None else f"{nodes:,}" for nodes in counts)
     holds = counts[-1] is not None and counts[-1] <= MOST_NODES
     detail = "; ".join(f"{nodes} with {blocks}" for blocks, nodes in zip(BLOCKS, smaller))
@@ -63,15 +61,10 @@ def write_picture_if_possible(nodes):
     figure.savefig(PICTURE, metadata={"Date": None, "Title": "Nodes of each family by the number of blocks"})
 
 
-def main():
-    figures = Figures("out/growth.tsv")
+def run_and_record(figures, _given):
     nodes = {}
     for family in FAMILIES:
         for periods in PERIODS:
-            nodes[family, periods] = [write_book_and_measure_or_exit_or_none(family, periods, blocks) for blocks in BLOCKS]
+            nodes[family, periods] = [make_book_and_count_nodes_or_exit_or_none(family, periods, blocks) for blocks in BLOCKS]
             record_nodes(figures, family, periods, nodes[family, periods])
     write_picture_if_possible(nodes)
-
-
-if __name__ == "__main__":
-    main()

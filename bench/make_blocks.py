@@ -1,7 +1,7 @@
 #!/usr/bin/env python3
-"""make_blocks.py KIND SPREAD SEED [PARTS [BLOCKS [HOURLY [BONDS]]]]: prints the journal of a closed day of 24 hours with blocks as users
+"""make_blocks.py KIND SPREAD SEED [PERIODS [BLOCKS [HOURLY [BONDS]]]]: prints the journal of a closed day of 24 hours with blocks as users
 have them: BLOCKS of them (at most 24, which is the default), whose limits are within SPREAD cents of the mean price of what they deliver,
-and HOURLY hourly orders (at most 4000; default: 3800). Each hour has PARTS periods, 1 or 4 (default: 1), so with 4 the day has 96. A
+and HOURLY hourly orders (at most 4000; default: 3800). Each hour has PERIODS periods, 1 or 4 (default: 1), so with 4 the day has 96. A
 market is thin with 1,500 hourly orders or fewer: then each block moves the prices. Every run with the same arguments prints the same bytes.
 
 base    baseload: one volume over the whole day
@@ -23,7 +23,7 @@ import math
 import random
 import sys
 
-from generating import BLOCKS, CLOSE, HOURS, MOST_HOURLY, PARTICIPANTS, DayMarket, DrawnBook, Order, parse_number_or_exit
+from generating import BLOCKS, CLOSE, HOURS, MOST_HOURLY, PARTICIPANTS, PERIODS, DayMarket, DrawnBook, Order, parse_number_or_exit
 
 HOURLY, MOST_THIN = 3_800, 1_500  # the usual number of hourly orders, and the greatest of a thin market
 MOST_SPREAD, MOST_SEED = 10_000, 1_000_000
@@ -52,12 +52,12 @@ class BlockMarket(DayMarket):
 
     def draw_shaped(self):
         """Volumes that rise and fall once in a day, by up to six tenths of their mean."""
-        mean, highest, part = self.draw_volume(), self.rng.uniform(0, HOURS), self.rng.uniform(0.2, 0.6)
+        mean, highest, share = self.draw_volume(), self.rng.uniform(0, HOURS), self.rng.uniform(0.2, 0.6)
         wave = {hour: math.cos((hour - highest) * 2 * math.pi / HOURS) for hour in ALL}
-        return self.volumes_by_period({hour: round(mean * (1 + part * height)) for hour, height in wave.items()})
+        return self.volumes_by_period({hour: round(mean * (1 + share * height)) for hour, height in wave.items()})
 
     def draw_noise(self, volumes=BLOCK_VOLUMES):
-        return {period: self.rng.randint(*volumes) for period in range(1, self.count + 1)}
+        return {period: self.rng.randint(*volumes) for period in range(1, self.periods + 1)}
 
     def draw_hours(self, by_hour):
         """A span of hours, with one volume or with a volume for each hour."""
@@ -124,16 +124,15 @@ FREE = "free"
 BONDS = {FREE: lambda blocks, rng: None, "links": set_links, "groups": set_groups, "both": set_links_and_groups}
 
 
-def book_of_kind(kind, spread, seed, parts, hourly=HOURLY, bonds=FREE):
+def book_of_kind(kind, spread, seed, per_hour, hourly=HOURLY, bonds=FREE):
     told = f", {bonds}" if bonds != FREE else ""
     told += f", {hourly:,} orders" if hourly != HOURLY else ""
-    words, without = ([kind, *map(str, (spread, seed, parts, blocks, hourly)), bonds] for blocks in (BLOCKS, 0))
+    words = [kind, *map(str, (spread, seed, per_hour, BLOCKS, hourly)), bonds]
     return DrawnBook(
-        name=f"{kind} {HOURS * parts}{told}, spread {spread:,}, seed {seed}",
+        name=f"{kind} {HOURS * per_hour}{told}, spread {spread:,}, seed {seed}",
         kind=kind,
-        script="./make_blocks.py",
+        script="make_blocks.py",
         words=words if told else words[:4],
-        words_without_blocks=without,
         is_thin=kind != WIDE and hourly <= MOST_THIN,
         note="a subset sum of equal limits" if spread == 0 and kind in ("base", "odd") else "",
     )
@@ -142,18 +141,18 @@ def book_of_kind(kind, spread, seed, parts, hourly=HOURLY, bonds=FREE):
 SPREADS, SEEDS = (5, 50, 300, 1_000), (1, 2, 3)
 USUAL = 50  # the spread for which there is a book of each seed; for the others there is one
 BOOKS = [
-    book_of_kind(kind, spread, seed, parts)
+    book_of_kind(kind, spread, seed, per_hour)
     for kind in USUAL_KINDS
-    for parts in (1, 4)
+    for per_hour in PERIODS
     for spread in SPREADS
     for seed in (SEEDS if spread == USUAL else SEEDS[:1])
 ]
 # Thin markets: the spreads take turns, so that each kind has each of them on each length of a day.
 THIN_HOURLY, THIN_SPREADS = (200, 500, 1_500), (0, 20, 50)
 THIN = [
-    book_of_kind(kind, THIN_SPREADS[(kinds + lengths + turn) % len(THIN_SPREADS)], 1, parts, orders)
+    book_of_kind(kind, THIN_SPREADS[(kinds + lengths + turn) % len(THIN_SPREADS)], 1, per_hour, orders)
     for kinds, kind in enumerate(USUAL_KINDS)
-    for lengths, parts in enumerate((1, 4))
+    for lengths, per_hour in enumerate(PERIODS)
     for turn, orders in enumerate(THIN_HOURLY)
 ]
 # One of equal limits, so that a search looks for a sum of volumes, and one that took more than 30 s while bounds came from tables.
@@ -167,13 +166,13 @@ HARDEST = [
     for orders, each in found.items()
     for drawn in each
 ]
-BOUND = [book_of_kind("base", 20, 1, parts, orders, bonds) for bonds in list(BONDS)[1:] for parts, orders in ((1, 200), (4, 500))]
+BOUND = [book_of_kind("base", 20, 1, per_hour, orders, bonds) for bonds in list(BONDS)[1:] for per_hour, orders in ((1, 200), (4, 500))]
 # Deep markets with blocks of other kinds: mixed ones, and wide ones with two orders of each side in a period, or with many.
-DEEP = [book_of_kind("mixed", spread, 1, parts) for parts in (1, 4) for spread in (20, 50)]
+DEEP = [book_of_kind("mixed", spread, 1, per_hour) for per_hour in PERIODS for spread in (20, 50)]
 FEW = {1: 96, 4: 384}
 DEEP += [
-    book_of_kind(WIDE, spread, 1, parts, orders)
-    for parts, few in FEW.items()
+    book_of_kind(WIDE, spread, 1, per_hour, orders)
+    for per_hour, few in FEW.items()
     for spread, orders in ((0, few), (50, few), (0, HOURLY))
 ]
 MORE = THIN + HARDEST + BOUND + DEEP
@@ -181,9 +180,9 @@ MORE = THIN + HARDEST + BOUND + DEEP
 
 def draw_order(day, number, is_wide):
     """An hourly order; in a wide book by turns a buy and a sell of each period."""
-    period, name = 1 + number % day.count, f"HOUR-{number}"
+    period, name = 1 + number % day.periods, f"HOUR-{number}"
     if is_wide:
-        side, price = "sell" if number // day.count % 2 else "buy", LEVEL
+        side, price = "sell" if number // day.periods % 2 else "buy", LEVEL
         return Order(day.rng.choice(PARTICIPANTS), name, "hour", side, price, {period: day.rng.randint(*LEVEL_VOLUMES)})
     side, price = day.draw_side(), day.price_at(period) + day.rng.randint(-AROUND, AROUND)
     volume = day.rng.randint(*HOURLY_VOLUMES)
@@ -201,15 +200,15 @@ def main():
     words = sys.argv[1:]
     if not 3 <= len(words) <= 7 or words[0] not in KINDS:
         sys.exit(__doc__)
-    kind, spread, seed, parts, count, orders, bonds = [*words, *["1", str(BLOCKS), str(HOURLY), FREE][len(words) - 3 :]]
+    kind, spread, seed, per_hour, count, orders, bonds = [*words, *["1", str(BLOCKS), str(HOURLY), FREE][len(words) - 3 :]]
     spread, seed = parse_number_or_exit("SPREAD", spread, range(MOST_SPREAD + 1)), parse_number_or_exit("SEED", seed, range(MOST_SEED + 1))
-    parts, count = parse_number_or_exit("PARTS", parts, (1, 4), "1 or 4"), parse_number_or_exit("BLOCKS", count, range(BLOCKS + 1))
+    per_hour, count = parse_number_or_exit("PERIODS", per_hour, PERIODS), parse_number_or_exit("BLOCKS", count, range(BLOCKS + 1))
     orders = parse_number_or_exit("HOURLY", orders, range(MOST_HOURLY + 1))
     if bonds not in BONDS:
         sys.exit(f"make_blocks.py: BONDS is '{bonds}' and should be one of {' '.join(BONDS)}")
-    drawn = f"{kind} {spread} {seed} {parts}"
-    day = (LevelMarket if kind == WIDE else BlockMarket)(parts, random.Random(drawn))
-    print(f"day,{day.count},,,,,,,")
+    drawn = f"{kind} {spread} {seed} {per_hour}"
+    day = (LevelMarket if kind == WIDE else BlockMarket)(per_hour, random.Random(drawn))
+    print(f"day,{day.periods},,,,,,,")
     for number in range(orders):
         print(draw_order(day, number, kind == WIDE))
     blocks = [draw_block(day, kind, spread, number) for number in range(count)]

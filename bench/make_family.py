@@ -1,6 +1,6 @@
 #!/usr/bin/env python3
-"""make_family.py FAMILY HOURLY [BLOCKS [PARTS]]: prints the journal of a closed day of 24 hours, with HOURLY hourly orders (at most
-4000) and BLOCKS blocks (at most 24, which is the default). Each hour has PARTS periods, 1 or 4 (default: 1), so with 4 the day has
+"""make_family.py FAMILY HOURLY [BLOCKS [PERIODS]]: prints the journal of a closed day of 24 hours, with HOURLY hourly orders (at most
+4000) and BLOCKS blocks (at most 24, which is the default). Each hour has PERIODS periods, 1 or 4 (default: 1), so with 4 the day has
 96. The families are hard in different ways for a search over selections of blocks. Every run with the same arguments prints the same
 bytes.
 
@@ -15,10 +15,10 @@ ties      blocks that don't change the welfare, so that all selections are equal
 import random
 import sys
 
-from generating import BLOCKS, CLOSE, HOURS, MOST_HOURLY, PARTICIPANTS, DayMarket, DrawnBook, Order, parse_number_or_exit
+from generating import BLOCKS, CLOSE, HOURS, MOST_HOURLY, PARTICIPANTS, PERIODS, DayMarket, DrawnBook, Order, parse_number_or_exit
 
 SEED = 20_251_001
-MOST_THIN = 200  # hourly orders of a thin market
+HOURLY, THIN_HOURLY = (500, 4_000), 200  # hourly orders of the deep books, and of the thin ones
 
 
 class FamilyMarket(DayMarket):
@@ -45,15 +45,15 @@ def block_of_alpha(number, side, price, volumes):
 
 
 def draw_hourly(day, number):
-    period = 1 + number % day.count
-    side = "buy" if (number // day.count) % 2 == 0 else "sell"
+    period = 1 + number % day.periods
+    side = "buy" if (number // day.periods) % 2 == 0 else "sell"
     price = day.price_at(period) + round(day.rng.gauss(0, 1_500)) + (700 if side == "buy" else -700)
     return Order(day.rng.choice(PARTICIPANTS), f"HOUR-{number}", "hour", side, price, {period: day.rng.randint(50, 500)})
 
 
 def flat_hourly(day, number):
     """Of each period, one buy and one sell that leave much of both at 6,000 cents, and small ones that never matter."""
-    period, rank = 1 + number % day.count, number // day.count
+    period, rank = 1 + number % day.periods, number // day.periods
     side = "buy" if rank % 2 == 0 else "sell"
     price, volume = (6_000, 50_000) if rank < 2 else (1_000 if side == "buy" else 11_000, 1)
     return Order("ALPHA", f"HOUR-{number}", "hour", side, price, {period: volume})
@@ -98,15 +98,13 @@ DRAWS = draw_market, draw_paradox, draw_spread, draw_nearties, draw_links, draw_
 FAMILIES = {draw.__name__.removeprefix("draw_"): draw for draw in DRAWS}
 
 
-def book_of_family(family, hourly, parts):
-    name = f"{family} {hourly:,}, {HOURS * parts} periods"
-    words = ([family, str(hourly), str(blocks), str(parts)] for blocks in (BLOCKS, 0))
-    return DrawnBook(name, family, "./make_family.py", *words, is_thin=hourly <= MOST_THIN)
+def book_of_family(family, hourly, per_hour):
+    name = f"{family} {hourly:,}, {HOURS * per_hour} periods"
+    return DrawnBook(name, family, "make_family.py", [family, str(hourly), str(BLOCKS), str(per_hour)], is_thin=hourly == THIN_HOURLY)
 
 
-HOURLY = (500, 4_000)
-BOOKS = [book_of_family(family, hourly, parts) for family in FAMILIES for hourly in HOURLY for parts in (1, 4)]
-THIN = [book_of_family(family, MOST_THIN, parts) for family in ("links", "groups") for parts in (1, 4)]
+BOOKS = [book_of_family(family, hourly, per_hour) for family in FAMILIES for hourly in HOURLY for per_hour in PERIODS]
+THIN = [book_of_family(family, THIN_HOURLY, per_hour) for family in ("links", "groups") for per_hour in PERIODS]
 
 
 def main():
@@ -115,11 +113,11 @@ def main():
         sys.exit(__doc__)
     family, orders = words[0], parse_number_or_exit("HOURLY", words[1], range(MOST_HOURLY + 1))
     count = parse_number_or_exit("BLOCKS", words[2], range(BLOCKS + 1)) if len(words) > 2 else BLOCKS
-    parts = parse_number_or_exit("PARTS", words[3], (1, 4), "1 or 4") if len(words) > 3 else 1
-    day = FamilyMarket(parts, random.Random(f"{SEED} {family} {orders}"))
+    per_hour = parse_number_or_exit("PERIODS", words[3], PERIODS) if len(words) > 3 else 1
+    day = FamilyMarket(per_hour, random.Random(f"{SEED} {family} {orders}"))
     order = flat_hourly if family == "ties" else draw_hourly
-    volume = max(orders * 275 // day.count // 20, 10)  # a tenth of that of one side of a period
-    print(f"day,{day.count},,,,,,,")
+    volume = max(orders * 275 // day.periods // 20, 10)  # a tenth of that of one side of a period
+    print(f"day,{day.periods},,,,,,,")
     for number in range(orders):
         print(order(day, number))
     print(*FAMILIES[family](day, count, volume), CLOSE, sep="\n")

@@ -1,4 +1,3 @@
-#!/usr/bin/env python3
 """The office under load: 50 connections, each of a participant that sends its commands one after the other, and waits for each receipt. In
 turns with it, a plain office (plain/office.py) of aiohttp and SQLite gives the same replies without receipts. Then one office takes a whole
 day of 9,950 commands; it is started again after a crash, and closes."""
@@ -8,15 +7,13 @@ import math
 import statistics
 import subprocess
 import sys
-from pathlib import Path
 
-from figures import PER_SECOND, Figures
-from running import DAM, DESK, call_in_turns
+from figures import PER_SECOND, quartiles_of
+from running import BENCH, DAM, DESK, call_in_turns
 from lib.tool import modules
 from shared.office_load import OfficeLoad
 from shared.served_office import ServedOffice, running_office
 
-HERE = Path(__file__).resolve().parent
 CONNECTIONS, TURNS, COMMANDS = 50, 5, 40  # COMMANDS of each connection in a turn
 WHOLE_DAY = 199  # and on the whole day
 
@@ -27,7 +24,7 @@ class ServedPlain(ServedOffice):
     is_ready = ServedOffice.is_listening
 
     def start_process(self):
-        words = [sys.executable, "-B", HERE / "plain" / "office.py", f"{self.room.name}/rows", str(self.port)]
+        words = [sys.executable, "-B", BENCH / "plain" / "office.py", f"{self.room.name}/rows", str(self.port)]
         self.process = subprocess.Popen(words, env=self.environment)
 
 
@@ -58,21 +55,15 @@ def run_and_record_whole_day(figures):
     with running_office(DAM, DESK, count=CONNECTIONS) as office:
         office.start()
         rate, _ = run_load(office, WHOLE_DAY)
-        what = f"commands that an office takes, {commands:,} of a day"
-        figures.record(what, PER_SECOND(rate), f"at least {PER_SECOND(1_000)}", rate >= 1_000)
+        figures.record_quartiles(f"commands that an office takes, {commands:,} of a day", quartiles_of([rate]), PER_SECOND, least=1_000)
         office.kill("office", "desk")
-        figures.record_at_most(f"a start of an office after a crash, {commands:,} entries", office.start(), 1.0)
-        figures.record_at_most(f"from the close to the results, {commands:,} entries", office.close_day(), 2.0)
+        figures.record_at_most(f"a start of an office after a crash, {commands:,} entries", [office.start()], 1.0)
+        figures.record_at_most(f"from the close to the results, {commands:,} entries", [office.close_day()], 2.0)
 
 
-def main():
-    figures = Figures("out/office.tsv")
+def run_and_record(figures, _given):
     if not all(map(modules.has_module, ("aiohttp", "cryptography", "jinja2"))):
         figures.record("the office: python3-aiohttp, python3-cryptography or python3-jinja2 is missing", "")
         return
     run_and_record_comparison(figures)
     run_and_record_whole_day(figures)
-
-
-if __name__ == "__main__":
-    main()

@@ -1,8 +1,5 @@
 #!/usr/bin/env python3
-"""page.py [PART..]: copies the figures that these parts of the bench have printed to measured/PART.csv, notes the run in
-measured/runs.csv, and writes docs/MEASURED.md from all these files. Without a part it only writes the page again.
-
-If --before names a program, BEFORE_IS in the environment says what that is, such as its commit."""
+"""page.py: writes docs/MEASURED.md from the recorded figures in measured/. `bench/run` records those of each part that has run."""
 
 import ast
 import collections
@@ -15,45 +12,72 @@ import subprocess
 import sys
 import textwrap
 from pathlib import Path
+from typing import NamedTuple
 
-HERE = Path(__file__).resolve().parent
-PAGE = HERE.parent / "docs" / "MEASURED.md"
-KEPT = HERE / "measured"
+sys.dont_write_bytecode = True
+
+from figures import HOLDS, MISSED, ONE_RUN, UNCLEAR, Figure, span_text
+
+BENCH = Path(__file__).resolve().parent
+PAGE = BENCH.parent / "docs" / "MEASURED.md"
+RECORDED = BENCH / "measured"
 WRITTEN = ["docs/MEASURED.md", "docs/growth.svg", "bench/measured"]  # by the bench itself
-PARTS = [line.partition("\t")[0] for line in (HERE / "parts.tsv").read_text(encoding="utf-8").splitlines()]
-COLUMNS = ["what", "figure", "target", "holds", "details"]
-RUN_COLUMNS = ["part", "date", "commit", "machine", "load", "kit", "notes"]
-# The figures that the page shows of each part, apart from those that miss a target; the others stand in the files alone. Of the groups the
-# first names the row of a table, the second its column, and a third is the spread that the cell names.
+UNKNOWN = "unknown"  # the quartiles of figures that were recorded before quartiles were
+
+
+class RecordedRun(NamedTuple):
+    """The run of a part, as a row of measured/runs.csv has it."""
+
+    part: str
+    date: str
+    commit: str
+    machine: str
+    load: str
+    kit: str
+    notes: str
+
+
+def read_table(path, delimiter=","):
+    """The rows of a table, each by the names of its columns."""
+    with open(path, encoding="utf-8", newline="") as text:
+        return list(csv.DictReader(text, delimiter=delimiter))
+
+
+PARTS = {row["part"]: row for row in read_table(BENCH / "parts.tsv", "\t")}
+# The names of the figures that the page shows of each part, apart from those of missed or unclear targets; the others stand in measured/
+# alone. A pattern with groups is of a table by books: the first group names the row, the second the column, and a third the cell's spread.
 SHOWN = {
-    "quick": r"(?:dam (?:replay|clear)|settle) .*(?:wall time|plain pass)|dam day compared with the baseline.*processor time",
-    "blocks": r"(\w+) (\d+), spread 50, seed 1: dam clear",
-    "thin": r"(base|peaks|shaped|odd|random) 96, (500|1,500) orders, spread (0|20|50), seed 1: dam clear",
-    "workers": r"(?:base|odd) .*the rate of 4 workers compared with 1",
-    "looks": r"a look compared with a plain one, while [03] threads.*|a call, 4,000 orders held",
-    "desk": r"dam replay compared with a desk.*wall time|records that a desk keeps.*|opening .* on disk.*wall time"
-    r"|memory of a desk.*records",
-    "office": r".*",
+    "quick": [r"dam (?:replay|clear) .*wall time", r"dam day compared with the baseline.*processor time"],
+    "blocks": [r"(\w+) (\d+), spread 50, seed 1: dam clear", "deep books together: .*"],
+    "thin": [r"(base|peaks|shaped|odd|random) 96, (500|1,500) orders, spread (0|20|50), seed 1: dam clear", "all thin books together: .*"],
+    "growth": [],
+    "workers": ["base .*the rate of 4 workers compared with 1", "odd .*the rate of 4 workers compared with 1"],
+    "looks": ["a look compared with a plain one, while [03] threads.*", "a call, 4,000 orders held"],
+    "desk": [
+        "dam replay compared with a desk.*wall time",
+        "records that a desk keeps.*",
+        "opening .* on disk.*wall time",
+        "memory of a desk.*records",
+    ],
+    "office": [".*"],
 }
-# The contents of the cells of such a table, and the names of its columns.
+# The contents of the cells of a table by books, and the names of its columns.
 CELLS = {
     "blocks": ("`dam clear` by the default plan, spread 50, seed 1", "{} periods"),
     "thin": ("`dam clear` by the default plan, 96 periods, seed 1", "{} hourly orders"),
 }
-# The figures of many books together, which the page shows of any part.
-TOGETHER = r"(?:deep|all thin) books together: .*"
 PICTURES = {
     "growth": "Nodes: the plain twin's, each for the selections with its decisions. The further a family lies below the dashed line, the"
     " more\nis left out.\n\n"
     "![Nodes of each family by the number of blocks, compared with 2^n](growth.svg)\n"
 }
-CIRCUMSTANCES = {1: "ran on {}", 2: "measured {}", 3: "had {}", 5: "used `{}`"}  # by columns of runs.csv
+CIRCUMSTANCES = {"date": "ran on {}", "commit": "measured {}", "machine": "had {}", "kit": "used `{}`"}  # by columns of runs.csv
 UNITS = {"ns": 1e-9, "us": 1e-6, "ms": 1e-3}  # of a second
 HEAD = """# Measured figures
 
-`bench/run` runs the benchmarks and writes this page. Times are medians of several runs. In `blocks` and `thin`, a program that takes over a
-second runs once, as does an office's whole day. Compared programs run alternately. `A compared with B` is A's time, rate or memory divided
-by B's. Each part's script describes its method, [make_blocks.py](../bench/make_blocks.py) the kinds of books and their spread, and
+`bench/run` runs the benchmarks and writes this page. A figure is the median of several runs, with its quartiles in brackets if they were
+recorded. A target between them is unclear. Compared programs run alternately. `A compared with B` is A's time, rate or memory divided by
+B's. Each part's script describes its method, [make_blocks.py](../bench/make_blocks.py) the kinds of books and their spread, and
 [make_family.py](../bench/make_family.py) the families. `cut 8` cuts a search into up to 256 pieces. The baseline and the twin are
 [plain Rust programs](../crates/NOTES.md#words). The load is the minute's before `bench/run`.
 
@@ -75,48 +99,48 @@ def query_version(package):
     return capture_output("dpkg-query", "--show", "--showformat", "${Version}", package) or "of an unknown version"
 
 
-def query_facts_of_run(part):
-    """The day, the commit, the machine and the kit of a part's figures, and other facts about them."""
-    commit = capture_output("git", "rev-parse", "--short", "HEAD") or "unknown"
-    if capture_output("git", "status", "--porcelain", "--", ":/", *(f":(top,exclude){name}" for name in WRITTEN)):
+def query_run(part, limit, before_is):
+    """The facts about a run of a part that is about to begin: the day, the commit, the machine, the load and the kit; in the notes the
+    seconds of HiGHS, and the program of before."""
+    commit = capture_output("git", "-C", BENCH, "rev-parse", "--short", "HEAD") or "unknown"
+    if capture_output("git", "-C", BENCH, "status", "--porcelain", "--", ":/", *(f":(top,exclude){name}" for name in WRITTEN)):
         commit += " with changes"
     processors = re.findall(r"(?m)^model name\s*: (.*)", Path("/proc/cpuinfo").read_text()) or [os.uname().machine]
-    load, limit, before = (os.environ.get(name, "") for name in ("LOAD", "PEER_LIMIT", "BEFORE_IS"))
-    peers = f"HiGHS (of SciPy {query_version('python3-scipy')}) and CBC ({query_version('coinor-cbc')})"
+    machine, load = f"{os.cpu_count()} processors ({processors[0]})", " ".join(Path("/proc/loadavg").read_text().split()[:3])
     notes = []
-    if part in ("blocks", "thin"):
-        notes += [f"{peers}: the time of solving alone, at most {limit} s"] * bool(limit)
-        notes += [f"the program before is {before}"] * bool(before)
-    machine = f"{os.cpu_count()} processors ({processors[0]})"
-    return [part, str(datetime.date.today()), commit, machine, load, capture_output("rt", "version"), "; ".join(notes)]
+    if part in CELLS:
+        notes = [f"HiGHS (of SciPy {query_version('python3-scipy')}): the time of solving alone, at most {limit:g} s"]
+        notes += [f"the program before is {before_is}"] if before_is else []
+    return RecordedRun(part, str(datetime.date.today()), commit, machine, load, capture_output("rt", "version"), "; ".join(notes))
 
 
-def read_rows(path):
-    """The rows of a file below its head; none if it is missing."""
-    if not path.exists():
-        return []
-    with open(path, encoding="utf-8", newline="") as text:
-        return list(csv.reader(text))[1:]
+def read_recorded(part):
+    return [Figure(**row) for row in read_table(RECORDED / f"{part}.csv")]
 
 
-def write_rows(path, columns, rows):
+def read_runs():
+    """The recorded runs, in the order of the parts."""
+    path = RECORDED / "runs.csv"
+    return [RecordedRun(**row) for row in read_table(path)] if path.exists() else []
+
+
+def write_table(path, kind, rows):
     with open(path, "w", encoding="utf-8", newline="") as text:
-        csv.writer(text, lineterminator="\n").writerows([columns, *rows])
+        csv.writer(text, lineterminator="\n").writerows([kind._fields, *rows])
 
 
-def write_kept_figures(parts):
-    """Replaces the kept figures and runs of these parts by those that they have just printed."""
-    runs = {row[0]: row for row in read_rows(KEPT / "runs.csv")}
-    for part in parts:
-        lines = (HERE / "out" / f"{part}.tsv").read_text(encoding="utf-8").splitlines()
-        write_rows(KEPT / f"{part}.csv", COLUMNS, [line.split("\t") for line in lines])
-        runs[part] = query_facts_of_run(part)
-    write_rows(KEPT / "runs.csv", RUN_COLUMNS, [runs[part] for part in PARTS if part in runs])
+def record_part_and_write_page(run, figures):
+    """Replaces the recorded figures and the run of a part by these."""
+    RECORDED.mkdir(exist_ok=True)
+    runs = {each.part: each for each in [*read_runs(), run]}
+    write_table(RECORDED / f"{run.part}.csv", Figure, figures)
+    write_table(RECORDED / "runs.csv", RecordedRun, [runs[part] for part in PARTS if part in runs])
+    PAGE.write_text(read_and_compose_page(), encoding="utf-8")
 
 
 def read_description(part):
     """The first paragraph of the part's script."""
-    text = (HERE / f"{part}.py").read_text(encoding="utf-8")
+    text = (BENCH / f"{part}.py").read_text(encoding="utf-8")
     return ast.get_docstring(ast.parse(text)).split("\n\n")[0]
 
 
@@ -128,22 +152,32 @@ def markdown_table(head, rows):
     return "".join(f"{line}\n" for line in [markdown_row(head), "|---" * len(head) + "|", *map(markdown_row, rows)])
 
 
-def table_of_part(part, rows):
-    """The figures that the page shows of a part."""
-    if part not in CELLS:
-        return table_of_names(SHOWN.get(part, ""), rows)
-    found = [(match.groups(), figure) for name, figure, *_ in rows if (match := re.fullmatch(SHOWN[part], name))]
-    cells = {groups[:2]: " ".join([figure, *(f"(spread {it})" for it in groups[2:])]) for groups, figure in found}
+def figures_named_or_raise(patterns, figures):
+    """The figures with such names. Raises LookupError if a pattern matches no name, since the page would lack figures that were renamed."""
+    matched = [(pattern, figure) for pattern in patterns for figure in figures if re.fullmatch(pattern, figure.name)]
+    if stale := set(patterns) - {pattern for pattern, _ in matched}:
+        raise LookupError(f"bench/page.py: no recorded figure has a name like {' or '.join(sorted(stale))}")
+    return [figure for figure in figures if figure in [each for _, each in matched]]
+
+
+def figure_and_quartiles(figure):
+    return figure.figure if figure.quartiles in ("", ONE_RUN, UNKNOWN) else f"{figure.figure} ({figure.quartiles})"
+
+
+def table_of_cells(part, figures):
+    """A table of a part's books by the groups of their names."""
+    pattern, (what, column), cells = SHOWN[part][0], CELLS[part], {}
+    for figure in figures_named_or_raise([pattern], figures):
+        row, of_column, *spread = re.fullmatch(pattern, figure.name).groups()
+        cells[row, of_column] = " ".join([figure.figure, *(f"(spread {each})" for each in spread)])
     names, columns = (list(dict.fromkeys(pair[at] for pair in cells)) for at in (0, 1))
-    what, column = CELLS[part]
     lines = [[name, *(cells.get((name, each), "") for each in columns)] for name in names]
-    heads = [what, *(column.format(f"{int(each):,}" if each.isdigit() else each) for each in columns)]
-    return markdown_table(heads, lines) if cells else ""
+    return markdown_table([what, *map(column.format, columns)], lines)
 
 
-def table_of_names(names, rows):
-    """A table of the figures with such names, without those that miss a target."""
-    lines = [row[:3] for row in rows if re.fullmatch(names, row[0]) and row[3] != "MISSED"]
+def table_of_names(figures):
+    """A table of figures by their names, without those of missed or unclear targets."""
+    lines = [[each.name, figure_and_quartiles(each), each.target] for each in figures if not is_wrong(each)]
     return markdown_table(["What", "Figure", "Target"], lines) if lines else ""
 
 
@@ -157,52 +191,61 @@ def sort_key_of(figure):
         return math.inf
 
 
-def span_text(figures):
-    """From the least to the greatest of these, with their unit once if it is the same."""
-    least, greatest = min(figures, key=sort_key_of), max(figures, key=sort_key_of)
-    if least == greatest:
-        return least
-    number, _, unit = least.partition(" ")
-    return f"{number if greatest.endswith(f' {unit}') else least} to {greatest}"
+def range_text(figures):
+    """From the least to the greatest of these."""
+    least, greatest = (which(figures, key=sort_key_of) for which in (min, max))
+    return least if least == greatest else span_text(least, greatest)
 
 
-def rows_of_missed(rows):
-    """A row for each kind of missed target, the words after the last colon with the target itself: how many are missed of how many, and how
-    many peers gave up, which holds if their seconds alone are enough; the missed figures, and which is furthest from the target."""
+def rows_of_missed(figures):
+    """A row for each kind of target of which some are missed or unclear: the words after the last colon of a name with the target."""
     kinds = collections.defaultdict(list)
-    for what, figure, target, holds, _ in rows:
-        book, _, kind = what.rpartition(": ")
-        kinds[kind, target].append((book, figure, holds == "MISSED"))
-    for (kind, target), found in kinds.items():
-        wrong = [(book, figure) for book, figure, is_missed in found if is_missed]
-        if wrong:
-            gave_up = sum(figure == "?" for _, figure, _ in found)
-            count = f"{len(wrong)} of {len(found)}" + (f" ({gave_up} gave up: met)" if gave_up else "")
-            furthest, _ = (min if target.startswith("at least") else max)(wrong, key=lambda each: sort_key_of(each[1]))
-            yield [kind, count, span_text([figure for _, figure in wrong]), target, furthest]
+    for figure in figures:
+        kinds[figure.name.rpartition(": ")[2], figure.target].append(figure)
+    return [row_of_missed(kind, target, of_kind) for (kind, target), of_kind in kinds.items() if any(map(is_wrong, of_kind))]
+
+
+def is_wrong(figure):
+    return figure.verdict in (MISSED, UNCLEAR)
+
+
+def row_of_missed(kind, target, figures):
+    """How many figures of a kind missed their target, how many are unclear, and how many solvers gave up, for which the target holds if
+    their seconds are enough; the missed and unclear figures, and the book of the one that is furthest from the target."""
+    wrong = list(filter(is_wrong, figures))
+    verdicts = collections.Counter(figure.verdict for figure in wrong)
+    gave_up = sum(figure.figure == "?" and figure.verdict == HOLDS for figure in figures)
+    more = ", ".join(f"{count} {words}" for count, words in ((gave_up, "gave up: met"), (verdicts[UNCLEAR], "unclear")) if count)
+    many = f"{verdicts[MISSED]} of {len(figures)}" + (f" ({more})" if more else "")
+    furthest = (min if target.startswith("at least") else max)(wrong, key=lambda figure: sort_key_of(figure.figure))
+    shown = figure_and_quartiles(furthest) if len(wrong) == 1 else range_text([figure.figure for figure in wrong])
+    return [kind, many, shown, target, furthest.name.rpartition(": ")[0]]
 
 
 def read_and_compose_section(part):
     """The figures that the page shows of a part; a table by books begins with the words that say which books these are."""
-    words, rows = f"{read_description(part)}\n" if part in CELLS else None, read_rows(KEPT / f"{part}.csv")
-    tables = table_of_part(part, rows), table_of_names(TOGETHER, rows)
-    return "\n".join(filter(None, [f"## `bench/run {part}`\n", words, *tables, PICTURES.get(part)]))
+    figures, patterns, by_books = read_recorded(part), SHOWN[part], []
+    if part in CELLS:
+        by_books, patterns = [f"{read_description(part)}\n", table_of_cells(part, figures)], patterns[1:]
+    table = table_of_names(figures_named_or_raise(patterns, figures))
+    return "\n".join(filter(None, [f"## `bench/run {part}`\n", *by_books, table, PICTURES.get(part)]))
 
 
-def cells_of_recorded_run(part, load, notes):
-    """The cells of the page's row for the run of a part: how many figures it has kept, how many of their targets are missed, and the mean of
-    the load in the last minute."""
-    rows = read_rows(KEPT / f"{part}.csv")
-    counts = collections.Counter(holds for _, _, _, holds, _ in rows)
-    wrong = f"{counts['MISSED']} of {counts['MISSED'] + counts['holds']}"
-    return [part, f"[{len(rows)}](../bench/measured/{part}.csv)", wrong, load.split(" ")[0] or "unknown", notes]
+def cells_of_run(run, marks):
+    """The cells of the page's row for the run of a part: how many figures are recorded, how many of their targets are missed or unclear,
+    and the mean load of the minute before."""
+    figures = read_recorded(run.part)
+    counts = collections.Counter(figure.verdict for figure in figures if figure.verdict)
+    unclear = f" ({counts[UNCLEAR]} unclear)" if counts[UNCLEAR] else ""
+    link = f"[{len(figures)}](../bench/measured/{run.part}.csv)"
+    return [run.part, link, f"{counts[MISSED]} of {counts.total()}{unclear}", run.load.split(" ")[0], marks]
 
 
 def text_of_values(runs, column, words):
     """Says by these words which parts have which value in a column of the runs. The most common one comes last."""
     parts = collections.defaultdict(list)
     for run in runs:
-        parts[run[column]].append(f"`{run[0]}`")
+        parts[getattr(run, column)].append(f"`{run.part}`")
     *rare, common = sorted(parts, key=lambda value: len(parts[value]))
     subjects = [(" and ".join(filter(None, [", ".join(parts[value][:-1]), parts[value][-1]])), value) for value in rare]
     subjects.append(("The other parts" if rare else "All parts", common))
@@ -210,31 +253,21 @@ def text_of_values(runs, column, words):
 
 
 def read_and_compose_page():
-    """The page, from the kept figures of all parts."""
-    runs = read_rows(KEPT / "runs.csv")
-    notes = list(dict.fromkeys(note for run in runs for note in run[6].split("; ") if note))
-    marks = [" ".join(f"({notes.index(note) + 1})" for note in run[6].split("; ") if note) for run in runs]
-    lines = [cells_of_recorded_run(run[0], run[4], mark) for run, mark in zip(runs, marks)]
-    when = markdown_table(["Part", "Figures", "Targets missed", "Load", "Notes"], lines)
-    notes = "; ".join(f"({number}) {note}" for number, note in enumerate(notes, 1))
+    """The page, from the recorded figures of all parts."""
+    runs = read_runs()
+    notes = list(dict.fromkeys(note for run in runs for note in run.notes.split("; ") if note))
+    marks = [" ".join(f"({notes.index(note) + 1})" for note in run.notes.split("; ") if note) for run in runs]
+    overview = markdown_table(["Part", "Figures", "Targets missed", "Load", "Notes"], map(cells_of_run, runs, marks))
     circumstances = "".join(text_of_values(runs, column, words) for column, words in CIRCUMSTANCES.items())
-    circumstances += f"Notes: {notes}.\n" if notes else ""
-    wrong = [[run[0], *each] for run in runs for each in rows_of_missed(read_rows(KEPT / f"{run[0]}.csv"))]
-    wrong = markdown_table(["Part", "Missed", "How many", "Figures", "Target", "Worst"], wrong) if wrong else "None.\n"
+    circumstances += f"Notes: {'; '.join(f'({number}) {note}' for number, note in enumerate(notes, 1))}.\n" if notes else ""
     circumstances = textwrap.fill(circumstances, 140, break_on_hyphens=False) + "\n"
-    sections = (read_and_compose_section(run[0]) for run in runs)
-    return "\n".join([HEAD, when, circumstances, "## Missed targets\n", wrong, *sections])
-
-
-def main():
-    parts = sys.argv[1:]
-    if not set(parts) <= set(PARTS):
-        sys.exit(f"usage: page.py [PART..], of {' '.join(PARTS)}")
-    KEPT.mkdir(exist_ok=True)
-    if parts:
-        write_kept_figures(parts)
-    PAGE.write_text(read_and_compose_page(), encoding="utf-8")
+    wrong = [[run.part, *each] for run in runs for each in rows_of_missed(read_recorded(run.part))]
+    wrong = markdown_table(["Part", "Target of", "Missed", "Figures", "Target", "Worst"], wrong) if wrong else "None.\n"
+    sections = (read_and_compose_section(run.part) for run in runs)
+    return "\n".join([HEAD, overview, circumstances, "## Missed or unclear targets\n", wrong, *sections])
 
 
 if __name__ == "__main__":
-    main()
+    if sys.argv[1:]:
+        sys.exit(__doc__)
+    PAGE.write_text(read_and_compose_page(), encoding="utf-8")

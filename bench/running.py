@@ -1,4 +1,4 @@
-"""Programs of the bench, run and timed by turns, among them the enumeration of all selections."""
+"""The programs of the bench: where they are, runs of them by turns with their times, and the enumeration of all selections."""
 
 import math
 import os
@@ -10,21 +10,19 @@ import time
 from pathlib import Path
 from typing import NamedTuple
 
-# the folders of `lib`, and of `shared`, which the tests use too
-sys.path[:0] = [str(Path(__file__).resolve().parent.parent / name) for name in ("tools", "tests")]
+BENCH = Path(__file__).resolve().parent
+TOP, OUT = BENCH.parent, BENCH / "out"
+sys.path[:0] = [f"{TOP}/tools", f"{TOP}/tests"]  # the folders of `lib`, and of `shared`, which the tests use too
 
 from lib.tool import modules
 
-DAM = os.environ.get("DAM", "../crates/dam_cli/out/dam_cli")
-DESK = os.environ.get("DESK", "../crates/dam_desk/out/dam_desk")
-MEASURES = "out/measures"
-BASELINE = "out/baseline"
-TWIN = "out/twin"
-BEFORE = os.environ.get("BEFORE")  # a program that was built before a change, which takes turns with `dam`; None if none is named
+# Each can be named in the environment, to try another one.
+DAM = os.environ.get("DAM", f"{TOP}/crates/dam_cli/out/dam_cli")
+DESK = os.environ.get("DESK", f"{TOP}/crates/dam_desk/out/dam_desk")
+PROBE = os.environ.get("PROBE", f"{OUT}/probe")
+BASELINE, TWIN, PLAIN_GATE = (f"{OUT}/{name}" for name in ("baseline", "twin", "gate"))
 
-# The seconds after which a run is ended, and those that HiGHS and CBC each get for a book.
-LIMIT = float(os.environ.get("LIMIT", "60"))
-PEER_LIMIT = float(os.environ.get("PEER_LIMIT", "20"))
+LIMIT = float(os.environ.get("LIMIT", "60"))  # seconds after which a run is ended
 
 # By how many bytes a program's stack moves from turn to turn, and over how many places.
 STACKS, PLACES = 32, 32
@@ -38,9 +36,10 @@ class Run(NamedTuple):
     wall: float
     processor: float
 
-    def reported_seconds(self, name):
-        """The seconds that the program reports for a part of this name."""
-        return int(dict(line.split() for line in self.stderr.decode().splitlines())[name]) / 1e9
+    def reported_seconds_or_exit(self, name):
+        """The seconds that the program reports under this name."""
+        reported = dict(line.split() for line in self.stderr.decode().splitlines())
+        return int(reported[name]) / 1e9 if name in reported else sys.exit(f"a program printed no time of '{name}'")
 
 
 def run_or_exit(words, given=os.devnull):
@@ -71,10 +70,11 @@ def run_in_time_or_exit_or_none(words, given=os.devnull, limit=LIMIT, padding=0)
     return done
 
 
-def run_to_file_or_exit(path, *words):
-    """Writes the output of a program to a file, and returns its path."""
+def make_journal_or_exit(name, script, *words):
+    """Writes the journal that a script of the bench prints to a file of this name, and returns its path."""
+    path = f"{OUT}/{name}.csv"
     with open(path, "wb") as made:
-        made.write(run_or_exit(words).text)
+        made.write(run_or_exit([f"{BENCH}/{script}", *map(str, words)]).text)
     return path
 
 
@@ -98,16 +98,14 @@ def call_in_turns(functions, most=31, seconds=5.0, longest_of_repeated=math.inf)
     return found
 
 
-def run_in_turns_or_exit(programs, given=os.devnull, most=31, seconds=5.0, longest_of_repeated=math.inf, inputs=None, limit=LIMIT):
-    """Runs programs in turns, and returns the runs of each; a program that doesn't end in time has none. A program reads the file of its
-    name among the inputs, or else the given one. Each turn has their stacks at another place, because the time of a walk varies with
-    that."""
+def run_in_turns_or_exit(programs, given=os.devnull, most=31, seconds=5.0, longest_of_repeated=math.inf, limit=LIMIT):
+    """Runs programs on a file in turns, and returns the runs of each; a program that doesn't end in time has none. Each turn has their
+    stacks at another place, because the time of a walk varies with that."""
 
-    def runs(name, words):
-        read = (inputs or {}).get(name, given)
-        return lambda turn: run_in_time_or_exit_or_none(words, read, limit=limit, padding=STACKS * (turn % PLACES))
+    def runs(words):
+        return lambda turn: run_in_time_or_exit_or_none(words, given, limit=limit, padding=STACKS * (turn % PLACES))
 
-    return call_in_turns({name: runs(name, words) for name, words in programs.items()}, most, seconds, longest_of_repeated)
+    return call_in_turns({name: runs(words) for name, words in programs.items()}, most, seconds, longest_of_repeated)
 
 
 def measure_peak_mebibytes(words, given):
@@ -128,4 +126,4 @@ def clear_for_audit_words_or_exit_or_none(path):
     results = f"{path}.txt"
     with open(results, "wb") as text:
         text.write(cleared.text)
-    return ["../tools/audit", "--best", "--quiet", "--jobs", "4", path, results]
+    return [f"{TOP}/tools/audit", "--best", "--quiet", "--jobs", "4", path, results]

@@ -1,4 +1,3 @@
-#!/usr/bin/env python3
 """How much faster several workers are than one, on thin markets that one worker searches for 0.05 to 0.7 s; and the default plan compared
 with one worker, on these markets and on the families. The seconds are the search's alone.
 
@@ -7,14 +6,13 @@ win back. The size of a program's environment moves its stack, and with that the
 at another place."""
 
 import make_family
-from figures import Figures
 from make_blocks import book_of_kind
-from running import LIMIT, MEASURES, run_in_turns_or_exit, run_to_file_or_exit
+from running import LIMIT, PROBE, make_journal_or_exit, run_in_turns_or_exit
 
 CUT = "8"
 DEFAULT, ONE = ("2", "3"), ("1", "0")
 LEAST = {"2": 1.8, "4": 3.2}  # times as fast as one worker
-ORDERS = ("500", "4000")
+ORDERS = (500, 4_000)
 # They are among the books of thin.py.
 LONG = [
     book_of_kind("base", 0, 1, 1, 200),
@@ -26,8 +24,8 @@ LONG = [
 
 def run_searches(plans, book, most):
     """The seconds of the search under each plan, in several runs; for one that doesn't end, the limit."""
-    runs = run_in_turns_or_exit({plan: [MEASURES, "search", *plan] for plan in plans}, book, most, seconds=20)
-    return {plan: [each.reported_seconds("search") for each in found] or [LIMIT] for plan, found in runs.items()}
+    runs = run_in_turns_or_exit({plan: [PROBE, "search", *plan] for plan in plans}, book, most, seconds=20)
+    return {plan: [each.reported_seconds_or_exit("search") for each in found] or [LIMIT] for plan, found in runs.items()}
 
 
 def run_and_record_speed(figures, name, book):
@@ -42,17 +40,12 @@ def run_and_record_default(figures, name, book):
     figures.record_ratio(f"{name}: the search by the default plan compared with 1 worker", found[DEFAULT], found[ONE], 1)
 
 
-def main():
-    figures = Figures("out/workers.tsv")
+def run_and_record(figures, _given):
     for drawn in LONG:
-        name, book = drawn.name, run_to_file_or_exit(f"out/workers-{'-'.join(drawn.words)}.csv", drawn.script, *drawn.words)
+        name, book = drawn.name, make_journal_or_exit(f"workers-{'-'.join(drawn.words)}", drawn.script, *drawn.words)
         run_and_record_speed(figures, name, book)
         run_and_record_default(figures, name, book)
     for family in make_family.FAMILIES:
         for orders in ORDERS:
-            book = run_to_file_or_exit(f"out/{family}-{orders}.csv", "./make_family.py", family, orders)
+            book = make_journal_or_exit(f"{family}-{orders}", "make_family.py", family, orders)
             run_and_record_default(figures, f"{family} {orders}", book)
-
-
-if __name__ == "__main__":
-    main()

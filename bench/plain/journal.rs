@@ -1,4 +1,4 @@
-//! The journals of `dam`, without amends and without blocks that have a parent or a group.
+//! The journals of `dam`, without quotes, amends, and blocks that have a parent or a group.
 
 use std::fmt::{self, Display};
 
@@ -13,7 +13,8 @@ use limits::{HIGHEST_PRICE, LOWEST_PRICE, MOST_ENTRIES};
 pub const MOST_BYTES: usize = 16_777_216;
 const MOST_RECORDS: usize = MOST_ENTRIES + 1;
 const LAST_PERIOD: u32 = 100;
-const FIELDS: usize = 9;
+
+type Fields<'a> = [&'a [u8]; 9];
 
 #[derive(Clone, Copy, PartialEq, Eq)]
 pub enum Side {
@@ -75,37 +76,6 @@ impl Display for Command {
     }
 }
 
-/// The fields of the next record, and where it ends; `None` if no record is left.
-fn next_record(text: &[u8], mut at: usize) -> Option<(Vec<Vec<u8>>, usize)> {
-    while at < text.len() && matches!(text[at], b'\n' | b'\r') {
-        at += 1;
-    }
-    if at == text.len() {
-        return None;
-    }
-    let mut fields = vec![Vec::new()];
-    let (mut quoted, mut fresh) = (false, true);
-    while at < text.len() {
-        let byte = text[at];
-        at += 1;
-        let field = fields.last_mut()?;
-        match byte {
-            b'"' if quoted && text.get(at) == Some(&b'"') => {
-                field.push(byte);
-                at += 1;
-            }
-            b'"' if quoted => quoted = false,
-            _ if quoted => field.push(byte),
-            b'"' if fresh => quoted = true,
-            b',' => fields.push(Vec::new()),
-            b'\n' | b'\r' => break,
-            _ => field.push(byte),
-        }
-        fresh = byte == b',' && !quoted;
-    }
-    Some((fields, at))
-}
-
 /// A decimal number without leading zeros.
 fn number(text: &[u8]) -> Option<u32> {
     let plain = text == b"0" || !text.starts_with(b"0");
@@ -142,9 +112,9 @@ fn word(text: &[u8], most: usize, is_fine: impl Fn(u8) -> bool) -> Option<String
 }
 
 /// A participant and the name of an order.
-fn key(fields: &[Vec<u8>]) -> Option<Key> {
-    let who = word(&fields[1], 8, |byte| byte.is_ascii_uppercase())?;
-    let name = word(&fields[2], 12, |byte| byte.is_ascii_uppercase() || byte.is_ascii_digit() || byte == b'-')?;
+fn key(fields: &Fields) -> Option<Key> {
+    let who = word(fields[1], 8, |byte| byte.is_ascii_uppercase())?;
+    let name = word(fields[2], 12, |byte| byte.is_ascii_uppercase() || byte.is_ascii_digit() || byte == b'-')?;
     Some((who, name))
 }
 
@@ -156,49 +126,43 @@ fn side(text: &[u8]) -> Option<Side> {
     }
 }
 
-fn order(fields: &[Vec<u8>]) -> Option<Order> {
-    let (side, price) = (side(&fields[4])?, price(&fields[5])?);
-    match fields[3].as_slice() {
+fn order(fields: &Fields) -> Option<Order> {
+    let (side, price) = (side(fields[4])?, price(fields[5])?);
+    match fields[3] {
         b"hour" => {
-            let (period, volume) = pair(&fields[6])?;
+            let (period, volume) = pair(fields[6])?;
             Some(Order::Hour(HourOrder { side, price, period, volume }))
         }
-        b"block" => Some(Order::Block(Box::new(BlockOrder { side, price, volumes: pairs(&fields[6])? }))),
+        b"block" => Some(Order::Block(Box::new(BlockOrder { side, price, volumes: pairs(fields[6])? }))),
         _ => None,
     }
 }
 
-/// The command of a record of nine fields; `None` if a field breaks a rule.
-fn command(fields: &[Vec<u8>]) -> Option<Command> {
-    let (command, used) = match fields[0].as_slice() {
+/// The command of a record; `None` if a field breaks a rule.
+fn command(fields: &Fields) -> Option<Command> {
+    let (command, used) = match fields[0] {
         b"submit" => (Command::Submit(key(fields)?, order(fields)?), 7),
         b"cancel" => (Command::Cancel(key(fields)?), 3),
         b"close" => (Command::Close, 1),
         _ => return None,
     };
-    fields[used..].iter().all(Vec::is_empty).then_some(command)
+    fields[used..].iter().all(|field| field.is_empty()).then_some(command)
 }
 
-/// The number of periods of a day, in its record of nine fields.
-fn day(fields: &[Vec<u8>]) -> Option<u8> {
-    let periods = number(&fields[1]).filter(|n| matches!(n, 23..=25 | 92 | 96 | 100))?;
-    (fields[0] == b"day" && fields[2..].iter().all(Vec::is_empty)).then_some(periods as u8)
+/// The number of periods of a day, in its record.
+fn day(fields: &Fields) -> Option<u8> {
+    let periods = number(fields[1]).filter(|n| matches!(n, 23..=25 | 92 | 96 | 100))?;
+    (fields[0] == b"day" && fields[2..].iter().all(|field| field.is_empty())).then_some(periods as u8)
 }
 
 /// The number of periods and the commands; `None` if the text breaks a rule.
 pub fn read_journal(text: &[u8]) -> Option<(u8, Vec<Command>)> {
-    if text.len() > MOST_BYTES || !text.is_ascii() {
+    if text.len() > MOST_BYTES || !text.is_ascii() || text.contains(&b'"') {
         return None;
     }
-    let (first, mut at) = next_record(text, 0).filter(|(fields, _)| fields.len() == FIELDS)?;
-    let periods = day(&first)?;
-    let mut commands = Vec::new();
-    while let Some((fields, end)) = next_record(text, at) {
-        at = end;
-        if fields.len() != FIELDS || commands.len() + 1 == MOST_RECORDS {
-            return None;
-        }
-        commands.push(command(&fields)?);
-    }
-    Some((periods, commands))
+    let lines = text.split(|byte| matches!(byte, b'\n' | b'\r')).filter(|line| !line.is_empty());
+    let mut records = lines.map(|line| Fields::try_from(line.split(|byte| *byte == b',').collect::<Vec<_>>()).ok());
+    let periods = day(&records.next()??)?;
+    let commands = records.map(|fields| command(&fields?)).collect::<Option<Vec<_>>>()?;
+    (commands.len() < MOST_RECORDS).then_some((periods, commands))
 }

@@ -1,8 +1,7 @@
-"""The lines of the bench on many books together, and its peers: solvers that find the same welfare as the worked cases have."""
+"""The lines of the bench with their verdicts, on one book and on many together, and HiGHS, which finds the welfare of the worked cases."""
 
 import contextlib
 import io
-import os
 import shutil
 import subprocess
 import sys
@@ -15,6 +14,7 @@ from support import TOP, worked
 
 sys.path.insert(0, str(TOP / "bench"))
 import clearing
+import running
 from figures import Figures
 from lib.tool import modules
 
@@ -31,68 +31,87 @@ class Timed(clearing.TimedBook):
 
 class Together(unittest.TestCase):
     def printed(self, show):
-        """The lines that are printed and kept, each as a list of its fields."""
-        with tempfile.TemporaryDirectory() as folder, contextlib.redirect_stdout(io.StringIO()):
-            kept = Path(folder, "kept.tsv")
-            show(Figures(kept))
-            return [line.split("\t") for line in kept.read_text().splitlines()]
+        """The lines that are printed and recorded, each as a list of its fields."""
+        figures, printed = Figures(), io.StringIO()
+        with contextlib.redirect_stdout(printed):
+            show(figures)
+        for line, figure in zip(printed.getvalue().splitlines(), figures.recorded, strict=True):
+            self.assertEqual(line.split(), " ".join(figure).split())
+        return [list(figure) for figure in figures.recorded]
 
     def test_a_missed_multiple_has_no_equal_figure(self):
         """And one that holds has two digits."""
         for value, shown in ((0.1734, ["0.173 x", "at most 0.167 x", "MISSED"]), (0.1634, ["0.16 x", "at most 0.17 x", "holds"])):
-            ((_, *fields, _),) = self.printed(lambda figures, value=value: figures.record_ratio("a sum", [value], [1], 1 / 6))
-            self.assertEqual(fields, shown)
+            (line,) = self.printed(lambda figures, value=value: figures.record_ratio("a sum", [value], [1], 1 / 6))
+            _, figure, quartiles, *fields, _ = line
+            self.assertEqual(([figure, *fields], quartiles), (shown, "one run"))
+
+    def test_a_target_between_the_quartiles_is_unclear(self):
+        """Both for a figure that may be at most so much, and for one that must be at least so much."""
+        targets = {(4, None): "holds", (3, None): "unclear", (1, None): "MISSED"}
+        targets |= {(None, 2): "holds", (None, 4): "unclear", (None, 5): "MISSED"}
+        for target, verdict in targets.items():
+            (line,) = self.printed(lambda figures, target=target: figures.record_ratio("runs", [1.0, 2.0, 3.0, 4.0, 5.0], [1.0], *target))
+            self.assertEqual((line[1], line[2], line[4]), ("3.00 x", "2.00 to 4.00 x", verdict))
+        (line,) = self.printed(lambda figures: figures.record_ratio("runs", [2.0, 4.0], [1.0, 2.0, 3.0], 3))
+        self.assertEqual(line[1:5], ["1.50 x", "1.00 to 2.33 x", "at most 3.00 x", "holds"])
+        (line,) = self.printed(lambda figures: figures.record_at_most("runs", [0.001, 0.002, 0.003], 0.002))
+        self.assertEqual(line[1:5], ["2 ms", "1.5 to 2.5 ms", "at most 2 ms", "unclear"])
 
     def test_sums_and_the_slowest(self):
         books = [Timed("a", dam=[1.0, 3.0, 2.0], before=[8.0]), Timed("b", dam=[4.0], before=[4.0]), Timed("c", dam=[0.5])]
         most = {"before": 0.6, "enumeration": 1}
         lines = self.printed(lambda figures: clearing.BooksTogether("three", books).record_sums(figures, 3.0, most))
+        compared = "three together: dam clear compared with the program before"
         self.assertEqual(
             lines,
             [
-                ["three together: dam clear", "6.5 s", "", "", "3 books"],
-                ["three together: dam clear, the slowest", "4 s", "at most 3 s", "MISSED", "b"],
-                ["three together: dam clear compared with the program before", "0.50 x", "at most 0.60 x", "holds", "6 s and 12 s"],
+                ["three together: dam clear, the slowest", "4 s", "one run", "at most 3 s", "MISSED", "b"],
+                [compared, "0.50 x", "0.46 to 0.54 x", "at most 0.60 x", "holds", "6 s and 12 s"],
             ],
         )
 
     def test_a_run_that_did_not_end_counts_as_the_limit(self):
         books = [Timed("a", dam=[1.0], before=[]), Timed("b", dam=[], before=[1.0])]
         lines = self.printed(lambda figures: clearing.BooksTogether("two", books).record_sums(figures, 60, {"before": 2}))
-        slowest, compared = ["60 s", "at most 60 s", "holds"], ["1.00 x", "at most 2.00 x", "holds"]
-        self.assertEqual([line[1:4] for line in lines], [["61 s", "", ""], slowest, compared])
-        self.assertIn("1 of 2 didn't end in 60 s", lines[-1][4])
+        slowest, compared = ["60 s", "one run", "at most 60 s", "holds"], ["1.00 x", "one run", "at most 2.00 x", "holds"]
+        self.assertEqual([line[1:5] for line in lines], [slowest, compared])
+        self.assertIn("1 of 2 didn't end in 60 s", lines[-1][5])
 
-    def test_books_slower_than_before(self):
-        books = [Timed(str(number), dam=[1.0], before=[2.0]) for number in range(39)] + [Timed("slow", dam=[3.0], before=[2.0])]
-        for part, verdict in (20, "holds"), (41, "MISSED"):
-            (line,) = self.printed(lambda figures: clearing.BooksTogether("forty", books).record_slower(figures, part))
-            self.assertEqual(line[1:], ["1 of 40", f"at most {40 // part}", verdict, "slow 1.50 x"])
+
+class Programs(unittest.TestCase):
+    def test_a_program_that_fails_ends_the_bench(self):
+        for words, said in (["false"], "false < /dev/null: status 1, "), (["sh", "-c", "echo why >&2; exit 3"], "status 3, why\n"):
+            with self.assertRaisesRegex(SystemExit, said):
+                running.run_or_exit(words)
+
+    def test_a_time_that_a_program_does_not_print_ends_the_bench(self):
+        run = running.run_or_exit(["sh", "-c", "echo looks 1500000000 >&2"])
+        self.assertEqual(run.reported_seconds_or_exit("looks"), 1.5)
+        with self.assertRaisesRegex(SystemExit, "no time of 'calls'"):
+            run.reported_seconds_or_exit("calls")
+
+    @unittest.skipUnless(shutil.which("rustc"), "rustc is missing")
+    def test_a_call_at_a_full_plain_gate_fails(self):
+        bench = TOP / "bench"
+        with tempfile.TemporaryDirectory() as folder:
+            gate, book = f"{folder}/gate", Path(folder, "book.csv")
+            subprocess.run(["rustc", "-O", "--edition", "2024", "-o", gate, bench / "plain" / "gate.rs"], check=True)
+            book.write_bytes(running.run_or_exit([f"{bench}/make_family.py", "market", "200", "0"]).text)
+            self.assertRegex(running.run_or_exit([gate, "1", "100"], book).stderr, rb"\Alooks \d+\n\Z")
+            with self.assertRaisesRegex(SystemExit, "the gate is full"):
+                running.run_or_exit([gate, "1", str(2 * 10**7)], book)
 
 
 @unittest.skipUnless(modules.has_module("scipy") or modules.run_and_see_if_debian_has("scipy"), "scipy is missing (Debian's python3-scipy)")
-class Peers(unittest.TestCase):
-    def check_welfares(self, peer):
+class Peer(unittest.TestCase):
+    def test_highs_finds_the_same_welfare(self):
         for case in THIN.values():
             with self.subTest(case.name), tempfile.NamedTemporaryFile() as journal:
                 Path(journal.name).write_bytes(case.stdin)
-                ran = subprocess.run([sys.executable, PEER, peer, journal.name, "60"], capture_output=True, text=True, check=True)
+                ran = subprocess.run([sys.executable, PEER, journal.name, "60"], capture_output=True, text=True, check=True)
                 self.assertIn(f"\nwelfare,{ran.stdout}", case.right_stdout.decode())
-                self.assertRegex(ran.stderr, rf"\A{peer} \d+\n\Z")
-
-    def test_highs_finds_the_same_welfare(self):
-        self.check_welfares("highs")
-
-    @unittest.skipUnless(shutil.which("cbc"), "cbc is missing (Debian's coinor-cbc)")
-    def test_cbc_finds_the_same_welfare(self):
-        self.check_welfares("cbc")
-
-    def test_a_missing_solver_is_named(self):
-        environment = {**os.environ, "PATH": "/nowhere"}
-        with tempfile.NamedTemporaryFile() as empty:
-            words = [sys.executable, PEER, "cbc", empty.name, "1"]
-            ran = subprocess.run(words, capture_output=True, text=True, env=environment)
-        self.assertEqual(ran.stdout, "missing: coinor-cbc\n")
+                self.assertRegex(ran.stderr, r"\Ahighs \d+\n\Z")
 
 
 if __name__ == "__main__":

@@ -33,7 +33,7 @@ class Family(unittest.TestCase):
             (["ties", "4001"], "HOURLY is '4001' and should be a number from 0 to 4000"),
             (["ties", "10", "25"], "BLOCKS is '25' and should be a number from 0 to 24"),
             (["ties", "10", "-1"], "BLOCKS is '-1' and should be a number from 0 to 24"),
-            (["ties", "10", "24", "3"], "PARTS is '3' and should be 1 or 4"),
+            (["ties", "10", "24", "3"], "PERIODS is '3' and should be 1 or 4"),
         ):
             ran = subprocess.run([sys.executable, MAKE_FAMILY, *words], capture_output=True, text=True)
             self.assertEqual((ran.returncode, ran.stdout, ran.stderr), (1, "", f"make_family.py: {said}\n"))
@@ -53,7 +53,7 @@ class Blocks(unittest.TestCase):
         for words, said in (
             (["base", "x", "1"], "SPREAD is 'x' and should be a number from 0 to 10000"),
             (["base", "5", "-1"], "SEED is '-1' and should be a number from 0 to 1000000"),
-            (["base", "5", "1", "2"], "PARTS is '2' and should be 1 or 4"),
+            (["base", "5", "1", "2"], "PERIODS is '2' and should be 1 or 4"),
             (["base", "5", "1", "1", "25"], "BLOCKS is '25' and should be a number from 0 to 24"),
             (["base", "5", "1", "1", "24", "4001"], "HOURLY is '4001' and should be a number from 0 to 4000"),
             (["base", "5", "1", "1", "24", "200", "no"], "BONDS is 'no' and should be one of free links groups both"),

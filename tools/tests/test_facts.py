@@ -298,7 +298,7 @@ class Facts(unittest.TestCase):
         texts = [(TOP / "bench" / "measured" / f"{part}.csv").read_text() for part in ("quick", "looks")]
         quick, looks = ({row[0]: row for row in csv.reader(text.splitlines())} for text in texts)
         day = "dam day compared with the baseline with threads, "
-        factor, memory = quick[f"{day}9,999 commands, processor time"][1], quick[f"{day}peak memory"][4]
+        factor, memory = quick[f"{day}9,999 commands, processor time"][1], quick[f"{day}peak memory"][5]
         ours, plain_ones = re.match(r"([\d.]+ MiB) and ([\d.]+ MiB);", memory).groups()
         notes = plain(TOP / "crates/dam_gate/NOTES.md")
         wanted = f"takes {ours}, and {factor.split()[0]} times the CPU time of the plain program, which takes {plain_ones}"

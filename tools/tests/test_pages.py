@@ -24,7 +24,7 @@ WIDEST = 140  # columns of a line that isn't of a table
 COMMENTED = ["check", "dam", "bench/run", "library/build", "library/dam.h", "library/heap.c"]
 COMMENTS = ["crates/*/src/**/*.rt", "crates/*/specs/**/*.antt", "crates/*/proofs/**/*.antt", "tests/**/*.test", "tests/**/*.py", "tests/*/run"]
 COMMENTS += ["tests/run-*", "tests/shared/*.sh", "tools/*", "tools/**/*.py", "tools/tests/*.sh", "tools/lib/**/*.js", "bench/*.py"]
-COMMENTS += ["bench/measures/**/*.bench", "docs/*.py", "package/*.py"]
+COMMENTS += ["bench/probe/**/*.bench", "docs/*.py", "package/*.py"]
 COMMENT = re.compile(r"\s*(#|//|--|/\*| \* )")
 # The words for which the house rule of English has others, apart from the table of that rule.
 OTHER_WORDS = re.compile(r"\b(anew|beside|dear|so many|want of|whoever)\b", re.IGNORECASE)
