@@ -69,8 +69,8 @@ def run_and_record_rates(figures, folder):
             "sqlite": lambda _: count / write_and_time_sqlite(folder, size),
         }
         rates = call_in_turns(programs, DISK_TURNS, seconds=60)
-        what = f"records that a desk keeps compared with sqlite3, batches of {size:,}"
-        figures.record_ratio(what, rates["desk"], rates["sqlite"], least=least, shown=PER_SECOND)
+        name = f"records that a desk keeps compared with sqlite3, batches of {size:,}"
+        figures.record_ratio(name, rates["desk"], rates["sqlite"], least=least, shown=PER_SECOND)
 
 
 def run_and_time_desk_or_exit(folder, batches):
@@ -126,9 +126,9 @@ def run_and_record_memory(figures, folder):
     for about, journal in [("10,000 records", JOURNAL), ("10,000 blocks of 100 volumes", blocks)]:
         replay = measure_peak_mebibytes([DAM, "replay"], journal)
         file = remove_files_and_return_desk_path(folder)
-        for what, given in [("a desk", journal), ("an opening", os.devnull)]:
-            more, detail = measure_peak_mebibytes([DESK, file], given) - replay, f"dam replay has {MIB(replay)}"
-            figures.record_at_most(f"memory of {what} above dam replay's, {about}", [more], 10, shown=MIB, details=detail)
+        for run, given in [("a desk", journal), ("an opening", os.devnull)]:
+            more, details = measure_peak_mebibytes([DESK, file], given) - replay, f"dam replay has {MIB(replay)}"
+            figures.record_at_most(f"memory of {run} above dam replay's, {about}", [more], 10, shown=MIB, details=details)
 
 
 def run_and_record(figures, _given):

@@ -4,6 +4,7 @@ A figure is the median of several runs, with their quartiles. The quartiles of a
 of both make. A target `holds` if the median and both quartiles meet it, and is `MISSED` if none of them does. Otherwise the verdict is
 `unclear`: the runs differ too much to decide."""
 
+import math
 import statistics
 from typing import NamedTuple
 
@@ -54,8 +55,9 @@ MIB, PER_SECOND = "{:.1f} MiB".format, "{:,.0f} a second".format
 
 
 def multiple_text(value, digits=2):
-    """A multiple, with at least this number of digits that aren't 0."""
-    return f"{value:.{digits}g} x" if value < 0.1 else f"{value:.{digits}f} x" if value < 100 else f"{value:,.0f} x"
+    """A multiple, with this number of digits after the point, or after its zeros there."""
+    zeros = max(-1 - math.floor(math.log10(value)), 0)
+    return f"{value:.{digits + zeros}f} x" if value < 100 else f"{value:,.0f} x"
 
 
 def span_text(least, greatest):

@@ -1,6 +1,6 @@
 #!/usr/bin/env python3
 """make_blocks.py KIND SPREAD SEED [PERIODS [BLOCKS [HOURLY [BONDS]]]]: prints the journal of a closed day of 24 hours with blocks as users
-have them: BLOCKS of them (at most 24, which is the default), whose limits are within SPREAD cents of the mean price of what they deliver,
+have them: BLOCKS of them (at most 24, which is the default), whose limits are within SPREAD cents of the mean price of their delivery,
 and HOURLY hourly orders (at most 4000; default: 3800). Each hour has PERIODS periods, 1 or 4 (default: 1), so with 4 the day has 96. A
 market is thin with 1,500 hourly orders or fewer: then each block moves the prices. Every run with the same arguments prints the same bytes.
 

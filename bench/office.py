@@ -45,9 +45,9 @@ def run_and_record_comparison(figures):
     loads_by_name = {"ours": lambda _: serve_and_load(ServedOffice), "theirs": lambda _: serve_and_load(ServedPlain)}
     found = call_in_turns(loads_by_name, TURNS, math.inf)
     (our_rates, our_times), (their_rates, their_times) = (zip(*results) for results in found.values())
-    what = f"an office compared with a plain one, {CONNECTIONS} connections"
-    figures.record_ratio(f"{what}, commands a second", our_rates, their_rates, least=1, shown=PER_SECOND)
-    figures.record_ratio(f"{what}, time of a command", our_times, their_times, most=1)
+    name = f"an office compared with a plain one, {CONNECTIONS} connections"
+    figures.record_ratio(f"{name}, commands a second", our_rates, their_rates, least=1, shown=PER_SECOND)
+    figures.record_ratio(f"{name}, time of a command", our_times, their_times, most=1)
 
 
 def run_and_record_whole_day(figures):

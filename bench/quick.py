@@ -10,12 +10,12 @@ from figures import MIB
 from running import BASELINE, DAM, make_journal_or_exit, measure_peak_mebibytes, run_in_turns_or_exit
 
 
-def run_and_record_programs(figures, what, words, words_of_other, journal, most, same=False):
+def run_and_record_programs(figures, name, words, words_of_other, journal, most, same=False):
     """Wall and processor time of a program compared with another one's."""
     ours, theirs = run_in_turns_or_exit({"one": words, "other": words_of_other}, journal, seconds=30).values()
     if same and len({each.text for each in ours + theirs}) > 1:
-        sys.exit(f"{what}: they print different texts")
-    figures.record_times(what, ours, theirs, most)
+        sys.exit(f"{name}: they print different texts")
+    figures.record_times(name, ours, theirs, most)
 
 
 def run_and_record(figures, _given):

@@ -31,8 +31,8 @@ def run_searches(plans, book, most):
 def run_and_record_speed(figures, name, book):
     found = run_searches([(workers, CUT) for workers in ("1", *LEAST)], book, most=8)
     for workers, least in LEAST.items():
-        what = f"{name}, cut {CUT}: the rate of {workers} workers compared with 1"
-        figures.record_ratio(what, found["1", CUT], found[workers, CUT], least=least)
+        label = f"{name}, cut {CUT}: the rate of {workers} workers compared with 1"
+        figures.record_ratio(label, found["1", CUT], found[workers, CUT], least=least)
 
 
 def run_and_record_default(figures, name, book):

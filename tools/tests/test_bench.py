@@ -2,20 +2,22 @@
 
 import contextlib
 import io
+import os
 import shutil
 import subprocess
 import sys
 import tempfile
 import types
 import unittest
+import unittest.mock
 from pathlib import Path
 
-from support import TOP, worked
+from support import TOP, load_tool, worked
 
 sys.path.insert(0, str(TOP / "bench"))
 import clearing
 import running
-from figures import Figures
+from figures import Figures, multiple_text
 from lib.tool import modules
 
 PEER, THIN = TOP / "bench" / "peer.py", worked.read_cases_of_file("thin")
@@ -45,6 +47,10 @@ class Together(unittest.TestCase):
             (line,) = self.printed(lambda figures, value=value: figures.record_ratio("a sum", [value], [1], 1 / 6))
             _, figure, quartiles, *fields, _ = line
             self.assertEqual(([figure, *fields], quartiles), (shown, "one run"))
+
+    def test_a_small_multiple_has_two_digits_that_are_not_0(self):
+        texts = list(map(multiple_text, (0.1, 0.0749, 0.000091, 1.0, 99.0, 12_345.6)))
+        self.assertEqual(texts, ["0.10 x", "0.075 x", "0.000091 x", "1.00 x", "99.00 x", "12,346 x"])
 
     def test_a_target_between_the_quartiles_is_unclear(self):
         """Both for a figure that may be at most so much, and for one that must be at least so much."""
@@ -90,6 +96,18 @@ class Programs(unittest.TestCase):
         self.assertEqual(run.reported_seconds_or_exit("looks"), 1.5)
         with self.assertRaisesRegex(SystemExit, "no time of 'calls'"):
             run.reported_seconds_or_exit("calls")
+
+    def test_the_probe_is_built_again_by_sums_and_not_by_dates(self):
+        tool = load_tool("../bench/build-probe")
+        with tempfile.TemporaryDirectory() as folder, unittest.mock.patch.object(tool, "SOURCES", Path(folder)):
+            source, sums = Path(folder, "main.rt.bench"), []
+            for text, date in (("old", 1), ("old", 2), ("new", 1)):
+                source.write_text(text)
+                os.utime(source, (date, date))
+                sums.append(tool.read_sums({"probe": ["dam_plan"], "dam_plan": []}))
+        self.assertEqual(sums[0], sums[1])
+        self.assertEqual({name for name in sums[0] if sums[0][name] != sums[2][name]}, {"probe"})
+        self.assertEqual(set(sums[0]), {"kit", "probe", "dam_plan"})
 
     @unittest.skipUnless(shutil.which("rustc"), "rustc is missing")
     def test_a_call_at_a_full_plain_gate_fails(self):
