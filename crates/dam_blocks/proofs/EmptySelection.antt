@@ -1,6 +1,5 @@
 -- The empty selection is eligible.
 use Rattle.std.proofs.Common.{◌≡◌, ℕ, suc, ℤ, pos, ◌+ℤ◌, Bool, true, Option, Some, List, [], ◌∷◌, refl, arith}
-use Rattle.std.specs.Option.{option_map}
 use Rattle.std.proofs.lemmas.Int.{ints}
 use Rattle.dam_book.specs.Limits.{most_blocks}
 use Rattle.dam_hour.specs.declared.step.Step.{Step}

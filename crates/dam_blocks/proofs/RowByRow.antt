@@ -6,7 +6,6 @@ use Rattle.std.proofs.Common.{arith}
 use Rattle.std.specs.List.{slice_get, filter_map, cons_option}
 use Rattle.std.proofs.lemmas.Bool.Decides.{nat_tests}
 use Rattle.std.proofs.lemmas.List.{take_more, append-nil, map-set, get_or-map}
-use Rattle.std.proofs.lemmas.List.Elements.{filter_map-append}
 use Rattle.std.proofs.lemmas.Option.{slice_get_within, get_or_from_slice_get}
 use Rattle.std.proofs.Math.ListN.{set}
 use Rattle.dam_book.specs.Limits.{most_hourly}
@@ -19,7 +18,7 @@ use Rattle.dam_hour.specs.declared.step.Step.{Step}
 use Rattle.dam_blocks.specs.declared.problem.Block.{Block}
 use Rattle.dam_blocks.specs.declared.problem.Place.TheVariants.{Hour as AtHour, Block as AtBlock}
 use Rattle.dam_blocks.specs.declared.problem.ProblemRow.{ProblemRow}
-use Rattle.dam_blocks.specs.Problem.{step_in, steps_in, hours_from, block_under, blocks_in, place_after, rows_after, hourly_orders}
+use Rattle.dam_blocks.specs.Problem.{steps_in, hours_from, block_under, blocks_in, place_after, rows_after, hourly_orders}
 use Rattle.dam_blocks.specs.inside.Making.{hourly_step, with_step}
 use Rattle.dam_blocks.proofs.FromBook.{hour_stands, few_hours, blocks-append, steps-append}
 

@@ -1,10 +1,9 @@
 -- Numbers of the blocks at their places: how they are read, how large they are, and how they change.
-use Rattle.std.proofs.Common.{◌≡◌, ℕ, zero, suc, ◌*◌, ◌<◌, ◌≤◌, ◌==◌, cond, true, false, ℤ, pos, neg_ℤ, ◌+ℤ◌, ◌*ℤ◌, Some, List, []}
+use Rattle.std.proofs.Common.{◌≡◌, ℕ, zero, suc, ◌*◌, ◌<◌, ◌≤◌, ℤ, pos, neg_ℤ, ◌+ℤ◌, ◌*ℤ◌, Some, List, []}
 use Rattle.std.proofs.Common.{◌∷◌, length, take, get_or, slice_set, ap, ap₂, ◌∙◌, sym, subst, refl, arith}
 use Rattle.std.specs.List.{slice_get}
 use Rattle.std.proofs.lemmas.Int.{ints}
 use Rattle.dam_book.specs.Terms.{BlockTerms, IsBlockOrder}
-use Rattle.dam_book.specs.Volumes.{Pair, ArePairs}
 use Rattle.dam_book.specs.Limits.{most_blocks, last_period, greatest_volume}
 use Rattle.dam_book.specs.declared.order.Side.{Side}
 use Rattle.dam_book.specs.declared.order.Side.TheVariants.{Buy, Sell}

@@ -1,6 +1,6 @@
 -- The relaxed welfare, period by period.
 use Rattle.std.proofs.Common.{◌≡◌, ℕ, suc, ◌+◌, ◌*◌, ◌≤◌, ℤ, pos, neg_ℤ, ◌+ℤ◌, ◌≤ℤ◌, Bool, Option, Some, None, List, ◌++◌, length, drop, ap}
-use Rattle.std.proofs.Common.{ap₂, ◌∙◌, sym, refl, arith}
+use Rattle.std.proofs.Common.{ap₂, ◌∙◌, sym, arith}
 use Rattle.std.specs.List.{slice_get}
 use Rattle.std.specs.Option.{option_map}
 use Rattle.dam_hour.specs.Best.{greatest_welfare}

@@ -4,10 +4,9 @@ use Rattle.std.proofs.Common.{length-append, ap, ◌∙◌, refl, arith}
 use Rattle.std.proofs.lemmas.Int.{ints}
 use Rattle.std.proofs.lemmas.Bool.Decides.{nat_tests}
 use Rattle.dam_book.specs.Book.{is_day}
-use Rattle.dam_book.specs.Volumes.{Pair, ArePairs}
 use Rattle.dam_hour.specs.declared.step.Step.{Step}
 use Rattle.dam_hour.specs.Execution.{AreInRange}
-use Rattle.dam_book.specs.Limits.{last_period, greatest_volume, most_blocks}
+use Rattle.dam_book.specs.Limits.{last_period, most_blocks}
 use Rattle.dam_hour.specs.Limits.{greatest_value}
 use Rattle.dam_hour.specs.Best.{welfare_of, greatest_welfare}
 use Rattle.dam_blocks.specs.declared.problem.Block.{Block}

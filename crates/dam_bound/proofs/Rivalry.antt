@@ -1,5 +1,5 @@
 -- Two blocks at prices that lie in the ranges of their classes.
-use Rattle.std.proofs.Common.{◌≡◌, ℕ, zero, suc, ◌+◌, ◌*◌, ◌<◌, ◌≤◌, ◌&&◌, Bool, true, false, ℤ, pos, negsuc, ◌+ℤ◌, ◌-ℤ◌, ◌*ℤ◌, ◌≤ℤ◌, ◌<ℤ◌, Option, Some, None, List, [], ◌∷◌, length, take, get_or, option_map, unwrap_or, ap, ap₂, ◌∙◌, sym, subst, refl, arith}
+use Rattle.std.proofs.Common.{◌≡◌, ℕ, suc, ◌+◌, ◌*◌, ◌<◌, ◌≤◌, ◌&&◌, Bool, true, false, ℤ, pos, negsuc, ◌+ℤ◌, ◌-ℤ◌, ◌*ℤ◌, ◌≤ℤ◌, ◌<ℤ◌, Option, Some, None, List, length, take, get_or, ap, ap₂, ◌∙◌, sym, subst, refl, arith}
 use Rattle.std.specs.Prelude.{int_lt}
 use Rattle.std.specs.Int.{int_max}
 use Rattle.std.specs.List.{slice_get}
@@ -35,7 +35,7 @@ use Rattle.dam_bound.proofs.AtPlaces.{at_block, all_within, order_at, value_smal
 use Rattle.dam_bound.proofs.ClassPlaces.{times_plus, over_same, over_plus, over_times, over_next}
 use Rattle.dam_bound.proofs.Lining.{net_inside}
 use Rattle.dam_bound.proofs.LineByLine.{IsAtPlace}
-use Rattle.dam_bound.proofs.Members.{no_members, stands}
+use Rattle.dam_bound.proofs.Members.{no_members}
 use Rattle.dam_bound.proofs.PlaceSums.{times_within}
 use Rattle.dam_bound.proofs.PricesByClass.{class_price, gain_by, class_price_is, surplus_is}
 use Rattle.dam_bound.proofs.ClassPricing.{surplus_there}

@@ -3,14 +3,13 @@ use Rattle.std.proofs.Common.{◌≡◌, ℕ, ◌==◌, cond, ℤ, pos, neg_ℤ,
 use Rattle.std.proofs.Common.{arith}
 use Rattle.std.proofs.lemmas.Int.{ints}
 use Rattle.std.proofs.lemmas.Bool.Decides.{nat_tests}
-use Rattle.dam_book.specs.Terms.{BlockTerms}
 use Rattle.dam_book.specs.declared.order.Side.{Side}
 use Rattle.dam_book.specs.declared.order.Side.TheVariants.{Buy, Sell}
 use Rattle.dam_hour.specs.declared.step.Step.{Step}
 use Rattle.dam_hour.specs.Execution.{IsExecution, executed_volume, volume_on}
 use Rattle.dam_hour.specs.Best.{signed, welfare_of}
 use Rattle.dam_blocks.specs.declared.problem.Block.{Block}
-use Rattle.dam_blocks.specs.Selection.{over_accepted, volume_in, net_volume_of_block, value_in, net_volume, accepted_value}
+use Rattle.dam_blocks.specs.Selection.{volume_in, net_volume_of_block, value_in, net_volume, accepted_value}
 use Rattle.dam_bound.specs.Relaxed.{step_of, as_steps}
 use Rattle.dam_blocks.proofs.Sums.{over_accepted-nil, times_zero}
 

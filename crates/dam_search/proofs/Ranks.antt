@@ -5,12 +5,12 @@ use Rattle.std.proofs.lemmas.Int.{ints}
 use Rattle.dam_book.specs.Limits.{most_blocks}
 use Rattle.dam_blocks.specs.declared.selection.Solution.{Solution}
 use Rattle.dam_blocks.specs.Problem.{ProblemState}
-use Rattle.dam_blocks.specs.Result.{accepts_first, RanksAbove, RanksAtOrBelow}
+use Rattle.dam_blocks.specs.Result.{RanksAbove, RanksAtOrBelow}
 use Rattle.dam_bound.specs.Prefix.{IsCompletion}
 use Rattle.dam_search.specs.Piece.{IsFind, IsMatched, Rises, welfare_found}
 use Rattle.dam_search.specs.inside.PrefixWalk.{Finds, Covers}
 use Rattle.dam_search.specs.inside.Collect.{IsLong}
-use Rattle.dam_blocks.proofs.Ranks.{accepts_first-flipped, accepts_first-self, ranks_self}
+use Rattle.dam_blocks.proofs.Ranks.{accepts_first-flipped, ranks_self}
 
 -- a selection that another ranks above ranks below it
 pub above_below : (v : ℤ) (xs : List Bool) (w : ℤ) (ys : List Bool) → RanksAbove v xs w ys → RanksAtOrBelow w ys v xs

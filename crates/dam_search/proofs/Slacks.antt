@@ -1,9 +1,8 @@
 -- The slack that decisions leave under limits, by the places that are open.
-use Rattle.std.proofs.Common.{◌≡◌, ◌≢◌, ℕ, zero, suc, ◌≤◌, ℤ, pos, neg_ℤ, ◌+ℤ◌, ◌≤ℤ◌, Bool, true, false, not, ◌==◌, ◌||◌, List, ◌∷◌, length, ◌+◌, get_or}
+use Rattle.std.proofs.Common.{◌≡◌, ◌≢◌, ℕ, zero, suc, ◌≤◌, ℤ, pos, neg_ℤ, ◌+ℤ◌, ◌≤ℤ◌, Bool, true, false, not, ◌||◌, List, ◌∷◌, length, ◌+◌, get_or}
 use Rattle.std.proofs.Common.{ap, sym, subst, refl, arith}
 use Rattle.std.specs.Prelude.{nat_lt, None}
 use Rattle.std.proofs.lemmas.Int.{ints, int_max_is}
-use Rattle.std.proofs.lemmas.Bool.{eqb-true}
 use Rattle.std.proofs.lemmas.Bool.Decides.{nat_tests}
 use Rattle.dam_book.specs.Limits.{most_blocks}
 use Rattle.dam_blocks.specs.Problem.{ProblemState}
