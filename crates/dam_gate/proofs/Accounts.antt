@@ -13,7 +13,7 @@ use Rattle.dam_gate.specs.Settled.{numbered, receipts_of}
 use Rattle.dam_gate.specs.Headline.{AreSomeOf, AreOfHolder}
 use Rattle.dam_gate.specs.inside.Tally.{AreReceipts}
 use Rattle.dam_gate.proofs.Numbers.{numbered-head, numbered-tail, none_below}
-use Rattle.dam_gate.proofs.Permutations.{filter-permutation, short-permutation}
+use Rattle.dam_gate.proofs.Permutations.{filter-permutation}
 
 -- the entry is among these, between a front and a back
 pub record Stands (e : Entry) (rs : List Entry) : Type 0 where
@@ -29,9 +29,6 @@ stands n e es (r ∷ rs) one = elim (r.number == n) as (λ (b : Bool). r.number 
   | false ↦ λ other. let rest = stands n e es rs (sym (numbered-tail n r rs (eqb-false r.number n other)) ∙ one) in
       record { front = r ∷ rest.front; back = rest.back; is = ap (λ (xs : List Entry). r ∷ xs) rest.is }
 ] refl
-
-numbered-middle : (m : ℕ) (front back : List Entry) (e : Entry) → numbered m (front ++ e ∷ back) ≡ numbered m front ++ numbered m (e ∷ back)
-numbered-middle m front back e = filter-append (λ (x : Entry). x.number == m) front (e ∷ back)
 
 pub numbered-both : (m : ℕ) (front back : List Entry) → numbered m (front ++ back) ≡ numbered m front ++ numbered m back
 numbered-both m front back = filter-append (λ (x : Entry). x.number == m) front back
@@ -50,12 +47,12 @@ others n e es front back own none are m = elim (e.number == m) as
       | true ↦ λ same. let here : e.number ≡ m = eqb-true e.number m same in
           let gone : numbered m es ≡ [] = subst (λ (k : ℕ). numbered k es ≡ []) (sym own ∙ here) none in
           let one : numbered m front ++ e ∷ numbered m back ≡ e ∷ [] =
-          ap (λ (xs : List Entry). numbered m front ++ xs) (sym (numbered-head m e back here)) ∙ sym (numbered-middle m front back e)
+          ap (λ (xs : List Entry). numbered m front ++ xs) (sym (numbered-head m e back here)) ∙ sym (numbered-both m front (e ∷ back))
           ∙ are m ∙ numbered-head m e es here ∙ ap (λ (xs : List Entry). e ∷ xs) gone in
           numbered-both m front back ∙ no_more (numbered m front) (numbered m back) e one ∙ sym gone
       | false ↦ λ other. let apart : e.number ≢ m = eqb-false e.number m other in
           numbered-both m front back ∙ ap (λ (xs : List Entry). numbered m front ++ xs) (sym (numbered-tail m e back apart))
-          ∙ sym (numbered-middle m front back e)
+          ∙ sym (numbered-both m front (e ∷ back))
           ∙ are m ∙ numbered-tail m e es apart
     ] refl
 
@@ -97,8 +94,7 @@ at_most_one n m b (e ∷ es) legal = elim (e.number == m) as (λ (t : Bool). e.n
 -- entries, each once, are the entries number by number
 pub each_number : (periods : ℕ) (es rs : List Entry) → IsLegalHistory periods es → IsPermutation rs es → AreReceipts es rs
 each_number periods es rs legal once n =
-    short-permutation (numbered n rs) (numbered n es) (filter-permutation (λ (e : Entry). e.number == n) rs es once)
-    (at_most_one 1 n (empty_book periods) es legal)
+    filter-permutation (λ (e : Entry). e.number == n) rs es once (at_most_one 1 n (empty_book periods) es legal)
 
 only_one : (xs ys zs : List Entry) (r : Entry) → xs ++ r ∷ ys ≡ zs → length zs ≤ 1 → zs ≡ r ∷ []
 only_one [] [] zs r is few = sym is
@@ -113,7 +109,7 @@ are_entries b es front (r ∷ rs) back legal are =
     let n = r.number in
     let all : numbered n front ++ r ∷ numbered n (rs ++ back) ≡ numbered n es =
     ap (λ (xs : List Entry). numbered n front ++ xs) (sym (numbered-head n r (rs ++ back) refl))
-    ∙ sym (numbered-middle n front (rs ++ back) r) ∙ are n in (
+    ∙ sym (numbered-both n front (r ∷ (rs ++ back))) ∙ are n in (
       only_one (numbered n front) (numbered n (rs ++ back)) (numbered n es) r all (at_most_one 1 n b es legal),
       are_entries b es (front ++ r ∷ []) rs back legal (subst (AreReceipts es) (sym (append_assoc front (r ∷ []) (rs ++ back))) are),
     )

@@ -1,5 +1,5 @@
 -- Beginnings of one list.
-use Rattle.std.proofs.Common.{◌≡◌, ◌≤◌, List, [], ◌∷◌, ◌++◌, length, refl, ap, sym, ◌∙◌, arith, append_assoc, length-append}
+use Rattle.std.proofs.Common.{◌≡◌, ℕ, zero, suc, ◌≤◌, Some, slice_get, List, [], ◌∷◌, ◌++◌, length, refl, ap, sym, ◌∙◌, arith, append_assoc, length-append}
 use mathlib.Core.List.{IsPrefix}
 
 pub prefix_trans : {A : Type 0} (xs ys zs : List A) → IsPrefix xs ys → IsPrefix ys zs → IsPrefix xs zs
@@ -25,3 +25,9 @@ prefix_whole (x ∷ xs) (y ∷ ys) p le =
 
 pub prefix_length : {A : Type 0} (xs ys : List A) → IsPrefix xs ys → length xs ≤ length ys
 prefix_length xs ys p = omega (arith, sym (ap length p.1) ∙ length-append xs p.0)
+
+pub prefix_get : {A : Type 0} (xs ys : List A) (k : ℕ) (x : A) → IsPrefix xs ys → slice_get xs k ≡ Some x → slice_get ys k ≡ Some x
+prefix_get [] ys k x p is = absurd (cc)
+prefix_get (y ∷ xs) [] k x p is = absurd (cc (p.1))
+prefix_get (y ∷ xs) (z ∷ ys) zero x p is = let head : y ≡ z = cc (p.1) in cc (head, is)
+prefix_get (y ∷ xs) (z ∷ ys) (suc k) x p is = prefix_get xs ys k x (p.0, cc (p.1)) is

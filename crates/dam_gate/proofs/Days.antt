@@ -489,12 +489,6 @@ pub one-place : (cs : List Command) (ps : List ℕ) (p : ℕ) (o : Option Comman
 one-place cs ps p o is =
     commands_at-split cs ps (p ∷ []) ∙ ap (λ (x : Option Command). commands_at cs ps ++ cons_option x []) is
 
--- a place beyond the last has none
-pub none_past : (cs : List Command) (p : ℕ) → length cs ≤ p → slice_get cs p ≡ None
-none_past [] p past = refl
-none_past (c ∷ cs) zero past = absurd (omega (arith, past))
-none_past (c ∷ cs) (suc p) past = none_past cs p (omega (arith, past))
-
 -- the commands at the places so far and at the next one
 pub next-place : (cs : List Command) (ps : List ℕ) (i : ℕ) (o : Option Command) → i < length ps → slice_get cs (get_or ps i 0) ≡ o
     → commands_at cs (take (i + 1) ps) ≡ commands_at cs (take i ps) ++ cons_option o []

@@ -3,6 +3,7 @@ use Rattle.std.proofs.Common.{◌≡◌, ◌<◌, ℕ, zero, suc, Bool, true, fa
 use Rattle.std.proofs.Common.{slice_set, Some, None, refl, sym, ap, subst, ◌∙◌, append-nil, arith}
 use Rattle.std.proofs.lemmas.Bool.{or_parts}
 use Rattle.std.proofs.lemmas.List.Elements.{filter-append}
+use Rattle.std.proofs.lemmas.Option.{same_Some}
 use Rattle.dam_book.specs.Name.{same_text}
 use Rattle.dam_book.specs.Command.{giver}
 use Rattle.dam_book.specs.declared.command.Command.{Command}
@@ -42,13 +43,10 @@ places-other all front c who (w ∷ ws) (places ∷ all_places) gives other are 
 places-other all front c who [] (places ∷ all_places) gives other are = absurd are
 places-other all front c who (w ∷ ws) [] gives other are = absurd are
 
-some_same : {X : Type 0} (x y : X) → Some x ≡ Some y → x ≡ y
-some_same x y e = cc
-
 apart_from : (ws : List (List ℕ)) (w who : List ℕ) (at : ℕ) → is_one_of ws w ≡ false → slice_get ws at ≡ Some who → same_text w who ≡ false
 apart_from [] w who at apart is = absurd (cc)
 apart_from (v ∷ ws) w who zero apart is =
-    subst (λ (x : List ℕ). same_text w x ≡ false) (some_same v who is) (or_parts (same_text w v) (is_one_of ws w) apart).0
+    subst (λ (x : List ℕ). same_text w x ≡ false) (same_Some v who is) (or_parts (same_text w v) (is_one_of ws w) apart).0
 apart_from (v ∷ ws) w who (suc at) apart is =
     apart_from ws w who at (or_parts (same_text w v) (is_one_of ws w) apart).1 is
 
@@ -65,8 +63,8 @@ pub places-added : (all front : List Command) (c : Command) (place : ℕ) (who :
 places-added all front c place who [] all_places at places gives is apart stands old are = absurd (cc)
 places-added all front c place who (w ∷ ws) [] at places gives is apart stands old are = absurd (cc)
 places-added all front c place who (w ∷ ws) (s ∷ all_places) zero places gives is apart stands old are =
-    let same : w ≡ who = some_same w who stands in
-    let one : s ≡ places = some_same s places old in
+    let same : w ≡ who = same_Some w who stands in
+    let one : s ≡ places = same_Some s places old in
     let own : is_from w c ≡ true = ap (same_giver (Some w)) gives ∙ (text-Decides w who).1 same in (
       added all front c place w places own is (subst (λ (x : List ℕ). commands_at all x ≡ commands_by w front) one are.0),
       places-other all front c who ws all_places gives (subst (λ (x : List ℕ). is_one_of ws x ≡ false) same apart.0) are.1,

@@ -2,21 +2,16 @@
 use Rattle.std.proofs.Common.{◌≡◌, ℕ, zero, suc, ◌+◌, ◌-◌, List, [], ◌∷◌, ◌++◌, length, refl, sym, ap, subst, ◌∙◌, arith, All}
 use Rattle.std.proofs.Common.{◌<◌, ◌≤◌, ◌⊎◌, inl, inr, get_or, slice_get, Some}
 use Rattle.std.proofs.lemmas.Bool.{cases_lt}
+use Rattle.std.proofs.lemmas.Option.{same_Some}
 use mathlib.Core.List.{IsPrefix}
 use Rattle.dam_book.specs.declared.command.Entry.{Entry}
 use Rattle.dam_book.specs.Book.{BookState, book_after, IsLegalFrom}
 use Rattle.dam_gate.specs.Pass.{Knowledge, AccountState, StandIn}
 use Rattle.dam_gate.specs.Settled.{numbered, receipts_of}
 use Rattle.dam_gate.proofs.Accounts.{AreEntries}
-use Rattle.dam_gate.proofs.Beginnings.{prefix_trans}
+use Rattle.dam_gate.proofs.Beginnings.{prefix_get, prefix_trans}
 use Rattle.dam_gate.proofs.Numbers.{numbered-head, numbered-tail, none_below}
 use Rattle.dam_gate.proofs.Steps.{slice_get-last}
-
-prefix_get : (xs ys : List Entry) (k : ℕ) (x : Entry) → IsPrefix xs ys → slice_get xs k ≡ Some x → slice_get ys k ≡ Some x
-prefix_get [] ys k x p is = absurd (cc)
-prefix_get (y ∷ xs) [] k x p is = absurd (cc (p.1))
-prefix_get (y ∷ xs) (z ∷ ys) zero x p is = let head : y ≡ z = cc (p.1) in cc (head, is)
-prefix_get (y ∷ xs) (z ∷ ys) (suc k) x p is = prefix_get xs ys k x (p.0, cc (p.1)) is
 
 pub stand-longer : (es more rs : List Entry) → IsPrefix es more → StandIn es rs → StandIn more rs
 stand-longer es more [] p stand = tt
@@ -50,15 +45,12 @@ record IsOnly (n : ℕ) (es : List Entry) (r : Entry) : Type 0 where
   pub number : r.number ≡ n
   pub only : numbered n es ≡ r ∷ []
 
-some_entry : (x y : Entry) → Some x ≡ Some y → x ≡ y
-some_entry x y e = cc
-
 entry-at : (n k : ℕ) (b : BookState) (es : List Entry) (r : Entry) → IsLegalFrom n b es → slice_get es k ≡ Some r → IsOnly (n + k) es r
 entry-at n k b [] r legal is = absurd (cc)
 entry-at n zero b (e ∷ es) r legal is =
     let none = none_below (suc n) n (book_after b e.command) es legal.2 (omega arith) in
     let here : n ≡ n + 0 = omega arith in
-    subst (IsOnly (n + 0) (e ∷ es)) (some_entry e r is) (record {
+    subst (IsOnly (n + 0) (e ∷ es)) (same_Some e r is) (record {
       number = legal.0 ∙ here;
       only = subst (λ (m : ℕ). numbered m (e ∷ es) ≡ e ∷ []) here
           (numbered-head n e es legal.0 ∙ ap (λ (xs : List Entry). e ∷ xs) none);

@@ -1,15 +1,11 @@
 -- How the books of a keeper go on by an entry.
-use Rattle.std.proofs.Common.{◌≡◌, ◌++◌, ◌∷◌, [], ℕ, zero, suc, List, length, Option, None, Some, IfSome, slice_get, refl, sym, subst}
+use Rattle.std.proofs.Common.{◌≡◌, ◌++◌, ◌∷◌, [], ℕ, List, length, Option, None, Some, IfSome, slice_get, refl, sym, subst}
 use Rattle.std.proofs.lemmas.Option.{IfSome_then}
 use Rattle.dam_book.specs.Book.{BookState, book_after, refusal, reply_of}
 use Rattle.dam_book.specs.declared.command.Entry.{Entry}
 use Rattle.dam_book.specs.declared.reason.Reason.{Reason}
 use Rattle.dam_gate.specs.inside.Books.{AreSteps, BooksState, LeadsTo, EarlierState}
-
-slice_get-more : (es : List Entry) (i : ℕ) (e x : Entry) → slice_get es i ≡ Some x → slice_get (es ++ e ∷ []) i ≡ Some x
-slice_get-more [] i e x is = absurd (cc)
-slice_get-more (y ∷ es) zero e x is = is
-slice_get-more (y ∷ es) (suc i) e x is = slice_get-more es i e x is
+use Rattle.dam_gate.proofs.Beginnings.{prefix_get}
 
 pub slice_get-last : (es : List Entry) (e : Entry) → slice_get (es ++ e ∷ []) (length es) ≡ Some e
 slice_get-last [] e = refl
@@ -19,7 +15,7 @@ LeadsTo-more : (es : List Entry) (e : Entry) (s : EarlierState) (after : BookSta
 LeadsTo-more es e s after leads =
     record {
       entry = leads.entry;
-      stands = slice_get-more es s.place e leads.entry leads.stands;
+      stands = prefix_get es (es ++ e ∷ []) s.place leads.entry (e ∷ [], refl) leads.stands;
       decided = leads.decided;
       made = leads.made;
     }

@@ -1,6 +1,6 @@
 -- The facts that a tally keeps, receipt by receipt, and its marks in the end.
 use Rattle.std.proofs.Common.{◌≡◌, ◌≢◌, ℕ, zero, suc, ◌+◌, ◌-◌, ◌<◌, ◌≤◌, ◌==◌, ◌⊎◌, inl, inr, Bool, true, false, List, [], ◌∷◌, ◌++◌}
-use Rattle.std.proofs.Common.{length, map, Option, Some, None, MatchOption, MatchBool, min, refl, sym, ap, subst, ◌∙◌, length-append, arith}
+use Rattle.std.proofs.Common.{length, replicate, Option, Some, None, MatchOption, MatchBool, min, refl, sym, ap, subst, ◌∙◌, length-append, arith}
 use Rattle.std.specs.List.{slice_get}
 use Rattle.std.proofs.lemmas.Bool.{cases_lt}
 use Rattle.std.proofs.lemmas.List.Elements.{filter-append}
@@ -144,11 +144,11 @@ tally-none es fs extra rs r above tally =
       positive = numbered-other 0 rs r (λ none. omega (arith, none, above)) ∙ tally.positive;
     }
 
-pub none_found : (n : ℕ) (es : List Entry) → AreMarks n es (map (λ (e : Entry). Nothing) es) []
+none_found : (n : ℕ) (es : List Entry) → AreMarks n es (replicate (length es) Nothing) []
 none_found n [] = tt
 none_found n (e ∷ es) = (refl, none_found (suc n) es)
 
-pub tally-empty : (es : List Entry) → IsTally es (map (λ (e : Entry). Nothing) es) None []
+pub tally-empty : (es : List Entry) → IsTally es (replicate (length es) Nothing) None []
 tally-empty es = record { are_found = none_found 1 es; extra_is = λ n above. refl; positive = refl }
 
 pub found-length : (n : ℕ) (es : List Entry) (fs : List Mark) (rs : List Entry) → AreMarks n es fs rs → length fs ≡ length es

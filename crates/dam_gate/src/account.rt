@@ -1,6 +1,5 @@
 ghost use Rattle.std.specs.Prelude.{◌≡◌};
-ghost use Rattle.std.specs.Option.{option_copied};
-ghost use Rattle.dam_gate.specs.Pass.{IsAccount, same_giver};
+ghost use Rattle.dam_gate.specs.Pass.{IsAccount};
 
 use dam_book::{PackedEntry, Participant};
 use std::marker::Model;
@@ -28,27 +27,6 @@ impl Model for Account {
         IsAccount (record { holder = p.holder; seen = p.seen; receipts = p.receipts.items }) };
 }
 
-/// Whether the holder may give a command of this giver: a participant its own command, and the operator a close.
-pub(crate) fn acts_for(holder: &Option<Participant>, giver: Option<&Participant>) -> bool
-    ensures { result ≡ same_giver holder.now (option_copied giver.entry) }
-{
-    match (holder, giver) {
-        (Some(who), Some(giver)) => *who == *giver,
-        (None, None) => true,
-        (Some(_), None) | (None, Some(_)) => false,
-    }
-}
-
-/// A copy of the holder.
-pub(crate) fn copy_holder(holder: &Option<Participant>) -> Option<Participant>
-    ensures { result ≡ holder.now }
-{
-    match holder {
-        None => None,
-        Some(who) => Some(who.copy()),
-    }
-}
-
 impl Account {
     pub(crate) fn new(holder: Option<Participant>, seen: u32, receipts: Vec<PackedEntry>) -> Account
         requires { IsAccount (record { holder = holder; seen = seen; receipts = receipts.items }) }
@@ -65,7 +43,7 @@ impl Account {
     pub fn holder(&self) -> Option<Participant>
         ensures { result ≡ self.now.holder }
     {
-        copy_holder(&self.holder)
+        self.holder.as_ref().map(|who| who.copy())
     }
 
     /// The number of entries of the journal that it had seen.

@@ -11,7 +11,7 @@ ghost use Rattle.dam_gate.specs.inside.Entering.{AreGivers, IsUnsettled};
 
 use crate::account::Account;
 use crate::entering::enter_before_close;
-use crate::gate::{Gate, GateFault, PassFault};
+use crate::gate::Gate;
 use crate::givers::{check_command_count, find_givers};
 use crate::journal::Journal;
 use crate::opening::{Answered, GateName, Opening};
@@ -19,7 +19,7 @@ use crate::pass::Pass;
 use crate::settlement::{Mismatch, Settled, settle};
 use dam_book::{Command, DayLength, PackedCommand, Participant, Seed};
 use dam_plan::Turnstile;
-use std::alloc::{AllocError, AllocFailed, Global};
+use std::alloc::{AllocError, Global};
 use std::marker::Brand;
 use std::sync::Wait;
 use std::sync::ledger::Share as LedgerPart;
@@ -41,8 +41,9 @@ pub enum DayFault {
     /// The journal and the passes came out unsettled. By contract, this never happens.
     #[error("not settled: {0}")]
     NotSettled(Mismatch),
-    /// Memory ran out. A call or a pass that the day's gate refuses gives this fault too: there, only lack of memory is
-    /// known to refuse one, and the remedy is the same, to run the day again.
+    /// Memory ran out. A call or a pass that the day's gate refuses gives this fault too, since a day leaves no other cause
+    /// but `GateFault::Stopped`, which no test reaches: each command is its pass's to give and has room in the journal, and
+    /// there are as many passes and places as holders.
     #[error("out of memory")]
     Memory,
 }
@@ -56,17 +57,6 @@ pub struct SettledDay {
     pub accounts: Vec<Account>,
 }
 
-impl<T: Drop> From<AllocFailed<T>> for DayFault {
-    ghost use Rattle.std.specs.Prelude.{◌≡◌};
-    ghost use Rattle.dam_gate.specs.declared.day.DayFault.TheVariants.{Memory};
-
-    ghost from_gives = { λ _ fault. fault ≡ Memory };
-
-    fn from(_error: AllocFailed<T>) -> DayFault {
-        DayFault::Memory
-    }
-}
-
 impl From<AllocError> for DayFault {
     ghost use Rattle.std.specs.Prelude.{◌≡◌};
     ghost use Rattle.dam_gate.specs.declared.day.DayFault.TheVariants.{Memory};
@@ -74,28 +64,6 @@ impl From<AllocError> for DayFault {
     ghost from_gives = { λ _ fault. fault ≡ Memory };
 
     fn from(_error: AllocError) -> DayFault {
-        DayFault::Memory
-    }
-}
-
-impl From<PassFault> for DayFault {
-    ghost use Rattle.std.specs.Prelude.{◌≡◌};
-    ghost use Rattle.dam_gate.specs.declared.day.DayFault.TheVariants.{Memory};
-
-    ghost from_gives = { λ _ fault. fault ≡ Memory };
-
-    fn from(_fault: PassFault) -> DayFault {
-        DayFault::Memory
-    }
-}
-
-impl From<GateFault> for DayFault {
-    ghost use Rattle.std.specs.Prelude.{◌≡◌};
-    ghost use Rattle.dam_gate.specs.declared.day.DayFault.TheVariants.{Memory};
-
-    ghost from_gives = { λ _ fault. fault ≡ Memory };
-
-    fn from(_fault: GateFault) -> DayFault {
         DayFault::Memory
     }
 }
@@ -116,12 +84,11 @@ fn into_accounts_and_parts<J: GateName>(
     alloc: Global,
     passes: Vec<Pass<J>>,
     operator: Pass<J>,
-) -> Result<(Vec<Account>, LedgerPart<Answered<J>>), DayFault>
+) -> Result<(Vec<Account>, LedgerPart<Answered<J>>), AllocError>
     ensures accounts { IfOk result (λ r. r.0.items
         ≡ map (λ pass. pass.account) passes.items ++ operator.account ∷ []) }
     ensures parts { IfOk result (λ r. r.1.parts ≡ length passes.items + 1) }
     ensures count { IfOk result (λ r. r.1.amount ≡ length (receipts_of r.0.items)) }
-    ensures err { IfErr result (λ fault. fault ≡ DayFault.Memory) }
 {
     let mut accounts = Vec::with_capacity(alloc, passes.len() + 1)?;
     let (last, mut parts) = operator.into_account_and_part();
@@ -160,9 +127,13 @@ fn run_at_own_gate<J: GateName + Send + Sync, R: Threads + Wait + Sync, T: Turns
 {
     let gate = Gate::<J, &R>::for_day(rt, alloc, opening, periods, seed)?;
     let passes = enter_before_close(rt, alloc, &gate, turnstile, participants, commands)?;
-    let mut operator = gate.issue_operator_pass(rt)?;
+    let Ok(mut operator) = gate.issue_operator_pass(rt) else {
+        return Err(DayFault::Memory);
+    };
     learn_from_all(&mut operator, &passes);
-    let closed = gate.close_into_locked(&mut operator)?;
+    let Ok(closed) = gate.close_into_locked(&mut operator) else {
+        return Err(DayFault::Memory);
+    };
     let (accounts, mut parts) = into_accounts_and_parts(alloc, passes, operator)?;
     let journal = closed.into_audited_journal(&mut parts);
     let settled = settle_journal(alloc, journal, &accounts)?;

@@ -1,19 +1,18 @@
 //! The participants enter their commands at one gate, each on a thread of its own if one can be started.
 
-ghost use Rattle.std.specs.Prelude.{◌≡◌, ◌≤◌, ◌<◌, ℕ, true, Some, length, map, slice_index_or, IfOk, IfErr, All};
+ghost use Rattle.std.specs.Prelude.{◌≡◌, ◌≤◌, ◌<◌, ℕ, true, Some, length, map, slice_index_or, IfOk, All};
 ghost use Rattle.dam_gate.specs.Limits.{most_participants};
 ghost use Rattle.dam_gate.specs.Pass.{Knowledge, IsKnowledge, holders, knowing_nothing};
 ghost use Rattle.dam_gate.specs.inside.Entering.{AreApart, AreServed, Enters, HasAll, commands_at, places_of};
 
 use crate::command_places::{CommandPlaces, find_all_places, places_of};
-use crate::day::DayFault;
 use crate::gate::Gate;
 use crate::limits::MOST_PARTICIPANTS;
 use crate::opening::GateName;
 use crate::pass::Pass;
 use dam_book::{PackedCommand, Participant};
 use dam_plan::Turnstile;
-use std::alloc::Global;
+use std::alloc::{AllocError, Global};
 use std::sync::Wait;
 use std::thread;
 use std::thread::Threads;
@@ -94,17 +93,18 @@ fn have_all_entered<J: GateName>(passes: &[Pass<J>], all_places: &[CommandPlaces
     true
 }
 
-/// A pass for the participant, with room for this number of receipts.
+/// A pass for the participant, with room for this number of receipts. The error is `DayFault::Memory`.
 fn issue_pass_with_room<J: GateName, H: Wait + Drop>(
     rt: &impl Wait,
     gate: &Gate<J, H>,
     who: &Participant,
     receipts: usize,
-) -> Result<Pass<J>, DayFault>
-    ensures ok { IfOk result (λ pass. pass ≡ knowing_nothing (Some who.now)) }
-    ensures err { IfErr result (λ fault. fault ≡ DayFault.Memory) }
+) -> Result<Pass<J>, AllocError>
+    ensures { IfOk result (λ pass. pass ≡ knowing_nothing (Some who.now)) }
 {
-    let mut pass = gate.issue_pass(rt, who.copy())?;
+    let Ok(mut pass) = gate.issue_pass(rt, who.copy()) else {
+        return Err(AllocError);
+    };
     pass.reserve_receipts(receipts)?;
     Ok(pass)
 }
@@ -116,10 +116,9 @@ fn issue_passes<J: GateName, H: Wait + Drop>(
     gate: &Gate<J, H>,
     participants: &[Participant],
     all_places: &[CommandPlaces],
-) -> Result<Vec<Pass<J>>, DayFault>
-    ensures ok { IfOk result (λ passes.
+) -> Result<Vec<Pass<J>>, AllocError>
+    ensures { IfOk result (λ passes.
         passes.items ≡ map (λ who. knowing_nothing (Some who)) participants.now) }
-    ensures err { IfErr result (λ fault. fault ≡ DayFault.Memory) }
 {
     let mut passes = Vec::with_capacity(alloc, participants.len() + 1)?;
     for who in participants {
@@ -129,7 +128,7 @@ fn issue_passes<J: GateName, H: Wait + Drop>(
     Ok(passes)
 }
 
-/// The passes through which all commands were entered, one for each participant.
+/// The passes through which all commands were entered, one for each participant. The error is `DayFault::Memory`.
 pub(crate) fn enter_before_close<
     J: GateName + Send + Sync,
     R: Threads + Wait + Sync,
@@ -141,7 +140,7 @@ pub(crate) fn enter_before_close<
     turnstile: &T,
     participants: &[Participant],
     commands: &[PackedCommand],
-) -> Result<Vec<Pass<J>>, DayFault>
+) -> Result<Vec<Pass<J>>, AllocError>
     requires few { length participants.now ≤ most_participants }
     requires apart { AreApart participants.now }
     ensures ok { IfOk result (λ passes. AreServed commands.now participants.now
@@ -149,7 +148,6 @@ pub(crate) fn enter_before_close<
     ensures holders { IfOk result (λ passes. holders (map (λ pass. pass.account) passes.items)
         ≡ map (λ who. Some who) participants.now) }
     ensures valid { IfOk result (λ passes. All IsKnowledge passes.items) }
-    ensures err { IfErr result (λ fault. fault ≡ DayFault.Memory) }
 {
     let all_places = find_all_places(alloc, participants, commands)?;
     let all_places = all_places.as_slice();
@@ -158,7 +156,7 @@ pub(crate) fn enter_before_close<
     gate.reserve_entries(rt, commands.len() + 1)?;
     enter_all(rt, gate, turnstile, &mut passes, commands, all_places);
     if !have_all_entered(&passes, all_places) {
-        return Err(DayFault::Memory);
+        return Err(AllocError);
     }
     Ok(passes)
 }

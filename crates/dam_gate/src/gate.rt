@@ -34,9 +34,8 @@ pub enum GateFault {
     /// Memory ran out.
     #[error("out of memory")]
     Memory,
-    /// The gate has stopped: its history has an entry that its journal lacks, so no version can be shown any more, and
-    /// each later call fails. No clause rules this out, but no test reaches it. A caller needn't tell it from other faults:
-    /// only after `Memory` may a call succeed if it is made again.
+    /// The gate has stopped: its history didn't take the entry, or the version after it wasn't shown. No clause rules this
+    /// out, but no test reaches it. A caller needn't tell it from other faults: only `Memory` is a reason to call again.
     #[error("the gate has stopped")]
     Stopped,
 }
@@ -183,7 +182,8 @@ impl<J: GateName, R: Wait + Drop> Gate<J, R> {
             return Err(GateFault::NotYours);
         }
         let mut locked = self.locked.lock(rt);
-        let packed = locked.keeper().pack_unless_full(&command)?;
+        locked.keeper().check_not_full(command.participant())?;
+        let packed = PackedCommand::of(locked.alloc, &command)?;
         let (number, reply) = pass.step(&mut locked, packed)?;
         Ok(Entry {
             number,
@@ -215,7 +215,7 @@ impl<J: GateName, R: Wait + Drop> Gate<J, R> {
 
     /// Makes room in the journal for this number of further entries.
     pub(crate) fn reserve_entries(&self, rt: &impl Wait, entries: usize) -> Result<(), AllocError> {
-        self.locked.lock(rt).reserve_entries(entries)
+        self.locked.lock(rt).keeper.reserve_entries(entries)
     }
 
     /// The state under the lock after the operator has closed, when nobody else uses the gate any more.
@@ -225,7 +225,8 @@ impl<J: GateName, R: Wait + Drop> Gate<J, R> {
             IsClosedByOperator operator.old operator.new.account locked.journal) }
     {
         let mut locked = self.locked.into_inner();
-        let close = locked.keeper().pack_unless_full(&Command::Close)?;
+        locked.keeper().check_not_full(None)?;
+        let close = PackedCommand::of(locked.alloc, &Command::Close)?;
         let _answer = operator.step(&mut locked, close)?;
         let _receipts = operator.receipts(); // for the proof: the invariant of a pass
         Ok(locked)

@@ -50,7 +50,9 @@ fn add_giver(
     if participants.len() >= MOST_PARTICIPANTS {
         return Err(DayFault::TooManyParticipants(place));
     }
-    participants.push(who.copy())?;
+    if participants.push(who.copy()).is_err() {
+        return Err(DayFault::Memory);
+    }
     Ok(())
 }
 

@@ -149,22 +149,6 @@ impl<A: Allocator + Copy> Keeper<A> {
         })
     }
 
-    /// Prepares the command's step for `append`: it takes all memory of the step, which is the packed command, the room
-    /// in the journal, and a book for the step's result, if it changes the book.
-    ///
-    /// The journal and the book stay as they are, and the room in the journal doesn't shrink. So a step that was prepared
-    /// for this journal still is.
-    pub fn prepare(&mut self, command: &Command) -> Result<PreparedStep<A>, KeeperFault>
-        ensures prepared { IfOk result (IsPreparedFor self.new command.now) }
-        ensures journal { self.new.journal ≡ self.old.journal }
-        ensures room { self.old.room ≤ self.new.room }
-        ensures fault { IfErr result
-            (IsKeeperFault (length self.old.journal.entries) command.now) }
-    {
-        let packed = self.pack_unless_full(command)?;
-        Ok(self.prepare_step(packed, command)?)
-    }
-
     /// `Ok` if the journal has room for a command of this giver, who is `None` for the operator. The only fault is
     /// `JournalFull`.
     pub(crate) fn check_not_full(&self, who: Option<&Participant>) -> Result<(), KeeperFault>
@@ -178,57 +162,26 @@ impl<A: Allocator + Copy> Keeper<A> {
         Ok(())
     }
 
-    /// Packs the command for its entry, unless the journal is full for it.
-    pub(crate) fn pack_unless_full(
-        &self,
-        command: &Command,
-    ) -> Result<PackedCommand<A>, KeeperFault>
-        ensures packed { IfOk result (λ packed. packed ≡ command.now) }
-        ensures not_full { OnOk result
-            (is_journal_full (length self.now.journal.entries) command.now ≡ false) }
-        ensures fault { IfErr result
-            (IsKeeperFault (length self.now.journal.entries) command.now) }
-    {
-        self.check_not_full(command.participant())?;
-        Ok(PackedCommand::of(*self.entries.allocator(), command)?)
-    }
-
-    /// Prepares the step of a packed command, as `prepare` does. The journal has room for the command, and its entry takes
-    /// it over.
-    pub(crate) fn prepare_packed(
-        &mut self,
-        command: PackedCommand<A>,
-    ) -> Result<PreparedStep<A>, AllocError>
-        requires { is_journal_full (length self.old.journal.entries) command ≡ false }
+    /// Prepares the command's step for `append`: it takes all memory of the step, which is the room in the journal, and a
+    /// book for the step's result, if the command changes the book. The entry takes over the command, which is decided
+    /// once, for the reply, for the book after it and for the book before.
+    ///
+    /// The journal and the book stay as they are, and the room in the journal doesn't shrink. So a step that was prepared
+    /// for this journal still is.
+    pub fn prepare(&mut self, command: PackedCommand<A>) -> Result<PreparedStep<A>, KeeperFault>
         ensures prepared { IfOk result (IsPreparedFor self.new command) }
         ensures journal { self.new.journal ≡ self.old.journal }
         ensures room { self.old.room ≤ self.new.room }
+        ensures fault { IfErr result (IsKeeperFault (length self.old.journal.entries) command) }
     {
-        let unpacked = command.command();
-        self.prepare_step(command, &unpacked)
-    }
-
-    /// Prepares the step of a packed command: it takes the rest of the step's memory.
-    ///
-    /// The command is decided once, for the reply, for the book after it and for the book before.
-    fn prepare_step(
-        &mut self,
-        packed: PackedCommand<A>,
-        command: &Command,
-    ) -> Result<PreparedStep<A>, AllocError>
-        requires packed { packed ≡ command.now }
-        requires not_full { is_journal_full (length self.old.journal.entries) command.now
-            ≡ false }
-        ensures prepared { IfOk result (IsPreparedFor self.new command.now) }
-        ensures journal { self.new.journal ≡ self.old.journal }
-        ensures room { self.old.room ≤ self.new.room }
-    {
+        self.check_not_full(command.participant())?;
         let number = self.len() + 1;
         self.entries.reserve(1)?;
-        let outcome = self.books.book().outcome(command);
-        let book = self.prepare_book_after(command, &outcome)?;
+        let unpacked = command.command();
+        let outcome = self.books.book().outcome(&unpacked);
+        let book = self.prepare_book_after(&unpacked, &outcome)?;
         Ok(PreparedStep {
-            entry: PackedEntry::new(number, packed, outcome.reply()),
+            entry: PackedEntry::new(number, command, outcome.reply()),
             book,
             outcome,
         })
@@ -259,21 +212,8 @@ impl<A: Allocator + Copy> Keeper<A> {
         }
     }
 
-    /// Appends the prepared step, and returns its entry. It takes no memory and can't be refused.
-    pub fn append(&mut self, prepared: PreparedStep<A>) -> Entry
-        requires { IsPreparedFor self.old prepared.entry.command prepared }
-        ensures entry { result ≡ prepared.entry }
-        ensures step { self.new.journal ≡ journal_after self.old.journal prepared.entry.command }
-        ensures day { self.new.journal.book.periods ≡ self.old.journal.book.periods }
-        ensures room { self.old.room ≡ self.new.room + 1 }
-    {
-        let entry = prepared.entry().entry();
-        self.append_packed(prepared);
-        entry
-    }
-
-    /// Appends the step's entry to the journal, and takes over its book, as `append` does, but leaves the entry packed.
-    pub(crate) fn append_packed(&mut self, prepared: PreparedStep<A>)
+    /// Appends the step's entry to the journal, and takes over its book. It takes no memory and can't be refused.
+    pub fn append(&mut self, prepared: PreparedStep<A>)
         requires { IsPreparedFor self.old prepared.entry.command prepared }
         ensures step { self.new.journal ≡ journal_after self.old.journal prepared.entry.command }
         ensures day { self.new.journal.book.periods ≡ self.old.journal.book.periods }
@@ -300,8 +240,12 @@ impl<A: Allocator + Copy> Keeper<A> {
         ensures err { OnErr result (self.new.journal ≡ self.old.journal) }
         ensures fault { IfErr result (IsKeeperFault (length self.old.journal.entries) command) }
     {
-        let prepared = self.prepare(&command)?;
-        Ok(self.append(prepared))
+        self.check_not_full(command.participant())?;
+        let packed = PackedCommand::of(*self.entries.allocator(), &command)?;
+        let prepared = self.prepare(packed)?;
+        let entry = prepared.entry().entry();
+        self.append(prepared);
+        Ok(entry)
     }
 
     /// The number of entries held.

@@ -34,7 +34,7 @@ pub(crate) struct Locked<J: GateName, R: Wait + Drop>
 where
     Shown<J>: Absorb<NextShown<J>, State = u64>,
 {
-    alloc: Global,
+    pub(crate) alloc: Global,
     pub(crate) keeper: Keeper,
     // adds the entries to the history
     entry_counter: EntryCounter<J>,
@@ -247,13 +247,6 @@ impl<J: GateName, R: Wait + Drop> Locked<J, R> {
         &self.keeper
     }
 
-    /// Makes room in the journal for this number of further entries.
-    pub(crate) fn reserve_entries(&mut self, entries: usize) -> Result<(), AllocError>
-        ensures { self.new ≡ self.old }
-    {
-        self.keeper.reserve_entries(entries)
-    }
-
     /// The journal. After those who look have finished, versions aren't shown any more.
     pub(crate) fn into_journal(self) -> Journal
         ensures value { result ≡ self.journal }
@@ -333,7 +326,7 @@ impl<J: GateName, R: Wait + Drop> Locked<J, R> {
             (fault ≡ GateFault.Memory) ⊎ (fault ≡ GateFault.Stopped)) }
     {
         let _held = self.keeper.len(); // for the proof: the invariant of a journal
-        let prepared = self.keeper.prepare_packed(command)?;
+        let prepared = self.keeper.prepare(command)?;
         let version = version_of(self.alloc, &self.keeper, &self.history)?;
         let slot = stage_next_slot(self.alloc, &mut self.writer, &mut self.staged_slot)?;
         let entry = prepared.entry();
@@ -355,7 +348,7 @@ impl<J: GateName, R: Wait + Drop> Locked<J, R> {
         self.staged_slot = None;
         self.shown_note = shown_note;
         let answer = (entry.number(), entry.reply());
-        self.keeper.append_packed(prepared);
+        self.keeper.append(prepared);
         self.answered_calls.add(part, 1);
         self.history = after.copy();
         Ok((answer, after))

@@ -1,4 +1,4 @@
-ghost use Rattle.std.specs.Prelude.{◌≡◌, ◌<◌, ◌≤◌, ◌⊎◌, [], true, false, length, IfOk, IfErr, IfSome, OnOk, OnErr, OnSome, IfNone};
+ghost use Rattle.std.specs.Prelude.{◌≡◌, ◌<◌, ◌⊎◌, [], true, false, length, IfOk, IfErr, IfSome, OnOk, OnErr, OnSome, IfNone};
 ghost use Rattle.std.specs.Option.{option_copied};
 ghost use mathlib.Core.List.{IsPrefix};
 ghost use Rattle.dam_gate.specs.Journal.{journal_after, next_entry};
@@ -7,7 +7,7 @@ ghost use Rattle.dam_gate.specs.Pass.{IsKnowledge, after_learning, after_look, i
 ghost use Rattle.dam_gate.specs.Gate.{BeginsWithAll, IsCalled, IsLook};
 ghost use Rattle.dam_gate.specs.inside.Locked.{entry_of};
 
-use crate::account::{Account, acts_for, copy_holder};
+use crate::account::Account;
 use crate::gate::GateFault;
 use crate::history::History;
 use crate::locked::Locked;
@@ -23,7 +23,7 @@ use std::sync::ledger::Share as LedgerPart;
 /// A note of a call: the gate's history up to the call's entry. Another pass of the gate can learn it.
 #[derive(Drop)]
 pub struct Note<J: GateName> {
-    history: History<J>,
+    pub(crate) history: History<J>,
 }
 
 impl<J: GateName> Model for Note<J> {
@@ -33,16 +33,6 @@ impl<J: GateName> Model for Note<J> {
     ghost Value = { List Entry };
 
     ghost view = { λ n. n.history };
-}
-
-impl<J: GateName> Note<J> {
-    /// One of the two histories is a prefix of the other.
-    pub(crate) fn notes_have_one_history(&self, other: &Note<J>)
-        ensures { (IsPrefix self.now other.now) ⊎ (IsPrefix other.now self.now) }
-    {
-        // for the proof: both are prefixes of the gate's one history
-        let _longer = self.history.longer(&other.history);
-    }
 }
 
 /// The state that a holder carries through the gate's calls: the gate's history as far as it has seen it and learnt of
@@ -55,7 +45,7 @@ pub struct Pass<J: GateName> {
     holder: Option<Participant>,
     receipts: Vec<PackedEntry>,
     // the gate's history as far as it has seen it
-    history: History<J>,
+    pub(crate) history: History<J>,
     learnt: History<J>,
     note: Option<Note<J>>,
     reader: ReadHandle<Shown<J>>,
@@ -127,7 +117,7 @@ impl<J: GateName> Pass<J> {
     pub fn holder(&self) -> Option<Participant>
         ensures { result ≡ self.now.account.holder }
     {
-        copy_holder(&self.holder)
+        self.holder.as_ref().map(|who| who.copy())
     }
 
     /// The number of entries of the journal that it has seen.
@@ -151,7 +141,11 @@ impl<J: GateName> Pass<J> {
     pub(crate) fn acts_for(&self, giver: Option<&Participant>) -> bool
         ensures { result ≡ same_giver self.now.account.holder (option_copied giver.entry) }
     {
-        acts_for(&self.holder, giver)
+        match (&self.holder, giver) {
+            (Some(who), Some(giver)) => *who == *giver,
+            (None, None) => true,
+            (Some(_), None) | (None, Some(_)) => false,
+        }
     }
 
     /// The participant's order of that name, and whether the book is closed, in the version that is shown. It takes no
@@ -195,15 +189,6 @@ impl<J: GateName> Pass<J> {
         ensures one { (self.new.learnt ≡ self.old.learnt) ⊎ (self.new.learnt ≡ note.now) }
     {
         self.learnt = self.learnt.longer(&note.history);
-    }
-
-    /// One of the two seen histories is a prefix of the other.
-    pub(crate) fn passes_have_one_history(&self, other: &Pass<J>)
-        ensures { (IsPrefix self.now.history other.now.history)
-            ⊎ (IsPrefix other.now.history self.now.history) }
-    {
-        // for the proof: both are prefixes of the gate's one history
-        let _longer = self.history.longer(&other.history);
     }
 
     /// Makes room for this number of further receipts.

@@ -1,13 +1,12 @@
 ghost use Rattle.std.specs.Prelude.{◌≡◌, true, IfOk, IfErr};
-ghost use Rattle.dam_gate.specs.Settled.{IsMismatch, IsSettled, receipts_of};
+ghost use Rattle.dam_gate.specs.Settled.{IsMismatch, IsSettled};
 ghost use Rattle.dam_gate.specs.Headline.{IsWholeAccount};
-ghost use Rattle.dam_gate.specs.inside.Tally.{IsFirstMismatch};
 
 use crate::account::Account;
 use crate::journal::Journal;
 use crate::laws::whole_account;
 use crate::tally::Tally;
-use std::alloc::{AllocError, Allocator, Global};
+use std::alloc::{Allocator, Global};
 use std::marker::Model;
 use thiserror::Error;
 
@@ -94,29 +93,19 @@ pub fn settle<A: Allocator + Copy, B: Allocator>(
             journal,
         });
     }
-    match first_mismatch(alloc, &journal, accounts) {
-        Ok(None) => {
+    let entries = journal.entries();
+    let Ok(tally) = Tally::of(alloc, entries, accounts) else {
+        return Err(Unsettled {
+            why: Mismatch::Memory,
+            journal,
+        });
+    };
+    match tally.first_mismatch(entries) {
+        None => {
             let settled = Settled { journal };
             whole_account(&settled, accounts);
             Ok(settled)
         }
-        Ok(Some(why)) => Err(Unsettled { why, journal }),
-        Err(_) => Err(Unsettled {
-            why: Mismatch::Memory,
-            journal,
-        }),
+        Some(why) => Err(Unsettled { why, journal }),
     }
-}
-
-/// The mismatch at the least faulty number, if there is one.
-fn first_mismatch<A: Allocator + Copy, B: Allocator>(
-    alloc: B,
-    journal: &Journal<A>,
-    accounts: &[Account],
-) -> Result<Option<Mismatch>, AllocError>
-    ensures { IfOk result (λ why.
-        IsFirstMismatch journal.now.entries (receipts_of accounts.now) why) }
-{
-    let tally = Tally::of(alloc, journal.entries(), accounts)?;
-    Ok(tally.first_mismatch(journal.entries()))
 }

@@ -60,10 +60,7 @@ impl<A: Allocator> Tally<A> {
         ensures tally { IfOk result (λ tally.
             IsTally entries.now tally.found.items tally.extra []) }
     {
-        let mut found = Vec::with_capacity(alloc, entries.len())?;
-        for _ in entries {
-            found.push(Mark::Nothing)?;
-        }
+        let found = vec![in alloc; Mark::Nothing; entries.len()]?;
         Ok(Tally { found, extra: None })
     }
 

@@ -24,9 +24,9 @@ returns-clause-day g c =
     let op : AccountState = c.close_into_locked.new.operator.account in
     let j = c.into_audited_journal-journal.result in
     let passes = c.in_ok-accounts.accounts.items in
-    let closed : IsClosedByOperator before op j = subst (IsClosedByOperator before op) (sym c.into_audited_journal-journal.ensures.value) c.in_ok-closed.ensures in
+    let closed : IsClosedByOperator before op j = subst (IsClosedByOperator before op) (sym c.into_audited_journal-journal.ensures.value) c.in-Ok-close_into_locked.ensures in
     let is : before ≡ after_learning (knowing_nothing None) before.learnt =
-    c.learn_from_all.ensures.pass ∙ ap (λ (k : Knowledge). after_learning k before.learnt) c.in_ok-operator.ensures in
+    c.learn_from_all.ensures.pass ∙ ap (λ (k : Knowledge). after_learning k before.learnt) c.in-Ok.ensures in
     let begin = subst (λ (xs : List Knowledge). (i : ℕ) (d : Knowledge) → i < length xs → IsPrefix (get_or xs i d).history before.learnt)
     c.deref.ensures.value c.learn_from_all.ensures.learnt in
     let most = sym (ap (λ (o : OpeningState). o.passes) c.requires.name) ∙ c.requires.passes in
@@ -64,9 +64,9 @@ returns-in_err-settled-clause-err g c =
     let op : AccountState = c.close_into_locked.new.operator.account in
     let j = c.into_audited_journal-journal.result in
     let passes = c.in_ok-accounts.accounts.items in
-    let closed : IsClosedByOperator before op j = subst (IsClosedByOperator before op) (sym c.into_audited_journal-journal.ensures.value) c.in_ok-closed.ensures in
+    let closed : IsClosedByOperator before op j = subst (IsClosedByOperator before op) (sym c.into_audited_journal-journal.ensures.value) c.in-Ok-close_into_locked.ensures in
     let is : before ≡ after_learning (knowing_nothing None) before.learnt =
-    c.learn_from_all.ensures.pass ∙ ap (λ (k : Knowledge). after_learning k before.learnt) c.in_ok-operator.ensures in
+    c.learn_from_all.ensures.pass ∙ ap (λ (k : Knowledge). after_learning k before.learnt) c.in-Ok.ensures in
     let begin = subst (λ (xs : List Knowledge). (i : ℕ) (d : Knowledge) → i < length xs → IsPrefix (get_or xs i d).history before.learnt)
     c.deref.ensures.value c.learn_from_all.ensures.learnt in
     let most = sym (ap (λ (o : OpeningState). o.passes) c.requires.name) ∙ c.requires.passes in

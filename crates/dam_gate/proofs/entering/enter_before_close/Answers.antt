@@ -27,7 +27,7 @@ returns-clause-ok g c =
     (c.deref.ensures.value ∙ seam) (c.have_all_entered.ensures.all c.if-not-have_all_entered.false) in
     subst (λ (ks : List Knowledge). AreServed given participants (accounts ks)) (sym seam)
     (served-all given participants all_places (accounts olds) (accounts news) are
-    (ap accounts (c.deref_mut.ensures.value ∙ c.in_ok-passes.ensures.ok) ∙ new-accounts participants)
+    (ap accounts (c.deref_mut.ensures.value ∙ c.in_ok-passes.ensures) ∙ new-accounts participants)
     (length-map news (λ (k : Knowledge). k.account) ∙ same ∙ sym (length-map olds (λ (k : Knowledge). k.account)))
     (accounts-enter own olds news same c.enter_all.ensures) (accounts-all (places_of all_places) news all))
 
@@ -45,7 +45,7 @@ returns-clause-holders g c =
     let own = λ (i : ℕ). commands_at given (places_of c.as_slice-all_places.result.now i) in
     subst (λ (ks : List Knowledge). holders (accounts ks) ≡ map (λ (who : List ℕ). Some who) participants) (sym seam)
     (held-all own participants (accounts olds) (accounts news)
-    (ap accounts (c.deref_mut.ensures.value ∙ c.in_ok-passes.ensures.ok) ∙ new-accounts participants)
+    (ap accounts (c.deref_mut.ensures.value ∙ c.in_ok-passes.ensures) ∙ new-accounts participants)
     (length-map news (λ (k : Knowledge). k.account) ∙ same ∙ sym (length-map olds (λ (k : Knowledge). k.account)))
     (accounts-enter own olds news same c.enter_all.ensures))
 

@@ -1,13 +1,13 @@
 -- One command more is entered; a refused call leaves the receipts of the commands before it.
 use Rattle.std.proofs.Common.{◌≡◌, ◌<◌, ◌+◌, ◌++◌, ◌∷◌, [], List, None, Some, length, get_or, slice_get, take, drop, ap, sym, ◌∙◌}
 use Rattle.std.proofs.Common.{append-nil, arith}
-use Rattle.std.proofs.lemmas.Option.{slice_get-get_or}
+use Rattle.std.proofs.lemmas.Option.{slice_get-get_or, slice_get_past}
 use Rattle.dam_book.specs.declared.command.Command.{Command}
 use Rattle.dam_book.specs.Book.{commands_of}
 use Rattle.dam_gate.specs.Pass.{Knowledge}
 use Rattle.dam_gate.specs.inside.Entering.{commands_at}
 use Rattle.dam_gate.specs.inside.Locked.{entry_of}
-use Rattle.dam_gate.proofs.Days.{own-split, none_past, next-place, one-receipt}
+use Rattle.dam_gate.proofs.Days.{own-split, next-place, one-receipt}
 use Rattle.dam_gate.proofs.entering.enter_commands.Goals as goal
 
 pub loop-place-preserved-in_default : goal.loop-place-preserved-in_default
@@ -15,7 +15,7 @@ loop-place-preserved-in_default g c =
     let cs = c.args.commands.now in
     let ps = c.args.places.now in
     let i = c.loop-place.place-index in
-    let none : slice_get cs (get_or ps i 0) ≡ None = none_past cs (get_or ps i 0) c.in_default.ensures.lookup.3 in
+    let none : slice_get cs (get_or ps i 0) ≡ None = slice_get_past cs (get_or ps i 0) c.in_default.ensures.lookup.3 in
     let more : commands_at cs (take (i + 1) ps) ≡ commands_at cs (take i ps) = next-place cs ps i None c.loop-place-test.true none
     ∙ append-nil (commands_at cs (take i ps)) in
     record {

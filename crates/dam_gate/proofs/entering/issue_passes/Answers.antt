@@ -9,4 +9,4 @@ loop-who-preserved g c =
     let new_one = λ (who : List ℕ). knowing_nothing (Some who) in
     rw (take_more c.args.participants.now c.loop-who.who-index c.who-item.result c.loop-who-test.true, map-append)
     (c.in_ok-push.ensures.items ∙ ap₂ (λ (xs : List Knowledge) (x : Knowledge). xs ++ x ∷ []) c.loop-who.invariant
-    (c.in_ok-issue_pass_with_room.ensures.ok ∙ ap new_one c.who-item.is))
+    (c.in_ok-issue_pass_with_room.ensures ∙ ap new_one c.who-item.is))

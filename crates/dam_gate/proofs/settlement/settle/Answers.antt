@@ -7,16 +7,16 @@ use Rattle.dam_gate.proofs.settlement.settle.Goals as goal
 
 pub whole_account-requires : goal.whole_account-requires
 whole_account-requires g c =
-    let legal = c.book.ensures.valid.history.legal in
+    let rs = receipts_of c.args.accounts.now in
     record {
       closed = search;
-      each_once = each_once 1 (empty_book c.args.journal.book.periods) c.args.journal.entries (receipts_of c.args.accounts.now) legal
-          (rw c.in-Ok-None.field-0-is at c.in-Ok-None.ensures);
+      each_once = each_once 1 (empty_book c.args.journal.book.periods) c.args.journal.entries rs c.book.ensures.valid.history.legal
+          (rw (c.entries-entries.ensures.value, c.in-None.is) at (c.first_mismatch.ensures rs c.in-Ok.ensures.tally));
     }
 
-pub returns-in-Ok-Some-clause-exact : goal.returns-in-Ok-Some-clause-exact
-returns-in-Ok-Some-clause-exact g c = λ settled.
-    let legal = c.book.ensures.valid.history.legal in
-    absurd (no_fault c.args.journal.entries (receipts_of c.args.accounts.now) c.in-Ok-Some.why
-    (rw c.in-Ok-Some.field-0-is at c.in-Ok-Some.ensures)
-    (each_number c.args.journal.book.periods c.args.journal.entries (receipts_of c.args.accounts.now) legal settled.each_once))
+pub returns-clause-exact : goal.returns-clause-exact
+returns-clause-exact g c = λ settled.
+    let rs = receipts_of c.args.accounts.now in
+    absurd (no_fault c.args.journal.entries rs c.in-Some.why
+    (rw (c.entries-entries.ensures.value, c.in-Some.is) at (c.first_mismatch.ensures rs c.in-Ok.ensures.tally))
+    (each_number c.args.journal.book.periods c.args.journal.entries rs c.book.ensures.valid.history.legal settled.each_once))

@@ -11,7 +11,7 @@ pub returns : goal.returns
 returns g c =
     let before = c.args.operator.now in
     let earlier : JournalState = c.into_inner-locked.result.journal in
-    let close : c.in_ok-close.close ≡ Close = c.in_ok-close.ensures.packed in
+    let close : c.in_ok-close.close ≡ Close = c.in_ok-close.ensures.command in
     let step = c.in_ok-_answer.ensures in
     record {
       earlier = earlier;

@@ -14,7 +14,7 @@ extend_history_and_show-requires-clause-journal g c =
     let j : JournalState = c.self.inside.keeper.journal in
     let command = c.args.command in
     let prepared = c.in_ok-prepared.ensures.prepared in
-    let same : c.prepare_packed.new.self.journal ≡ j = c.prepare_packed.ensures.journal in
+    let same : c.prepare.new.self.journal ≡ j = c.prepare.ensures.journal in
     let entry : c.in_ok-prepared.prepared.entry ≡ next_entry j command = prepared.entry ∙ ap (λ (x : JournalState). next_entry x command) same in
     let book : c.in_ok-prepared.prepared.book ≡ book_after j.book command = prepared.book
     ∙ ap (λ (x : JournalState). book_after x.book command) same in
@@ -27,7 +27,7 @@ extend_history_and_show-requires-clause-day g c =
     let j : JournalState = c.self.inside.keeper.journal in
     let command = c.args.command in
     let book : c.in_ok-prepared.prepared.book ≡ book_after j.book command =
-    c.in_ok-prepared.ensures.prepared.book ∙ ap (λ (x : JournalState). book_after x.book command) c.prepare_packed.ensures.journal in
+    c.in_ok-prepared.ensures.prepared.book ∙ ap (λ (x : JournalState). book_after x.book command) c.prepare.ensures.journal in
     ap (λ (b : BookState). b.periods) (c.in_ok-book.ensures ∙ book) ∙ (book_after-periods j.book command ∙ c.self.invariant.1)
 
 pub returns-clause-entry : goal.returns-clause-entry
@@ -36,7 +36,7 @@ returns-clause-entry g c =
     ap₂ (λ (n : ℕ) (r : Reply). entry_of command (n, r)) c.number.ensures c.reply.ensures
     ∙ ap (λ (e : Entry). entry_of command (e.number, e.reply))
     (c.entry-entry.ensures ∙ (c.in_ok-prepared.ensures.prepared.entry
-    ∙ ap (λ (x : JournalState). next_entry x command) (c.prepare_packed.ensures.journal ∙ ap (λ (d : LockedState). d.journal) c.self.view_is)))
+    ∙ ap (λ (x : JournalState). next_entry x command) (c.prepare.ensures.journal ∙ ap (λ (d : LockedState). d.journal) c.self.view_is)))
 
 pub returns-clause-history : goal.returns-clause-history
 returns-clause-history g c =
@@ -52,8 +52,8 @@ returns-clause-history g c =
 
 pub returns-clause-journal : goal.returns-clause-journal
 returns-clause-journal g c =
-    c.append_packed.ensures.step
-    ∙ ap₂ journal_after (c.prepare_packed.ensures.journal ∙ ap (λ (d : LockedState). d.journal) c.self.view_is)
+    c.append.ensures.step
+    ∙ ap₂ journal_after (c.prepare.ensures.journal ∙ ap (λ (d : LockedState). d.journal) c.self.view_is)
     (ap (λ (e : Entry). e.command) c.in_ok-prepared.ensures.prepared.entry)
 
 pub returns-clause-passes : goal.returns-clause-passes
@@ -69,11 +69,11 @@ with_journal passes journal = record { journal = journal; passes = passes }
 
 pub returns-in_err-slot-clause-err : goal.returns-in_err-slot-clause-err
 returns-in_err-slot-clause-err g c =
-    when_refused c.from_residual-in_err-slot.result (ap (with_journal c.self.inside.issued) c.prepare_packed.ensures.journal ∙ c.self.view_is)
+    when_refused c.from_residual-in_err-slot.result (ap (with_journal c.self.inside.issued) c.prepare.ensures.journal ∙ c.self.view_is)
 
 pub returns-in_err-book-clause-err : goal.returns-in_err-book-clause-err
 returns-in_err-book-clause-err g c =
-    when_refused c.from_residual-in_err-book.result (ap (with_journal c.self.inside.issued) c.prepare_packed.ensures.journal ∙ c.self.view_is)
+    when_refused c.from_residual-in_err-book.result (ap (with_journal c.self.inside.issued) c.prepare.ensures.journal ∙ c.self.view_is)
 
 pub invariant_of-self : goal.invariant_of-self
-invariant_of-self g c = rw c.prepare_packed.ensures.journal c.self.invariant
+invariant_of-self g c = rw c.prepare.ensures.journal c.self.invariant

@@ -7,7 +7,7 @@ use Rattle.dam_book.specs.Command.{is_journal_full}
 use Rattle.dam_gate.specs.Keeper.{KeeperState, PreparedState}
 use Rattle.dam_gate.proofs.Histories.{book_after-periods, journal_after_is}
 use Rattle.dam_gate.proofs.Steps.{same_reason}
-use Rattle.dam_gate.proofs.keeper.Keeper.append_packed.Goals as goal
+use Rattle.dam_gate.proofs.keeper.Keeper.append.Goals as goal
 
 pub invariant_of-self : goal.invariant_of-self
 invariant_of-self g c =
