@@ -1,6 +1,7 @@
-//! The journals of `dam`, without quotes, amends, and blocks that have a parent or a group.
+//! The journals of `dam`, without amends and without blocks that have a parent or a group.
 
 use std::fmt::{self, Display};
+use std::iter;
 
 /// The limits, as the code of `dam` has them.
 #[allow(dead_code)]
@@ -14,7 +15,7 @@ pub const MOST_BYTES: usize = 16_777_216;
 const MOST_RECORDS: usize = MOST_ENTRIES + 1;
 const LAST_PERIOD: u32 = 100;
 
-type Fields<'a> = [&'a [u8]; 9];
+type Fields = [Vec<u8>; 9];
 
 #[derive(Clone, Copy, PartialEq, Eq)]
 pub enum Side {
@@ -76,6 +77,31 @@ impl Display for Command {
     }
 }
 
+/// The fields of the next record, at whose end the place is then; `None` if no record is left.
+fn next_record(text: &[u8], at: &mut usize) -> Option<Vec<Vec<u8>>> {
+    *at += text[*at..].iter().position(|byte| !matches!(byte, b'\n' | b'\r'))?;
+    let mut fields = vec![Vec::new()];
+    let (mut quoted, mut fresh) = (false, true);
+    while let Some(&byte) = text.get(*at) {
+        *at += 1;
+        let field = fields.last_mut()?;
+        match byte {
+            b'"' if quoted && text.get(*at) == Some(&b'"') => {
+                field.push(byte);
+                *at += 1;
+            }
+            b'"' if quoted => quoted = false,
+            _ if quoted => field.push(byte),
+            b'"' if fresh => quoted = true,
+            b',' => fields.push(Vec::new()),
+            b'\n' | b'\r' => break,
+            _ => field.push(byte),
+        }
+        fresh = byte == b',' && !quoted;
+    }
+    Some(fields)
+}
+
 /// A decimal number without leading zeros.
 fn number(text: &[u8]) -> Option<u32> {
     let plain = text == b"0" || !text.starts_with(b"0");
@@ -113,8 +139,8 @@ fn word(text: &[u8], most: usize, is_fine: impl Fn(u8) -> bool) -> Option<String
 
 /// A participant and the name of an order.
 fn key(fields: &Fields) -> Option<Key> {
-    let who = word(fields[1], 8, |byte| byte.is_ascii_uppercase())?;
-    let name = word(fields[2], 12, |byte| byte.is_ascii_uppercase() || byte.is_ascii_digit() || byte == b'-')?;
+    let who = word(&fields[1], 8, |byte| byte.is_ascii_uppercase())?;
+    let name = word(&fields[2], 12, |byte| byte.is_ascii_uppercase() || byte.is_ascii_digit() || byte == b'-')?;
     Some((who, name))
 }
 
@@ -127,41 +153,41 @@ fn side(text: &[u8]) -> Option<Side> {
 }
 
 fn order(fields: &Fields) -> Option<Order> {
-    let (side, price) = (side(fields[4])?, price(fields[5])?);
-    match fields[3] {
+    let (side, price) = (side(&fields[4])?, price(&fields[5])?);
+    match fields[3].as_slice() {
         b"hour" => {
-            let (period, volume) = pair(fields[6])?;
+            let (period, volume) = pair(&fields[6])?;
             Some(Order::Hour(HourOrder { side, price, period, volume }))
         }
-        b"block" => Some(Order::Block(Box::new(BlockOrder { side, price, volumes: pairs(fields[6])? }))),
+        b"block" => Some(Order::Block(Box::new(BlockOrder { side, price, volumes: pairs(&fields[6])? }))),
         _ => None,
     }
 }
 
 /// The command of a record; `None` if a field breaks a rule.
 fn command(fields: &Fields) -> Option<Command> {
-    let (command, used) = match fields[0] {
+    let (command, used) = match fields[0].as_slice() {
         b"submit" => (Command::Submit(key(fields)?, order(fields)?), 7),
         b"cancel" => (Command::Cancel(key(fields)?), 3),
         b"close" => (Command::Close, 1),
         _ => return None,
     };
-    fields[used..].iter().all(|field| field.is_empty()).then_some(command)
+    fields[used..].iter().all(Vec::is_empty).then_some(command)
 }
 
 /// The number of periods of a day, in its record.
 fn day(fields: &Fields) -> Option<u8> {
-    let periods = number(fields[1]).filter(|n| matches!(n, 23..=25 | 92 | 96 | 100))?;
-    (fields[0] == b"day" && fields[2..].iter().all(|field| field.is_empty())).then_some(periods as u8)
+    let periods = number(&fields[1]).filter(|n| matches!(n, 23..=25 | 92 | 96 | 100))?;
+    (fields[0] == b"day" && fields[2..].iter().all(Vec::is_empty)).then_some(periods as u8)
 }
 
 /// The number of periods and the commands; `None` if the text breaks a rule.
 pub fn read_journal(text: &[u8]) -> Option<(u8, Vec<Command>)> {
-    if text.len() > MOST_BYTES || !text.is_ascii() || text.contains(&b'"') {
+    if text.len() > MOST_BYTES || !text.is_ascii() {
         return None;
     }
-    let lines = text.split(|byte| matches!(byte, b'\n' | b'\r')).filter(|line| !line.is_empty());
-    let mut records = lines.map(|line| Fields::try_from(line.split(|byte| *byte == b',').collect::<Vec<_>>()).ok());
+    let mut at = 0;
+    let mut records = iter::from_fn(|| next_record(text, &mut at)).map(|fields| Fields::try_from(fields).ok());
     let periods = day(&records.next()??)?;
     let commands = records.map(|fields| command(&fields?)).collect::<Option<Vec<_>>>()?;
     (commands.len() < MOST_RECORDS).then_some((periods, commands))
