@@ -28,7 +28,7 @@ sys.dont_write_bytecode = True
 sys.path[:0] = [str(Path(__file__).resolve().parents[2] / name) for name in ("tests", "tools")]
 
 import compare
-from lib.audit import recursive_enumeration, verdict
+from lib.audit import checks, recursive_enumeration
 from lib.journal import book, journal
 from lib.results import results, selection
 from lib.sheets import kinds
@@ -99,13 +99,13 @@ def write_and_audit(folder, data, text):
         journal=str(paths[0]), results=str(paths[1]), best=True, by=None, seconds=60, jobs=None, replies=False, sent=None, head=None,
         quiet=True,
     )
-    audit = verdict.Audit(options)
+    audit = checks.Audit(options)
     try:
         with contextlib.redirect_stderr(io.StringIO()):
             audit.read_inputs_and_check_or_stop()
     except command.Stop as stop:
-        return stop.status, audit.record(stop.status, str(stop))
-    return audit.status, audit.record(audit.status)
+        return stop.status, audit.found.record(stop.status, str(stop))
+    return audit.found.status, audit.found.record(audit.found.status)
 
 
 def with_changed_byte(rng, data):

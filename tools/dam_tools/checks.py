@@ -7,16 +7,16 @@ import types
 from dataclasses import dataclass
 
 from .given import JournalSource, Source, read_or_return_journal, read_source_bytes, source_name, read_journal_bytes
+from .lib.audit import better, checks, inputs
 from .lib.audit import recursive_enumeration
-from .lib.audit import better, verdict
+from .lib.journal.journal import Journal
+from .lib.lint import lint as lint_of
 from .lib.results import selection
+from .lib.runs.errors import Fault
 from .lib.sheets import shapes
 from .lib.tool import command, linted, modules
-from .lib.whatif import changes, limits, whatif
-from .lib.lint import lint as lint_of
 from .lib.tool.day_files import Day
-from .lib.runs.errors import Fault
-from .lib.journal.journal import Journal
+from .lib.whatif import changes, limits, whatif
 
 
 @dataclass(frozen=True)
@@ -134,19 +134,23 @@ def lint(source: JournalSource, command: str = "clear") -> Lint:
     return Lint(linted.OF_STATUS[linted.status_of(found)], *parts)
 
 
-class Audited(verdict.Audit):
-    """An audit of sources that may be texts."""
+class Sources(inputs.Inputs):
+    """The inputs of an audit, which may be texts."""
 
     def __init__(self, sources: dict[str, bytes], options: types.SimpleNamespace) -> None:
         super().__init__(options)
         self.sources = sources
 
-    def read_and_note_input(self, role: str, path: str) -> bytes:
-        self.inputs.append({"role": role})
+    def read_and_note(self, role: str, path: str) -> bytes:
+        self.records.append({"role": role})
         return self.sources[role]
 
+
+class Audited(checks.Audit):
+    """An audit in a program, which isn't started again."""
+
     def search_for_better_and_note(self, problem: selection.Problem, published: object) -> object:
-        """As the tool does it, but a missing package is a fault: a program isn't started again with another Python."""
+        """As the tool does it, but a missing package is a fault, instead of a start with another Python."""
         by_highs = self.options.by == better.HIGHS
         module = "scipy" if by_highs else "numpy"
         if (by_highs or len(problem.blocks) > recursive_enumeration.ENUMERABLE) and not modules.has_module(module):
@@ -160,7 +164,7 @@ def audit(
     *,
     best: bool = False,
     by: str | None = None,
-    seconds: float = verdict.SECONDS,
+    seconds: float = checks.SECONDS,
     jobs: int = 1,
 ) -> Audit:
     """The verdict of tools/audit on a journal and its results, on a `Day`, or on the text of `dam day`; with `best` also on the selection
@@ -174,7 +178,8 @@ def audit(
     flags = dict(best=best, by=by, seconds=seconds, jobs=jobs, replies=False, quiet=True, **unused)
     data = read_journal_bytes(journal)
     sources = {"day": data} if published is None else {"journal": data, "results": read_source_bytes(published)}
-    made = Audited(sources, types.SimpleNamespace(**named, **flags))
+    options = types.SimpleNamespace(**named, **flags)
+    made = Audited(options, Sources(sources, options))
     message, status = None, None
     try:
         made.read_inputs_and_check_or_stop()
@@ -182,7 +187,7 @@ def audit(
         if stop.status != command.UNDECIDED:
             raise Fault(str(stop)) from None
         message, status = str(stop), stop.status
-    told = made.record(made.status if status is None else status, message)
+    told = made.found.record(made.found.status if status is None else status, message)
     search = told["search"] or {"better": None, "how": None}
     return Audit(told["verdict"], message, told["checked"], [AuditFault(**one) for one in told["faults"]], search["better"], search["how"])
 

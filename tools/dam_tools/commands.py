@@ -1,8 +1,12 @@
-"""The tools as commands, if dam_tools is installed by pip: `dam-audit` runs the script `audit` of this folder, and so on."""
+"""The tools as commands, if dam_tools is installed by pip: `dam-audit` calls `audit` of this module, which runs the script `audit` of this
+folder, and so on."""
 
+import functools
 import runpy
 import sys
 from pathlib import Path
+
+from .lib.base.place import TOOLS
 
 FOLDER = Path(__file__).resolve().parent
 
@@ -14,37 +18,4 @@ def run_tool(tool):
     runpy.run_path(str(FOLDER / tool), run_name="__main__")
 
 
-def audit():
-    run_tool("audit")
-
-
-def compare():
-    run_tool("compare")
-
-
-def lint():
-    run_tool("lint")
-
-
-def office():
-    run_tool("office")
-
-
-def plot():
-    run_tool("plot")
-
-
-def receipts():
-    run_tool("receipts")
-
-
-def report():
-    run_tool("report")
-
-
-def table():
-    run_tool("table")
-
-
-def whatif():
-    run_tool("whatif")
+globals().update((tool, functools.partial(run_tool, tool)) for tool in TOOLS)

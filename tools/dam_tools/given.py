@@ -8,10 +8,10 @@ from collections.abc import Iterator
 from pathlib import Path
 
 from .lib.journal import journal
+from .lib.journal.journal import Journal
+from .lib.runs.errors import Fault
 from .lib.sheets import order_table, shapes
 from .lib.tool import command, day_files, file_io
-from .lib.runs.errors import Fault
-from .lib.journal.journal import Journal
 
 REFUSED = 1  # the program's status for a text that it doesn't take
 Source = str | os.PathLike[str] | bytes

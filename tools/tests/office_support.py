@@ -20,7 +20,7 @@ try:
     import aiohttp
     import jinja2
     from lib.seal import sealing, signing
-    from lib.office import day_writer, folder, observed, programs, publishing, setup
+    from lib.office import day_writer, folder, observed, outcome, programs, setup
     from lib.office.desk import Desk, Ended
 except ImportError:  # without python3-aiohttp and the like
     aiohttp = None
@@ -108,8 +108,8 @@ class Office(unittest.IsolatedAsyncioTestCase):
             patch = mock.patch.object(day_writer, name, 0.001)
             patch.start()
             self.addCleanup(patch.stop)
-        self.publish = publishing.iterate_publishing_troubles
-        patch = mock.patch.object(publishing, "iterate_publishing_troubles", iterate_untroubled_publishing)
+        self.publish = outcome.iterate_publishing_troubles
+        patch = mock.patch.object(outcome, "iterate_publishing_troubles", iterate_untroubled_publishing)
         patch.start()
         self.addCleanup(patch.stop)
 

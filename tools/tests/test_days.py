@@ -443,10 +443,12 @@ class Days(unittest.TestCase):
         self.assertIn(f"{name}.csv isn't a journal: input: NotDay", out)
 
     def test_standard_output_is_no_file_of_a_day(self):
-        """Also if it is of a day that a fault comes before, or of none before the shell made it."""
+        """Also if it is of a day that a fault comes before, of none before the shell made it, or of two files with one name."""
         self.write(a=(DATA, TEXT), b=(DATA, TEXT))
         (self.folder / "list").write_text("journal,results\nnone.csv,none.txt\nb.csv,b.txt\n")
-        for place, name in ((self.folder, "a.txt"), (self.folder, "b.csv"), (self.folder / "list", "b.txt"), (self.folder, "new.txt")):
+        (self.folder / "c.TXT").write_text("")
+        own = [(self.folder, name) for name in ("a.txt", "b.csv", "new.txt", "c.txt")]
+        for place, name in (*own, (self.folder / "list", "b.txt")):
             for words in ([], ["--json"], ["--quiet"]):
                 path = self.folder / name
                 with self.subTest(place=place, name=name, words=words), path.open("ab") as out:

@@ -101,6 +101,7 @@ class Files(unittest.TestCase):
                 ["audit", "--json", absent, self.journal],
                 ["audit", "--json", absent, "--sent", self.journal, "--participant", "GAS"],
                 ["audit", "--json", absent, "--head", absent, "--salts", absent, "--key", absent, "--earlier", self.journal],
+                ["audit", "--json", absent, "--head", absent, "--salts", absent, "--key", absent, "--receipts", self.folder],
             ):
                 ran = subprocess.run([sys.executable, TOOLS / words[0], *words[1:]], stdout=out, stderr=subprocess.PIPE)
                 self.assertEqual((ran.returncode, said in ran.stderr.decode()), (command.NO_INPUT, True), ran.stderr)

@@ -282,21 +282,21 @@ class Module(unittest.TestCase):
         with tempfile.TemporaryDirectory() as folder:
             library = support.make_recorded_library(folder)
             with unittest.mock.patch.object(which, "LIBRARY", library), unittest.mock.patch.object(which.sources, "TOP", folder):
-                self.assertTrue(which.has_library())
+                self.assertTrue(which.is_library_built())
                 os.utime(library, (1_000, 1_000))
-                self.assertTrue(which.has_library())
+                self.assertTrue(which.is_library_built())
                 for path in (*support.SOURCES_OF_LIBRARY, "library/out/libdam.so.1"):
                     before = Path(folder, path).read_bytes()
                     Path(folder, path).write_bytes(b"# another\n" + before)
                     os.utime(Path(folder, path), (1, 1))
                     with self.subTest(path=path):
-                        self.assertFalse(which.has_library())
+                        self.assertFalse(which.is_library_built())
                     Path(folder, path).write_bytes(before)
-                    self.assertTrue(which.has_library())
+                    self.assertTrue(which.is_library_built())
                 library.with_name("libdam.so.1.json").unlink()
-                self.assertFalse(which.has_library())
+                self.assertFalse(which.is_library_built())
 
-    @unittest.skipUnless(which.has_library(), "the library for C isn't built (library/build)")
+    @unittest.skipUnless(which.is_library_built(), "the library for C isn't built (library/build)")
     def test_the_library_for_c(self):
         with unittest.mock.patch.dict(os.environ), unittest.mock.patch.object(subprocess, "Popen", side_effect=AssertionError):
             os.environ.pop("DAM", None)

@@ -17,7 +17,7 @@ from lib.seal import heads
 from lib.tool import command
 
 try:
-    from lib.office import admission, day_writer, folder, observed, operate, published, publishing, refusals, web
+    from lib.office import admission, day_writer, folder, observed, operate, outcome, published, refusals, web
 except ImportError:  # without python3-aiohttp and the like, whose tests are skipped
     pass
 
@@ -69,15 +69,15 @@ class Closing(Office):
     async def closed(self):
         """A closed day with its files."""
         self.write_office()
-        with patch_of_opening(Disk()), mock.patch.object(publishing, "capture_output_or_raise", mock.AsyncMock(return_value=b"{}")):
+        with patch_of_opening(Disk()), mock.patch.object(outcome, "capture_output_or_raise", mock.AsyncMock(return_value=b"{}")):
             given = self.day_writer_of()
             task = asyncio.create_task(given.write_until_published())
             await given.is_ready.wait()
             await given.submit_or_refuse("GAS", 1, commands_of_records("cancel,GAS,A,,,,,,"))
             given.begin_close()
             await task
-            await publishing.write_journal_and_head(given)
-            await publishing.write_statement(given)
+            await outcome.write_journal_and_head(given)
+            await outcome.write_statement(given)
         return given
 
     async def shows_nothing(self):
@@ -127,11 +127,11 @@ class Closing(Office):
                 raise OSError(errno.ENOSPC, "full")
             put(path, data)
 
-        with mock.patch.object(publishing, "capture_output_or_raise", mock.AsyncMock(return_value=b"{}")):
+        with mock.patch.object(outcome, "capture_output_or_raise", mock.AsyncMock(return_value=b"{}")):
             with mock.patch.object(folder, "write_synced", ends), self.assertRaises(OSError):
-                await publishing.write_statement(given)
+                await outcome.write_statement(given)
             self.assertEqual((given.files.read_file(folder.SUMS), given.published.is_whole), (kept, False))
-            await publishing.write_statement(given)
+            await outcome.write_statement(given)
         self.assertEqual((given.files.read_file(folder.SUMS), given.published.is_whole), (kept, True))
 
     async def test_a_published_day_is_that_of_its_head(self):
@@ -187,7 +187,7 @@ class Closing(Office):
 
     async def test_a_day_whose_files_cant_be_made_isnt_right(self):
         self.write_office()
-        step, faults = publishing.write_journal_and_head, [OSError(errno.ENOSPC, "full")] * 2
+        step, faults = outcome.write_journal_and_head, [OSError(errno.ENOSPC, "full")] * 2
 
         async def sign(given):
             if faults:
@@ -199,8 +199,8 @@ class Closing(Office):
             rights.append(given.is_healthy)
 
         rights, log = [], io.StringIO()
-        with patch_of_opening(Disk()), mock.patch.object(publishing, "iterate_publishing_troubles", self.publish), mock.patch.multiple(
-            publishing, FIRST_PAUSE=0.001, write_journal_and_head=sign, write_results=made, write_statement=made
+        with patch_of_opening(Disk()), mock.patch.object(outcome, "iterate_publishing_troubles", self.publish), mock.patch.multiple(
+            outcome, FIRST_PAUSE=0.001, write_journal_and_head=sign, write_results=made, write_statement=made
         ):
             given = self.day_writer_of(log=observed.Log(log))
             task = asyncio.create_task(given.write_until_published())
@@ -217,11 +217,11 @@ class Closing(Office):
         async def note_pause(seconds):
             pauses.append(seconds)
 
-        steps = mock.patch.multiple(publishing, write_journal_and_head=made, write_results=made, write_statement=made)
-        with steps, mock.patch.object(publishing.asyncio, "sleep", note_pause):
+        steps = mock.patch.multiple(outcome, write_journal_and_head=made, write_results=made, write_statement=made)
+        with steps, mock.patch.object(outcome.asyncio, "sleep", note_pause):
             troubles = [trouble async for trouble in self.publish(mock.Mock())]
         self.assertEqual(troubles, 3 * ["[Errno 28] full", "[Errno 28] full", None])
-        self.assertEqual(pauses, 3 * [publishing.FIRST_PAUSE, 2 * publishing.FIRST_PAUSE])
+        self.assertEqual(pauses, 3 * [outcome.FIRST_PAUSE, 2 * outcome.FIRST_PAUSE])
 
     async def test_the_states_of_a_day(self):
         """The office and the command status, which has the files alone, have the same words."""
@@ -235,7 +235,7 @@ class Closing(Office):
                 shown = operate.capture_day_record_or_stop(given.files, "dam-desk")["state"]
             return (await given.read_state()).name, shown
 
-        with patch_of_opening(disk), mock.patch.object(publishing, "iterate_publishing_troubles", self.held):
+        with patch_of_opening(disk), mock.patch.object(outcome, "iterate_publishing_troubles", self.held):
             given = self.day_writer_of()
             task = asyncio.create_task(given.write_until_published())
             await given.is_ready.wait()
@@ -262,7 +262,7 @@ class Closing(Office):
             return name == folder.RESULTS
 
         given = self.day_writer_of()
-        with mock.patch.object(folder.DayFolder, "has", note_thread):
+        with mock.patch.object(folder.DayFolder, "has_file", note_thread):
             state = await given.read_state()
         self.assertEqual(state, day_writer.DayState("results", False, False))
         self.assertFalse(threads & {threading.get_ident()} or not threads)
@@ -305,7 +305,7 @@ class Closing(Office):
             self.assertEqual(len(said), len(words))
             for line, part in zip(said, words):
                 self.assertIn(part, line)
-        self.assertTrue(files.has(folder.CLOSE_NOW))  # the request stays
+        self.assertTrue(files.has_file(folder.CLOSE_NOW))  # the request stays
 
     async def test_the_operator_closes_early(self):
         self.write_office()

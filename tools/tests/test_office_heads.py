@@ -130,11 +130,11 @@ class SignedHeads(Office):
                 self.assertRegex(list(operate.status_lines(found))[2], "^  stopped: LostEntries: the desk's journal has 2 entries")
                 with self.assertRaisesRegex(command.Stop, f"^{DAY} is stopped, and wasn't closed: LostEntries"):
                     operate.close_and_wait_or_stop(self.office, DAY, given.files)
-            self.assertFalse(given.files.has(folder.CLOSE_NOW))
+            self.assertFalse(given.files.has_file(folder.CLOSE_NOW))
             self.assertEqual(operate.capture_status_record(self.office, "dam-desk")["days"][0]["state"], "open")
         disk.records.append(self.RECORDS[-1])
         self.assertIsNone(await self.started(disk))
-        self.assertFalse(given.files.has(folder.STOPPED_DAY))
+        self.assertFalse(given.files.has_file(folder.STOPPED_DAY))
 
     async def test_an_opening_shows_the_entries_and_the_replies_that_were_answered(self):
         self.write_office()

@@ -338,10 +338,10 @@ class Setup(Office):
             self.assertIn("argument NAME: '--' should be 1 to 8 letters A to Z\n", err)
         status, out, err = run_tool("office", "close", self.office.path, "--", "--", "--")
         self.assertEqual((status, out, err.splitlines()[-1]), (command.COMMAND_LINE, b"", "office: error: unrecognized arguments: --"))
-        self.assertFalse(day.has(folder.CLOSE_NOW))
+        self.assertFalse(day.has_file(folder.CLOSE_NOW))
         said = b"2099-11-29 will be closed once the office is served\n"
         self.assertEqual(run_tool("office", "close", self.office.path, "--"), (command.DONE, said, ""))
-        self.assertTrue(day.has(folder.CLOSE_NOW))
+        self.assertTrue(day.has_file(folder.CLOSE_NOW))
 
     def test_the_words_on_a_day_with_results(self):
         self.write_and_read_participants("participant\nGAS\n")
@@ -512,14 +512,14 @@ class Setup(Office):
         self.write_office()
         later = "2026-11-30"
         setup.make_day_or_stop(self.office, folder.Terms(later, 24, FUTURE, "UTC", dict.fromkeys(NAMES, 10)))
-        has = folder.DayFolder.has
+        has = folder.DayFolder.has_file
 
         def denied(files, name):
             if files.path.name == DAY:
                 raise PermissionError(errno.EACCES, "Permission denied", str(files.path_of(name)))
             return has(files, name)
 
-        with mock.patch.object(folder.DayFolder, "has", denied):
+        with mock.patch.object(folder.DayFolder, "has_file", denied):
             missed, served = await self.looked()
         self.assertEqual((list(missed), served), ([DAY], [later]))
         self.assertIn("Permission denied", missed[DAY])

@@ -39,9 +39,11 @@ def list_pairs_by_name(folder):
     """Each journal of a folder with the results of the same name; results without a journal too. A suffix may have capital letters, but a
     day of which two files have one name isn't read."""
     found, alike = {}, {}
-    for path in sorted(folder.iterdir()):
+    paths = [path for path in sorted(folder.iterdir()) if stem_and_suffix(path.name)[1] in (JOURNAL, RESULTS)]
+    file_io.refuse_own_outputs(paths)
+    for path in paths:
         key = stem_and_suffix(path.name)
-        if key[1] in (JOURNAL, RESULTS) and found.setdefault(key, path) is not path:
+        if found.setdefault(key, path) is not path:
             said = f"{command.shown(found[key])} and {command.shown(path)} have one name: rename one of them"
             alike.setdefault(key[0], said)
     names = sorted({name for name, _ in found})

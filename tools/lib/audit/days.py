@@ -8,10 +8,10 @@ import zlib
 from pathlib import Path
 
 from ..base import audit_record, ending, text
-from ..tool import command, day_files, file_io, modules
-from . import day_pairs, verdict
-from ..runs.by_program import Running
 from ..base.progress import StepBar
+from ..runs.by_program import Running
+from ..tool import command, day_files, file_io, modules, output
+from . import checks, day_pairs, verdict
 
 MORE_SECONDS = 600  # that the audit of a day may take besides its search, before it is taken for one that hangs
 MOST_SECONDS = 2_000_000  # that it may take at all: the system waits for no more than 2**31 ms
@@ -23,7 +23,7 @@ READING = threading.Lock()  # held while a record is read: it may have many faul
 # Of the statuses of the days, the first that one of them has is the status of all.
 WORST = [command.DIFFERS, command.FAILED, command.NO_INPUT, command.UNDECIDED, command.ENCODING]
 HEADS = ["day", "verdict", "periods", "hourly", "blocks", "accepted", "welfare, EUR", "refused", "faults", "seconds", "first fault"]
-TO_THE_RIGHT = {"periods", "hourly", "blocks", "accepted", "welfare, EUR", "refused", "faults", "seconds"}
+TO_THE_LEFT = {HEADS.index(head) for head in ("day", "verdict", "first fault")}
 
 
 def options_of(args):
@@ -40,7 +40,7 @@ def argument_of_path(path):
 
 def seconds_of(args):
     """How long the process of a day may take."""
-    return min(MORE_SECONDS + (verdict.SECONDS if args.seconds is None else args.seconds) * args.best, MOST_SECONDS)
+    return min(MORE_SECONDS + (checks.SECONDS if args.seconds is None else args.seconds) * args.best, MOST_SECONDS)
 
 
 def run_audit_and_return_kept_record(pair, options, running, seconds=MORE_SECONDS, is_json=False):
@@ -221,18 +221,9 @@ def total_row(records):
     return [text.counted(len(records), "day"), told, "", *sums, "", summed("refused"), faults, f"{seconds:.1f}", ""]
 
 
-def aligned_lines(rows):
-    """The lines of a table."""
-    rows = [[str(cell) for cell in row] for row in rows]
-    widths = [max(map(len, column)) for column in zip(*rows)]
-    for row in rows:
-        placed = [cell.rjust(width) if head in TO_THE_RIGHT else cell.ljust(width) for head, cell, width in zip(HEADS, row, widths)]
-        yield "  ".join(placed).rstrip()
-
-
 def table_lines(records):
     """The lines of the table of all days."""
-    return aligned_lines([HEADS, *map(row_of_day, records), total_row(records)])
+    return output.aligned_lines([HEADS, *map(row_of_day, records), total_row(records)], TO_THE_LEFT)
 
 
 def status_of(records):

@@ -195,34 +195,33 @@ os.register_at_fork(after_in_child=restore_signals)
 
 
 @contextlib.contextmanager
-def exiting_at_signals():
-    """In the main thread, the signals besides Ctrl-C end the process at once in this block: a call of a library, which would keep Python from
-    seeing them until it returns, and which leaves no process and no file."""
-    heeding = []
-    if threading.current_thread() is threading.main_thread():
-        heeding = [number for number in ENDING if signal.getsignal(number) == raise_signal]
-    for number in heeding:
-        signal.signal(number, signal.SIG_DFL)
+def handling_signals(numbers, handler):
+    """In the main thread, another handler has those of the signals in this block that are exceptions otherwise."""
+    is_main = threading.current_thread() is threading.main_thread()
+    heeded = [number for number in numbers if is_main and signal.getsignal(number) == raise_signal]
+    for number in heeded:
+        signal.signal(number, handler)
     try:
         yield
     finally:
-        for number in heeding:
+        for number in heeded:
             signal.signal(number, raise_signal)
+
+
+def exiting_at_signals():
+    """In the main thread, the signals besides Ctrl-C end the process at once in this block: a call of a library, which would keep Python from
+    seeing them until it returns, and which leaves no process and no file."""
+    return handling_signals(ENDING, signal.SIG_DFL)
 
 
 @contextlib.contextmanager
 def holding_signals():
     """In the main thread, Ctrl-C or a signal that comes in this block ends the tool only at the block's end: each of its steps is done. None
     of them may wait for another process."""
-    came, held = [], []
-    if threading.current_thread() is threading.main_thread():
-        held = [number for number in (signal.SIGINT, *ENDING) if signal.getsignal(number) == raise_signal]
-    for number in held:
-        signal.signal(number, lambda number, _: came.append(number))
+    came = []
     try:
-        yield
+        with handling_signals((signal.SIGINT, *ENDING), lambda number, _: came.append(number)):
+            yield
     finally:
-        for number in held:
-            signal.signal(number, raise_signal)
         if came:
             raise_signal(came[0], None)

@@ -68,10 +68,10 @@ def write_new_beside_and_return_put(path, data, cleanups):
     return put
 
 
-def create_whole_file(path, data):
+def create_whole_file(path, data, mode=0o666):
     """Writes a file that isn't there yet, and removes it if it can't be written."""
     with contextlib.ExitStack() as undo:
-        create_file(path, data, undo)
+        create_file(path, data, undo, mode=mode)
         undo.pop_all()
 
 
@@ -129,10 +129,10 @@ def path_beside(path):
     return os.path.join(os.path.dirname(path), f".dam-{secrets.token_hex(8)}")
 
 
-def create_file(path, data, cleanups, prepared=None):
+def create_file(path, data, cleanups, prepared=None, mode=0o666):
     """Writes a file that isn't there yet, and that `cleanups` removes. Before, a call may give it rights, by its number."""
     with ending.holding_signals():
-        number = os.open(path, os.O_WRONLY | os.O_CREAT | os.O_EXCL | os.O_CLOEXEC, 0o666)
+        number = os.open(path, os.O_WRONLY | os.O_CREAT | os.O_EXCL | os.O_CLOEXEC, mode)
         cleanups.callback(remove_file, path)
     with open(number, "wb") as file:
         if prepared:

@@ -7,9 +7,9 @@ from typing import NamedTuple
 
 from ..base import subsequence, text
 from ..journal import journal
+from ..results.faults import FaultLine
 from ..sheets import command_table, kinds, order_table
 from . import lint
-from ..results.faults import FaultLine
 
 JOURNAL, BOOK = "the journal", "the book at the end"
 SPACES = b' \t\r\n\f\v"'

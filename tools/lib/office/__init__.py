@@ -16,7 +16,7 @@ It may import: base, journal, lint, receipts, report, results, runs, seal, sheet
 | `day_writer`, `submissions` | the one writer of a day: batches, the close, the time; the requests that wait for it |
 | `refusals` | why a request is refused |
 | `programs` | the programs that an office runs |
-| `publishing`, `published` | making the files that are published; what participants see of them |
+| `outcome`, `published` | making the files that are published; what participants see of them |
 | `requests`, `web`, `fixed_files` | commands in a request; the routes; the files that don't change |
 | `admission` | whether a request is answered |
 | `guards`, `budgets` | limits on connections; on requests |

@@ -7,7 +7,7 @@ import time
 from typing import NamedTuple
 
 from ..journal.journal import Close, command_record_text
-from . import folder, newest, published, publishing
+from . import folder, newest, outcome, published
 from .desk import Desk, Ended
 from .ledger import Contradiction, Ledger
 from .refusals import CLOSED_WORDS, STOPPED_WORDS, RequestFault, Refused
@@ -135,7 +135,7 @@ class DayWriter:
             else:
                 await self.run_desk_until_closed()
                 await self.end_desk()
-                async for trouble in publishing.iterate_publishing_troubles(self):
+                async for trouble in outcome.iterate_publishing_troubles(self):
                     self.trouble = trouble
             self.is_ready.set()
         except Contradiction as fault:
@@ -232,7 +232,7 @@ class DayWriter:
         for name in (folder.SIGNED, folder.HEAD):
             if head := newest.read_signed_head_or_none(self.files.path_of(name), self.ledger.seal.key):
                 self.ledger.require_beginning(head, name)
-            elif self.files.has(name):
+            elif self.files.has_file(name):
                 self.log_event("signed head not whole", file=name)
 
     async def end_desk(self):
@@ -249,7 +249,7 @@ class DayWriter:
         """Closes the day at its time, or when the operator asks for it: after all commands that came before."""
         await self.is_ready.wait()
         while not self.ledger.is_closed:
-            if self.clock.now() >= self.terms.closes.timestamp() or self.files.has(folder.CLOSE_NOW):
+            if self.clock.now() >= self.terms.closes.timestamp() or self.files.has_file(folder.CLOSE_NOW):
                 self.begin_close()
                 return
             await asyncio.sleep(TICK)

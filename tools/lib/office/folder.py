@@ -182,7 +182,7 @@ class NamedFiles:
 class DayFolder(NamedFiles):
     """The files of a day."""
 
-    def has(self, name):
+    def has_file(self, name):
         return self.path_of(name).exists()
 
     def read_file(self, name):
@@ -196,8 +196,8 @@ class DayFolder(NamedFiles):
         command that arrives now is in time."""
         if is_stopped:
             return STOPPED
-        if self.has(RESULTS):
-            return PUBLISHED if self.has(OPEN_JOURNAL) else RESULTS_THERE
+        if self.has_file(RESULTS):
+            return PUBLISHED if self.has_file(OPEN_JOURNAL) else RESULTS_THERE
         if is_closed:
             return CLOSED
         return OPEN if is_open else CLOSING

@@ -17,7 +17,7 @@ CLOSE_SECONDS, TELL_SECONDS, STEP = 60, 2, 0.05  # to wait for the results of a 
 def capture_day_record_or_stop(files, desk, is_served=False):
     """A day in a record, by its files, and by whether the office is served."""
     terms = files.read_terms()
-    has = files.has
+    has = files.has_file
     commands = capture_commands_or_stop(terms.day, files, desk) if has(folder.DESK) else []
     is_closed = bool(commands) and isinstance(commands[-1], journal.Close)
     is_open = not is_closed and not has(folder.CLOSE_NOW) and datetime.datetime.now(datetime.timezone.utc) < terms.closes
@@ -85,7 +85,7 @@ def status_lines(office_status):
 
 def write_request(files, name):
     """Leaves a request of the operator, which stays."""
-    if not files.has(name):
+    if not files.has_file(name):
         folder.write_synced(files.path_of(name), b"")
         folder.give_to_owner_of(files.path_of(name), files.path)
 
@@ -94,13 +94,13 @@ def close_and_wait_or_stop(office, day, files):
     """Closes a day now. If the office runs, waits for the results. Returns whether there are results. A stopped day isn't closed: its
     journal may lack entries."""
     is_served = office.is_served()
-    if is_served and files.has(folder.STOPPED_DAY):
+    if is_served and files.has_file(folder.STOPPED_DAY):
         raise command.Stop(f"{day} is stopped, and wasn't closed: {read_stop_reason(files)}")
     write_request(files, folder.CLOSE_NOW)
-    if not is_served and not files.has(folder.RESULTS):
+    if not is_served and not files.has_file(folder.RESULTS):
         return False
     began, told, tell_at = time.monotonic(), None, TELL_SECONDS
-    while not files.has(folder.RESULTS):
+    while not files.has_file(folder.RESULTS):
         waited = time.monotonic() - began
         if waited > CLOSE_SECONDS:
             raise command.Stop(f"{day} has no results after {CLOSE_SECONDS} s: see the office's log", command.UNDECIDED)
@@ -116,7 +116,7 @@ def close_and_wait_or_stop(office, day, files):
 
 def write_trial_and_return_wait_words(day, files):
     """For what a close waits, as far as the folder shows it."""
-    missing = "results" if files.has(folder.HEAD) else "head"
+    missing = "results" if files.has_file(folder.HEAD) else "head"
     try:
         files.write_trial_or_raise()
     except OSError as fault:
@@ -126,7 +126,7 @@ def write_trial_and_return_wait_words(day, files):
 
 def write_publish_request_or_stop(day, files):
     """Leaves the request to publish the results of all orders, the journal and the replies of a day, which should have results."""
-    if not files.has(folder.RESULTS):
+    if not files.has_file(folder.RESULTS):
         raise command.Stop(f"{day} has no results yet, and is published after them")
     write_request(files, folder.OPEN_JOURNAL)
 

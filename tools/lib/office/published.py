@@ -38,15 +38,15 @@ class Published:
 
     @property
     def has_results(self):
-        return self.files.has(folder.RESULTS)
+        return self.files.has_file(folder.RESULTS)
 
     @property
     def is_whole(self):
-        return self.has_results and self.files.has(folder.STATEMENT)
+        return self.has_results and self.files.has_file(folder.STATEMENT)
 
     @property
     def has_journal(self):
-        return self.has_results and self.files.has(folder.OPEN_JOURNAL)
+        return self.has_results and self.files.has_file(folder.OPEN_JOURNAL)
 
     def read_and_cache_prices_text(self, periods):
         """The first lines of the results without the welfare: the day and the periods. They stay the same, and are read once."""

@@ -2,8 +2,8 @@
 
 from ..base import spans, text
 from ..results import decisions
-from .drawing import Patch, Polygon
 from .canvas import BROAD, COLOURS, add_hover, add_heading, is_narrow, add_legend
+from .drawing import Patch, Polygon
 
 LOOKS = {
     decisions.ACCEPTED: {"facecolor": COLOURS["accepted"]},

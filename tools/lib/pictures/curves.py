@@ -4,9 +4,9 @@ from fractions import Fraction
 
 from ..base import clock, rules, text
 from ..results import selection, trades
-from .drawing import AutoLocator, Rectangle, matplotlib
 from .canvas import BROAD, COLOURS, STYLE, add_hover, digit_count, eur, add_heading, is_narrow, add_legend, mw, new_panels
 from .canvas import set_label_places, set_margins, set_number_format
+from .drawing import AutoLocator, Rectangle, matplotlib
 
 # Of the curves of a period, the steps within this share of the traded volume are shown, and those no further from the price than this, in
 # EUR/MWh; but not a limit that is this many times further from it than the one before.

@@ -1,9 +1,9 @@
 """Pictures of a day by matplotlib: prices, volumes and blocks over the periods, and the curves of one period."""
 
 from .blocks import blocks_height, draw_blocks
+from .canvas import BROAD, STYLE, new_panels
 from .curves import CurveSheet
 from .drawing import matplotlib
-from .canvas import BROAD, STYLE, new_panels
 from .prices import draw_prices, draw_volumes, set_period_axis
 
 

@@ -4,8 +4,8 @@ import math
 
 from ..base import clock, spans, text
 from ..results import trades
-from .drawing import Patch
 from .canvas import COLOURS, add_hover, digit_count, eur, add_heading, is_narrow, add_legend, mw, set_number_format
+from .drawing import Patch
 
 # Up to this many periods each bar has an outline.
 MOST_OUTLINED = 25

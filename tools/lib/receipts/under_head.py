@@ -5,10 +5,10 @@ from pathlib import Path
 
 from ..base import text
 from ..journal import journal
+from ..results.faults import FaultLine
 from ..seal import heads, merkle, sealing, signing
 from ..tool import command, file_io
 from . import receipts
-from ..results.faults import FaultLine
 
 NOT_OWN = "not the operator's"
 PROVED = ": the operator's fault, proved"

@@ -7,7 +7,7 @@ from markupsafe import Markup
 
 from ..base import text
 from ..pictures import pictures
-from ..results import decisions, published, trades
+from ..results import decisions, market_data, trades
 from ..whatif import limits
 from . import style
 from .page_pictures import block_words, render_picture, rendering_curves, prices_words
@@ -34,7 +34,7 @@ def figures(day, block_decisions):
         "least": "lowest price",
         "greatest": "highest price",
     }
-    prices = published.mean_prices(day)
+    prices = market_data.mean_prices(day)
     for name, words in names.items():
         if prices[name] is not None:
             yield words, text.shown_price(prices[name]), "EUR/MWh"

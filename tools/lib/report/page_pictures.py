@@ -10,10 +10,10 @@ from typing import NamedTuple
 from markupsafe import Markup, escape
 
 from ..base import child_call, clock, text
+from ..base.progress import StepBar
 from ..pictures import canvas, curves
 from ..results import trades
 from .page_tables import MARKS
-from ..base.progress import StepBar
 
 MOST_SHOWN = 4  # curves that stand open
 FEW_CURVES = 8  # that are drawn in one process

@@ -7,9 +7,9 @@ from markupsafe import Markup
 
 from ..base import clock, spans, text
 from ..journal import book
-from ..results import decisions, published, trades
-from ..sheets import tables
 from ..journal.journal import command_record_text
+from ..results import decisions, market_data, trades
+from ..sheets import tables
 
 MARKS = {decisions.ACCEPTED: "accepted", decisions.REJECTED: "rejected", decisions.PARADOX: "paradox"}
 NUMBER = "n"  # the class of cells that stand to the right
@@ -159,7 +159,7 @@ def statement_table(day, who, needed):
 def own_period_table(day, who):
     """The trades of a participant in each period."""
     rows = []
-    for owner, number, *sums in list(published.long_participant_rows(day))[1:]:
+    for owner, number, *sums in list(market_data.long_participant_rows(day))[1:]:
         if owner == who:
             price, begins = text.shown_price(day.published.prices[number - 1]), clock.begin_time(day.problem.periods, number)
             rows.append([number, begins, price, *(text.shown(Fraction(value), digits) for value, digits in zip(sums, (1, 1, 2, 2)))])

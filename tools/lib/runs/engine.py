@@ -19,17 +19,6 @@ AHEAD = 2  # texts for each job that wait for a thread
 MOST_AHEAD = 1_024  # texts that wait for an executor
 
 
-@contextlib.contextmanager
-def running_threads(jobs):
-    """Threads, and the programs that they run, which end with the block."""
-    running, threads = by_program.Running(), concurrent.futures.ThreadPoolExecutor(jobs)
-    try:
-        yield threads, running
-    finally:
-        running.kill_all()
-        threads.shutdown(wait=False, cancel_futures=True)
-
-
 class Promise:
     """The later answer of a thread of a team. It is as a future, which takes longer to make and to wait for than a small day to clear."""
 

@@ -22,15 +22,15 @@ PREFIX = Path(*place.FOLDER.parts[:-4]) if place.FOLDER.parts[-4:-1] == ("lib", 
 WHEELS = place.FOLDER / LIBRARY.name
 
 
-def has_library():
+def is_library_built():
     """Whether the library for C was built of the present sources, as the record says that stands next to it."""
     return sources.read_stale_words_or_none(LIBRARY, sources.LIBRARY) is None
 
 
 @functools.cache
-def had_library_at_first_look():
+def was_library_built_at_first_look():
     """Whether it was so when this was first asked: to read all sources takes longer than to clear a day."""
-    return has_library()
+    return is_library_built()
 
 
 class FoundEngine(NamedTuple):
@@ -57,7 +57,7 @@ def find_engine_or_none():
     for of, path in (
         ("package", find_packaged_or_none("lib", "x86_64-linux-gnu", LIBRARY.name)),
         ("wheel", WHEELS if WHEELS.exists() else None),
-        ("clone", LIBRARY if had_library_at_first_look() else None),
+        ("clone", LIBRARY if was_library_built_at_first_look() else None),
     ):
         if path:
             return FoundEngine("library", of, os.fspath(path))

@@ -6,7 +6,7 @@ from typing import NamedTuple
 
 from ..base import spans, text
 from ..journal import journal
-from ..results import decisions, published, selection, trades
+from ..results import decisions, market_data, selection, trades
 from ..journal.book import REASONS
 
 # The columns of a table of orders that make a journal: `order_table` reads them.
@@ -191,7 +191,7 @@ def refused_words_or_none(read, reasons):
 
 def figure_values(day):
     """The figures of a day as numbers by name, with their unit in it."""
-    _, *rows = published.figure_rows(day)
+    _, *rows = market_data.figure_rows(day)
     ends = {"": "", "EUR": "_eur", "MWh": "_mwh", "EUR/MWh": "_eur_mwh"}
     return {
         name + ends[unit]: None if value == "" else value if isinstance(value, int) else float(value) for name, unit, value in rows
@@ -203,15 +203,15 @@ TABLES = {
     "orders": order_rows,
     "participants": participant_rows,
     "blocks": block_rows,
-    "curves": published.curve_rows,
+    "curves": market_data.curve_rows,
     "commands": lambda day: command_rows(day.journal, day.reasons),
     "statement": statement_rows,
-    "figures": published.figure_rows,
+    "figures": market_data.figure_rows,
 }
 # The same in a long form: a row for each period of each thing, or for each number of a period.
 LONG = {
-    "periods": lambda day: published.long_period_rows(period_rows(day)),
-    "orders": published.long_order_rows,
-    "participants": published.long_participant_rows,
-    "blocks": lambda day: published.long_order_rows(day, "block"),
+    "periods": lambda day: market_data.long_period_rows(period_rows(day)),
+    "orders": market_data.long_order_rows,
+    "participants": market_data.long_participant_rows,
+    "blocks": lambda day: market_data.long_order_rows(day, "block"),
 }

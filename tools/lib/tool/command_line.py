@@ -1,6 +1,7 @@
 """A tool's command line, and the words on it."""
 
 import argparse
+import inspect
 import sys
 
 from ..base import place, text
@@ -22,6 +23,14 @@ def parse_day(word):
     if not heads.DAY.fullmatch(word):
         raise argparse.ArgumentTypeError(f"{text.quoted(word)} should be {heads.A_DAY}")
     return word
+
+
+def add_command_parser(commands, epilog, call, name, words):
+    """The parser of a command of a tool; its description is the docstring of the call."""
+    described = inspect.cleandoc(call.__doc__ or place.read_docstring(call.__code__.co_filename, call.__name__))
+    parser = commands.add_parser(name, description=described, epilog=epilog, help=words)
+    parser.set_defaults(call=call)
+    return parser
 
 
 class Dashes(str):

@@ -48,13 +48,16 @@ def refuse_own_output(path, file):
 
 
 def refuse_own_outputs(paths):
-    """Ends the tool, before it reads or prints anything, if its standard output is one of these files; `-` is standard input."""
+    """Ends the tool, before it reads or prints anything, if its standard output is one of these files, or in one of these folders; `-` is
+    standard input."""
     for path in paths:
         try:
             found = os.fstat(0) if path == "-" else os.stat(path)
+            inside = [entry.path for entry in os.scandir(path)] if stat.S_ISDIR(found.st_mode) else []
         except (OSError, ValueError):  # a later read reports it
             continue
         refuse_as_own_output(path, found)
+        refuse_own_outputs(inside)
 
 
 def refuse_as_own_output(path, found):

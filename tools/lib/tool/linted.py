@@ -3,10 +3,10 @@
 import hashlib
 
 from ..base import text
-from ..lint import lint
-from . import command, file_io
 from ..base.progress import StepBar
 from ..base.rules import VERSION
+from ..lint import lint
+from . import command, file_io
 
 RIGHT, REFUSED, FAULTY, UNREAD, FAILED = "right", "refused", "faulty", "unread", "failed"
 # The verdict for each status.

@@ -34,6 +34,15 @@ def is_table_name(path):
     return is_workbook_name(path) or path.lower().endswith(CSV)
 
 
+def aligned_lines(rows, to_the_left):
+    """The lines of a table for readers. In the columns at these places the cells stand to the left, and in the others to the right."""
+    rows = [[str(cell) for cell in row] for row in rows]
+    widths = [max(map(len, column)) for column in zip(*rows)]
+    for row in rows:
+        placed = (cell.ljust(width) if at in to_the_left else cell.rjust(width) for at, (cell, width) in enumerate(zip(row, widths)))
+        yield "  ".join(placed).rstrip()
+
+
 def workbook_bytes_or_stop(tables):
     """The bytes of a workbook with a sheet for each table, by name."""
     try:

@@ -3,8 +3,8 @@
 from ..base import text
 from ..journal import book, journal
 from ..lint import sent
-from ..sheets import command_table, order_table
 from ..runs.errors import Fault
+from ..sheets import command_table, order_table
 
 MOST_LINES = 5  # of the faults of a table
 HEADS = ["what", "unit", "participant", "order", "period", "before", "after", "change", "outcome_before", "outcome_after"]

@@ -5,14 +5,14 @@ record, and as a row of a table."""
 from typing import NamedTuple
 
 from ..base import rules, text
+from ..base.progress import StepBar
 from ..journal import journal
 from ..results import decisions
 from ..runs import engine
-from ..tool import command, day_files
-from . import changes
 from ..runs.cleared import THE_DAY, Cleared, journal_bytes
 from ..runs.errors import Fault, Wrong
-from ..base.progress import StepBar
+from ..tool import command, day_files, output
+from . import changes
 
 COUNT = rules.HIGHEST_PRICE - rules.LOWEST_PRICE + 1  # of limits
 # A bisection over the limits on one side of a block's own, and none of them, needs at most as many clearings.
@@ -266,13 +266,6 @@ def capture_sentence(held, block, own, was, running):
         return not_computed_words(BROKEN if isinstance(fault, Wrong) else "a run of the program failed")
 
 
-def aligned_lines(rows):
-    """Rows of cells as aligned lines: the first cell to the left, the others to the right."""
-    widths = [max(map(len, column)) for column in zip(*rows)]
-    for first, *rest in rows:
-        yield "  ".join([first.ljust(widths[0]), *(cell.rjust(width) for cell, width in zip(rest, widths[1:]))]).rstrip()
-
-
 def case_rows(search, worst):
     """What the block and the day come to in each case, and the prices that concern the block or differ."""
     days = list(case_days(search, worst))
@@ -299,11 +292,11 @@ def other_lines(search, worst):
         return
     yield f"The result of {text.counted(len(keys), 'other order')} differs. Executed, in MWh, one cent past the limit and at it:"
     rows = [[" ".join(key), *(text.energy(day.executed(key), day.hours) for day in (worst.past, worst.at))] for key in keys[:MOST_OTHERS]]
-    yield from (f"  {line}" for line in aligned_lines(rows))
+    yield from (f"  {line}" for line in output.aligned_lines(rows, {0}))
     if len(keys) > MOST_OTHERS:
         yield f"  and {len(keys) - MOST_OTHERS} more: --json has all"
 
 
 def answer_lines(search, worst):
     """All of it, as lines for readers."""
-    return [*sentences(search, worst), "", *aligned_lines(list(case_rows(search, worst))), "", *other_lines(search, worst)]
+    return [*sentences(search, worst), "", *output.aligned_lines(case_rows(search, worst), {0}), "", *other_lines(search, worst)]

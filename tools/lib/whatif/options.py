@@ -1,11 +1,9 @@
 """The command line of tools/whatif: the words of each command, and those that can't be used together."""
 
 import argparse
-import inspect
 import re
-import sys
 
-from ..base import place, rules, text
+from ..base import rules, text
 from ..tool import command, command_line, output
 from . import scenarios
 
@@ -36,12 +34,10 @@ def parse_jobs(word):
 
 def add_command_parser(commands, call, name, epilog, words):
     """The parser of a command, with what all commands read."""
-    words_of_call = call.__doc__ or place.read_docstring(sys.modules[call.__module__].__file__, call.__name__)
-    parser = commands.add_parser(name, description=inspect.cleandoc(words_of_call), epilog=epilog, help=words)
+    parser = command_line.add_command_parser(commands, epilog, call, name, words)
     parser.add_argument("journal", metavar="JOURNAL", help="a closed journal; - for standard input")
     parser.add_argument("--program", metavar="PATH", help="the program `dam` to run (default: the library, or the built program)")
     output.add_options(parser)
-    parser.set_defaults(call=call)
     return parser
 
 

@@ -10,11 +10,11 @@ from typing import NamedTuple
 
 from ..base import rules, text
 from ..results import selection
-from ..sheets import cell_values, order_table, sheets
-from . import changes
 from ..runs.cleared import NO_RESULTS, journal_bytes
-from ..sheets.command_table import Columns
 from ..runs.errors import Fault, Wrong
+from ..sheets import cell_values, order_table, sheets
+from ..sheets.command_table import Columns
+from . import changes
 
 SCENARIO = "scenario"
 CONTROL = re.compile("[\0-\x1f\x7f-\x9f\ufffe\uffff]")  # in no name: a line of a text, or a cell of a workbook, couldn't hold it

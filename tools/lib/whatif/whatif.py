@@ -8,9 +8,9 @@ import json
 
 from ..base import place, rules, text
 from ..runs import by_program, cleared, cluster, engine, errors, which
+from ..runs.cleared import Cleared
 from ..tool import command, command_line, day_files, file_io, modules, output
 from . import changes, limits, options, scenarios
-from ..runs.cleared import Cleared
 
 GRID = 2_000, 100  # cents per MWh: how far the limits of an hourly order reach from the price, and their distance
 MOST_LIMITS = 100_000
@@ -114,13 +114,14 @@ def write_all_limits_and_return_status(args, held):
     if not keys:
         raise command.Stop(f"{args.participant} has no block in the book")
 
-    with engine.running_threads(args.jobs or engine.count_processors()) as (threads, running):
+    with engine.running_team(args.jobs or engine.count_processors()) as (team, running):
 
         def row(key):
             search = limits.LimitSearch(held, key, engine_function(args.program, running))
             return limits.limit_cells(search, search.search_for_worst())
 
-        rows = list(engine.iterate_with_bar(threads.map(row, keys), len(keys), "block"))
+        promises = [team.submit(row, key) for key in keys]
+        rows = list(engine.iterate_with_bar((promise.result() for promise in promises), len(keys), "block"))
     output.write_table("whatif", args, "limits", [limits.HEADS, *rows], held.periods)
     return command.DONE
 

@@ -51,7 +51,7 @@ async def write_results(writer):
 
 async def write_statement(writer):
     """What became of each command, by tools/table, in a process of its own."""
-    if not writer.files.has(folder.STATEMENT):
+    if not writer.files.has_file(folder.STATEMENT):
         tool = str(place.FOLDER / "table")
         paths = (str(writer.files.path_of(name)) for name in (folder.JOURNAL, folder.RESULTS))
         made = await capture_output_or_raise(sys.executable, "-I", "-B", tool, "--rows", "statement", "--json", "--quiet", *paths)

@@ -10,7 +10,7 @@ import support
 from support import AUCTION, AUCTION_RESULTS, FIRST, QUARTERS, TOP, day_of, read_results, results_of, rows_as_written, run_tool
 
 from lib.base import clock, rules, text
-from lib.results import published, trades
+from lib.results import market_data, trades
 from lib.sheets import shapes, tables
 from lib.tool import command, modules
 
@@ -29,7 +29,7 @@ class Curves(unittest.TestCase):
     def test_the_clearing_point_lies_on_both_curves(self):
         points = 0
         for name, day in days():
-            rows = rows_as_written(published.curve_rows(day))
+            rows = rows_as_written(market_data.curve_rows(day))
             for number in trades.traded_periods(day):
                 own = [row for row in rows if row["period"] == str(number)]
                 (point,) = [row for row in own if row["curve"] == "clearing"]
@@ -50,7 +50,7 @@ class Curves(unittest.TestCase):
         self.assertGreater(points, 100)
 
     def test_an_hour_of_the_auction_day(self):
-        rows = [row[1:] for row in published.curve_rows(day_of(AUCTION.read_bytes(), read_results(AUCTION))) if row[0] == 19]
+        rows = [row[1:] for row in market_data.curve_rows(day_of(AUCTION.read_bytes(), read_results(AUCTION))) if row[0] == 19]
         self.assertEqual(
             rows,
             [
@@ -81,7 +81,7 @@ class Figures(unittest.TestCase):
         # 24 prices; those from 8:00 to 20:00 are the periods 9 to 20.
         day = day_of(AUCTION.read_bytes(), read_results(AUCTION))
         prices = [int(line.split(b",")[2]) for line in read_results(AUCTION).splitlines() if line.startswith(b"period")]
-        found = {row["figure"]: row["value"] for row in rows_as_written(published.figure_rows(day))}
+        found = {row["figure"]: row["value"] for row in rows_as_written(market_data.figure_rows(day))}
         self.assertEqual(Fraction(found["base_price"]), Fraction(round(Fraction(sum(prices), 24)), 100))
         self.assertEqual(Fraction(found["peak_price"]), Fraction(round(Fraction(sum(prices[8:20]), 12)), 100))
         self.assertEqual(Fraction(found["off_peak_price"]), Fraction(round(Fraction(sum(prices[:8] + prices[20:]), 12)), 100))
@@ -90,16 +90,16 @@ class Figures(unittest.TestCase):
 
     def test_periods_without_trade_are_left_out(self):
         day = day_of(FIRST, results_of(FIRST, frozenset()))
-        found = {row["figure"]: row["value"] for row in rows_as_written(published.figure_rows(day))}
+        found = {row["figure"]: row["value"] for row in rows_as_written(market_data.figure_rows(day))}
         self.assertEqual((found["traded_periods"], found["base_price"], found["greatest_price"]), ("2", "68.00", "68.00"))
         data = b"day,24,,,,,,,\nclose,,,,,,,,\n"
         day = day_of(data, results_of(data, frozenset()))
-        found = {row["figure"]: row["value"] for row in rows_as_written(published.figure_rows(day))}
+        found = {row["figure"]: row["value"] for row in rows_as_written(market_data.figure_rows(day))}
         self.assertEqual((found["traded_periods"], found["base_price"], found["by_volume_price"]), ("0", "", ""))
 
     def test_the_peak_is_by_the_clock(self):
         for periods in rules.DAYS:
-            peak = [number for number in range(1, periods + 1) if published.is_peak(periods, number)]
+            peak = [number for number in range(1, periods + 1) if market_data.is_peak(periods, number)]
             self.assertEqual(len(peak) * rules.DAYS[periods], 12)
             self.assertEqual(clock.begin_time(periods, peak[0]), "08:00")
 
@@ -109,7 +109,7 @@ class Figures(unittest.TestCase):
         for name, day in days():
             with self.subTest(name):
                 lengths.add(day.problem.hours)
-                found = {row["figure"]: row["value"] for row in rows_as_written(published.figure_rows(day))}
+                found = {row["figure"]: row["value"] for row in rows_as_written(market_data.figure_rows(day))}
                 participants = rows_as_written(tables.participant_rows(day))
                 periods = rows_as_written(tables.period_rows(day))
                 self.assertEqual(Fraction(found["energy"]), total(periods, "volume_mw") * day.problem.hours)
@@ -120,7 +120,7 @@ class Figures(unittest.TestCase):
         self.assertEqual(lengths, {1, Fraction(1, 4)})
 
     def test_rounding(self):
-        self.assertEqual([published.mean_or_none(pair) for pair in ([1, 2], [-1, -2], [1, 1, 2], [])], [2, -1, 1, None])
+        self.assertEqual([market_data.mean_or_none(pair) for pair in ([1, 2], [-1, -2], [1, 1, 2], [])], [2, -1, 1, None])
         halves = [text.shown(Fraction(number, 8), 2) for number in (1, 3, -1, -3)]
         self.assertEqual(halves, ["0.13", "0.38", "-0.13", "-0.38"])  # away from 0
 
@@ -130,13 +130,13 @@ class Long(unittest.TestCase):
         for name, day in days():
             with self.subTest(name):
                 hours = day.problem.hours
-                orders, long = rows_as_written(tables.order_rows(day)), rows_as_written(published.long_order_rows(day))
+                orders, long = rows_as_written(tables.order_rows(day)), rows_as_written(market_data.long_order_rows(day))
                 self.assertEqual(total(long, "executed_mw") * hours, total(orders, "executed_mwh"))
                 self.assertEqual(total(long, "offered_mw") * hours, total(orders, "offered_mwh"))
                 self.assertEqual(total(long, "amount_eur"), 0)
                 blocks = [row for row in orders if row["kind"] == "block"]
                 self.assertEqual(total(rows_as_written(tables.LONG["blocks"](day)), "amount_eur"), total(blocks, "amount_eur"))
-                participants, long = rows_as_written(tables.participant_rows(day)), rows_as_written(published.long_participant_rows(day))
+                participants, long = rows_as_written(tables.participant_rows(day)), rows_as_written(market_data.long_participant_rows(day))
                 self.assertEqual(total(long, "paid_eur"), total(participants, "paid_eur"))
                 self.assertEqual(total(long, "sold_mw") * hours, total(participants, "sold_mwh"))
                 periods, long = rows_as_written(tables.period_rows(day)), rows_as_written(tables.LONG["periods"](day))

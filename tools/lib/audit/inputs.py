@@ -1,0 +1,60 @@
+"""The files of an audit of a day, and a record of each."""
+
+import hashlib
+
+from ..base import place
+from ..journal import journal
+from ..results import results
+from ..results.faults import FaultLine
+from ..sheets import kinds
+from ..tool import command, day_files, file_io
+
+HINTS = {
+    kinds.REPLIES: "; --replies checks replies",
+    kinds.DAY: "; give it as the only file",
+    kinds.ORDERS: place.with_commands_of_here("; tools/table --journal makes a journal of it"),
+}
+
+
+class Inputs:
+    """The files that the options of a command line name. `records` has one of each file that was begun, and `odd` the differences of
+    encoding."""
+
+    def __init__(self, options):
+        self.options = options
+        self.records, self.odd = [], []
+
+    def read_and_note(self, role, path):
+        told = {"role": role, "file": str(path), "bytes": None, "sha256": None}
+        self.records.append(told)
+        data = file_io.read_bytes(path)
+        told.update(bytes=len(data), sha256=hashlib.sha256(data).hexdigest())
+        return data
+
+    def read_journal_and_published(self):
+        """The journal, and the bytes of the results or replies; None if there are none, which only --sent allows."""
+        options = self.options
+        if options.results is None:
+            return self.read_day()
+        written, published = self.read_and_note("journal", options.journal), self.read_and_note("results", options.results)
+        day_files.refuse_other_kind(options.journal, written, kinds.JOURNAL, HINTS)
+        day_files.refuse_other_kind(options.results, published, kinds.REPLIES if options.replies else kinds.RESULTS, HINTS)
+        return day_files.require_journal(options.journal, written), published
+
+    def read_day(self):
+        """The same from the text of a day."""
+        options = self.options
+        data = self.read_and_note("day", options.journal)
+        written, published = results.journal_and_results_or_none(data) or (data, None)
+        if published is not None and data[len(written) :].startswith(b"results\r") and b"\r" not in published:
+            self.odd.append(FaultLine("the line 'results' ends with CR LF instead of LF alone", "encoding"))
+        day_files.refuse_other_kind(options.journal, written, kinds.JOURNAL, HINTS)
+        if published is None:
+            if options.sent is None or options.best:
+                raise command.Stop(day_files.no_results_message(options.journal))
+            self.records[0]["role"] = "journal"
+            return day_files.require_journal(options.journal, written), None
+        read = day_files.require_journal(options.journal, written)
+        if journal.journal_text(read).encode() != written:
+            self.odd.append(FaultLine("the journal of the day isn't in its written form, but has the same commands", "encoding"))
+        return read, published
