@@ -10,7 +10,7 @@ ghost use Rattle.dam_book.specs.Command.{is_journal_full};
 use dam_book::{
     Book, Command, DayLength, PackedCommand, PackedEntry, Reply, Seed, is_journal_full,
 };
-use dam_results::{packed_journal_text, replies_text, write_reply_line};
+use dam_results::{journal_text, replies_text, write_reply_line};
 use std::alloc::{AllocError, Global};
 
 /// The book of a day, and how many commands were entered.
@@ -43,7 +43,7 @@ impl Day {
             periods,
             book: Book::for_day(alloc, periods, seed),
             entered: 0,
-            day_record: packed_journal_text(alloc, periods, &[])?,
+            day_record: journal_text(alloc, periods, &[])?,
             line: replies_text(alloc, periods, &[])?,
         })
     }
@@ -134,6 +134,6 @@ impl Day {
         ensures { IfOk result (λ text. text.items
             ≡ written self.now.periods (commands_of entries.now)) }
     {
-        packed_journal_text(self.alloc, self.periods, entries)
+        journal_text(self.alloc, self.periods, entries)
     }
 }

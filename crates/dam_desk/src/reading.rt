@@ -9,7 +9,7 @@ use crate::fault::InputLineFault;
 use crate::limits::MOST_LINE;
 use dam_book::{DayLength, PackedCommand};
 use dam_results::laws::{fault_is_no_journal, text_is_one_journal};
-use dam_results::{JournalFault, PackedJournal, read_packed_journal};
+use dam_results::{JournalFault, JournalRead, read_journal};
 use std::alloc::{AllocError, Global};
 
 /// The meaning of a line.
@@ -46,7 +46,7 @@ fn read_day(alloc: Global, text: &[u8]) -> Result<Option<DayLength>, AllocError>
 {
     text_is_one_journal();
     fault_is_no_journal();
-    match read_packed_journal(alloc, text) {
+    match read_journal(alloc, text) {
         Ok(journal) if journal.commands.is_empty() => Ok(Some(journal.periods)),
         Ok(_) => Ok(None),
         Err(JournalFault::Memory) => Err(AllocError),
@@ -55,7 +55,7 @@ fn read_day(alloc: Global, text: &[u8]) -> Result<Option<DayLength>, AllocError>
 }
 
 /// The command of a journal, if it has just one.
-fn only_command(journal: PackedJournal) -> Option<PackedCommand>
+fn only_command(journal: JournalRead) -> Option<PackedCommand>
     ensures { MatchOption result
         (¬ (length journal.commands.items ≡ 1))
         (λ command. journal.commands.items ≡ command ∷ []) }
@@ -75,7 +75,7 @@ fn meaning_of_text(alloc: Global, text: &[u8], before: usize) -> Result<Said, Al
         → length line ≤ most_line → IfOk result (Says day line) }
 {
     // A command is the usual line. After the record of the day, a day isn't read as one.
-    let fault = match read_packed_journal(alloc, text) {
+    let fault = match read_journal(alloc, text) {
         Ok(_) if before == 0 => InputLineFault::NotOneRecord,
         Ok(journal) => match only_command(journal) {
             Some(command) => return Ok(Said::Command(command)),

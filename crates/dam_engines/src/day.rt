@@ -19,7 +19,7 @@ use crate::watch::{Listener, Watch, WatchOfCaller};
 use dam_book::{DayLength, PackedCommand, Seed};
 use dam_device::{Sink, Source};
 use dam_gate::{DayFault, Journal, Settled, run_packed};
-use dam_results::{packed_journal_text, read_packed_journal};
+use dam_results::{journal_text, read_journal};
 use dam_search::{Plan, Turnstile};
 use std::alloc::Global;
 use std::io::{Read, Write};
@@ -75,7 +75,7 @@ fn run_day_of_text<H: Threads + Wait + Sync, T: Watch + Sync, U: Turnstile + Syn
     ensures done { IfOk result (λ day. IsMadeFrom (IsDayText plan) text.items day.items) }
     ensures fault { IfErr result (IsRunFault (IsCommandsFault plan) text.items) }
 {
-    let journal = read_packed_journal(alloc, text.as_slice())?;
+    let journal = read_journal(alloc, text.as_slice())?;
     drop(text);
     let commands = journal.commands.as_slice();
     run_day_of_commands(
@@ -150,7 +150,7 @@ fn clear_to_day_text<H: Threads + Sync, T: Listener + Sync>(
     ensures fault { IfErr result (IsBookFault plan journal.now.book) }
 {
     let results = clear_book(rt, alloc, journal.book(), plan, watch)?;
-    let mut text = packed_journal_text(alloc, journal.periods(), journal.entries())?;
+    let mut text = journal_text(alloc, journal.periods(), journal.entries())?;
     text.extend_from_slice(b"results\n")?;
     text.extend_from_slice(results.as_slice())?;
     Ok(text)

@@ -1,52 +1,16 @@
 //! A search, made again if memory was refused to it.
 
 use crate::answer::{Answer, Stop, TRIES, Told};
+use crate::jobs::Jobs;
 use crate::texts::keeper_of;
 use dam_blocks::{Problem, Solution};
 use dam_engines::RunFault;
 use dam_line::{Job, LineFault, read_job};
 use dam_plan::Plan;
 use dam_results::read_journal;
-use dam_search::{SearchFault, Turnstile, search};
+use dam_search::{SearchFault, search};
 use std::alloc::Global;
-use std::sync::atomic::{AtomicU32, Ordering};
 use std::thread::Threads;
-
-/// The numbers of pieces that were begun and that were ended.
-#[derive(Drop)]
-struct Pieces {
-    begun: AtomicU32,
-    ended: AtomicU32,
-}
-
-impl Turnstile for Pieces {
-    fn before(&self, _job: u32) {
-        self.begun.fetch_add(1, Ordering::SeqCst);
-    }
-
-    fn after(&self, _job: u32) {
-        self.ended.fetch_add(1, Ordering::SeqCst);
-    }
-}
-
-impl Pieces {
-    fn new() -> Pieces {
-        Pieces {
-            begun: AtomicU32::new(0),
-            ended: AtomicU32::new(0),
-        }
-    }
-
-    /// The number of pieces that were ended, if no worker is at one.
-    fn count_if_all_ended(&self) -> Option<u32> {
-        let ended = self.ended.load(Ordering::SeqCst);
-        if self.begun.load(Ordering::SeqCst) == ended {
-            Some(ended)
-        } else {
-            None
-        }
-    }
-}
 
 fn answer_of(found: Result<Solution, SearchFault>) -> Answer {
     match found {
@@ -63,7 +27,7 @@ fn search_again<R: Threads + Sync>(
     problem: &Problem,
     plan: Plan,
 ) -> Result<Told, Stop> {
-    let pieces = Pieces::new();
+    let pieces = Jobs::new();
     let mut ended = 0;
     for refused in 0..TRIES {
         if pieces.count_if_all_ended() != Some(ended) {

@@ -4,16 +4,16 @@ ghost use Rattle.dam_gate.specs.Settled.{IsSettled};
 ghost use Rattle.dam_refusals.specs.Printed.{IsDay};
 
 use crate::answer::{Answer, Stop, TRIES, Told};
+use crate::jobs::Jobs;
 use crate::passes::Passes;
 use dam_book::{Command, DayLength, PackedEntry, Seed};
 use dam_gate::{
     Account, DayFault, Gate, GateName, Journal, Keeper, MOST_PASSES, Mismatch, Opening, Settled,
     run_commands, settle,
 };
-use dam_plan::Turnstile;
 use std::alloc::Global;
 use std::marker::Brand;
-use std::sync::{Mutex, Wait};
+use std::sync::Wait;
 use std::thread::Threads;
 
 /// Settles the journal, and says how many calls were refused memory.
@@ -112,50 +112,6 @@ pub fn hold_day<R: Wait>(
     hold_at_gate::<Brand, R>(rt, alloc, Opening::new(periods.get()), seed, &keeper)
 }
 
-/// How many jobs a turnstile was called before, and after.
-#[derive(Clone, Copy, PartialEq, Eq)]
-struct Met {
-    before: u32,
-    after: u32,
-}
-
-/// A turnstile that counts its calls.
-#[derive(Drop)]
-struct Counting<'a, R: Wait> {
-    rt: &'a R,
-    met: Mutex<Met>,
-}
-
-impl<'a, R: Wait> Counting<'a, R> {
-    fn new(rt: &'a R) -> Counting<'a, R> {
-        Counting {
-            rt,
-            met: Mutex::new(Met {
-                before: 0,
-                after: 0,
-            }),
-        }
-    }
-
-    /// Whether it was called after as many jobs as before.
-    fn is_balanced(&self) -> bool {
-        let met = self.met.lock(self.rt);
-        met.before == met.after
-    }
-}
-
-impl<'a, R: Wait> Turnstile for Counting<'a, R> {
-    fn before(&self, _job: u32) {
-        let mut met = self.met.lock(self.rt);
-        met.before = met.before.saturating_add(1);
-    }
-
-    fn after(&self, _job: u32) {
-        let mut met = self.met.lock(self.rt);
-        met.after = met.after.saturating_add(1);
-    }
-}
-
 /// Has participants enter the commands on threads of their own, at a gate whose book hashes names by the seed. The gate
 /// has to call its turnstile after the work of each job that it called it before, also if memory is refused to it.
 pub fn run_threads_again<R: Threads + Wait + Sync>(
@@ -166,9 +122,9 @@ pub fn run_threads_again<R: Threads + Wait + Sync>(
     commands: &[Command],
 ) -> Result<Told, Stop> {
     for refused in 0..TRIES {
-        let turnstile = Counting::new(rt);
-        let done = run_commands(rt, alloc, periods, seed, commands, &turnstile);
-        if !turnstile.is_balanced() {
+        let jobs = Jobs::new();
+        let done = run_commands(rt, alloc, periods, seed, commands, &jobs);
+        if jobs.count_if_all_ended().is_none() {
             return Err(Stop::Wrong);
         }
         match done {

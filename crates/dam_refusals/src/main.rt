@@ -12,6 +12,7 @@
 mod answer;
 mod clearing;
 mod day;
+mod jobs;
 mod line;
 mod passes;
 mod refused_calls;
@@ -19,8 +20,8 @@ mod texts;
 
 use answer::{Stop, Told};
 use clearing::search_by_line;
-use dam_book::Seed;
-use dam_results::read_journal;
+use dam_book::{Command, Seed};
+use dam_results::{JournalRead, read_journal};
 use day::{hold_day, run_threads_again};
 use line::read_job_again;
 use refused_calls::{fill_journal, refuse_commands, settle_others};
@@ -81,10 +82,14 @@ fn hold_day_of_text<R: Threads + Wait + Sync>(
     text: &[u8],
     on_threads: bool,
 ) -> Result<Told, Stop> {
-    let read = read_journal(alloc, text)?;
+    let JournalRead { periods, commands } = read_journal(alloc, text)?;
+    let commands: Vec<Command> = commands
+        .iter()
+        .map(|packed| packed.command())
+        .collect(alloc)?;
     if on_threads {
-        run_threads_again(rt, alloc, seed, read.periods, &read.commands)
+        run_threads_again(rt, alloc, seed, periods, &commands)
     } else {
-        hold_day(rt, alloc, seed, read.periods, &read.commands)
+        hold_day(rt, alloc, seed, periods, &commands)
     }
 }

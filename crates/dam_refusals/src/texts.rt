@@ -1,21 +1,30 @@
 //! A journal read and written, each again if memory was refused to it.
-ghost use Rattle.std.specs.Prelude.{◌≡◌, ◌≤◌, length, IfOk};
+ghost use Rattle.std.specs.Prelude.{◌≤◌, length};
 ghost use Rattle.dam_book.specs.Limits.{most_entries};
 
 use crate::answer::{Answer, Stop, TRIES, Told};
-use dam_book::{DayLength, Entry, PackedEntry, Seed};
+use dam_book::{DayLength, PackedCommand, PackedEntry, Seed};
 use dam_engines::RunFault;
 use dam_gate::Keeper;
-use dam_results::{JournalFault, JournalRead, journal_text, packed_journal_text, read_journal};
-use std::alloc::{AllocError, Global};
+use dam_results::{JournalFault, JournalRead, journal_text, read_journal};
+use std::alloc::Global;
 
 /// A keeper that has taken the journal's commands.
 pub fn keeper_of(alloc: Global, read: &JournalRead) -> Result<Keeper, Stop> {
     let mut keeper = Keeper::for_day(alloc, read.periods, Seed::fixed())?;
     for command in &read.commands {
-        keeper.apply(command.copy())?;
+        keeper.apply(command.command())?;
     }
     Ok(keeper)
+}
+
+/// Whether these are the same commands.
+fn are_same_commands(commands: &[PackedCommand], others: &[PackedCommand]) -> bool {
+    commands.len() == others.len()
+        && commands
+            .iter()
+            .zip(others.iter())
+            .all(|(command, other)| command.equals(other))
 }
 
 /// Whether two answers to one text are equal.
@@ -25,7 +34,7 @@ fn are_equal(
 ) -> bool {
     match (found, other) {
         (Ok(found), Ok(other)) => {
-            found.periods == other.periods && found.commands.as_slice() == other.commands.as_slice()
+            found.periods == other.periods && are_same_commands(&found.commands, &other.commands)
         }
         (Err(found), Err(other)) => *found == *other,
         _ => false,
@@ -60,35 +69,19 @@ pub fn read_again(alloc: Global, text: &[u8]) -> Result<Told, Stop> {
     Err(Stop::Wrong)
 }
 
-/// The entries, unpacked.
-fn unpack_entries(alloc: Global, packed: &[PackedEntry]) -> Result<Vec<Entry>, AllocError>
-    ensures { IfOk result (λ entries. entries.items ≡ packed.now) }
-{
-    let mut entries = Vec::with_capacity(alloc, packed.len())?;
-    for entry in packed {
-        entries.push(entry.entry())?;
-    }
-    Ok(entries)
-}
-
-/// Writes the journal of these entries, packed and unpacked, until memory isn't refused: both have to be this text.
+/// Writes the journal of these entries until memory isn't refused: it has to be this text.
 fn write_again(
     alloc: Global,
     periods: DayLength,
-    packed: &[PackedEntry],
+    entries: &[PackedEntry],
     wanted: &[u8],
 ) -> Result<Told, Stop>
-    requires { length packed.now ≤ most_entries }
+    requires { length entries.now ≤ most_entries }
 {
-    let entries = unpack_entries(alloc, packed)?;
     for refused in 0..TRIES {
-        let written = (
-            journal_text(alloc, periods, &entries),
-            packed_journal_text(alloc, periods, packed),
-        );
-        if let (Ok(one), Ok(other)) = &written {
+        if let Ok(written) = journal_text(alloc, periods, entries) {
             let answer = Answer::Entries(entries.len());
-            return if one.as_slice() == wanted && other.as_slice() == wanted {
+            return if written.as_slice() == wanted {
                 Ok(Told { answer, refused })
             } else {
                 Err(Stop::Wrong)

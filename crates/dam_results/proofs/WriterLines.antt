@@ -3,23 +3,24 @@ use Rattle.std.proofs.Common.{◌≡◌, ◌<◌, ◌≤◌, ◌+◌, ℕ, List,
 use Rattle.std.proofs.Common.{append-nil}
 use Rattle.std.specs.Prelude.{Result, Ok, Err, OnOk, Option, Some}
 use Rattle.std.specs.Io.KnownBytes.{Keeps}
-use Rattle.std.specs.List.{AllByRecursion, flat_map, join_with_byte}
+use Rattle.std.specs.List.{AllByRecursion, join_with_byte}
 use Rattle.std.specs.declared.vec.Vec.{Vec}
-use Rattle.std.proofs.lemmas.List.{take_more, take_all, map-append, flat_map_more}
+use Rattle.std.proofs.lemmas.List.{take_more, take_all, map-append}
 use Rattle.csv.specs.Writing.{default_writer, field_text, fields_text, is_blank, row_text, fields_written, has_written, writer_setup}
 use Rattle.csv.specs.Writing.{writer_under, writer_pending, text_written}
 use Rattle.csv.specs.declared.writer.Writer.{Writer}
 use Rattle.dam_book.specs.declared.command.Command.{Command}
 use Rattle.dam_book.specs.declared.command.Entry.{Entry}
-use Rattle.dam_book.specs.Book.{is_day, commands_of}
-use Rattle.dam_book.specs.Limits.{most_entries}
+use Rattle.dam_book.specs.Book.{commands_of}
 use Rattle.dam_results.specs.Records.{Fields, row_of}
-use Rattle.dam_results.specs.Journal.{IsCommand, ReadsAs}
-use Rattle.dam_results.specs.Written.{row_line, command_line, journal_text}
-use Rattle.dam_results.specs.inside.Writer.{Wrote, PutsCommand, PutsCommands}
+use Rattle.dam_results.specs.Journal.{IsCommand}
+use Rattle.dam_results.specs.Written.{row_line, written, journal_text}
+use Rattle.dam_results.specs.Writer.{HasWritten}
+use Rattle.dam_results.specs.declared.journal_writing.JournalWriter.{JournalWriter}
+use Rattle.dam_results.specs.inside.Writer.{Wrote, PutsCommand}
 use Rattle.dam_results.proofs.FieldBytes.{AreFields, limits, command_fields}
 use Rattle.dam_results.proofs.SpelledRecords.{IsPlain, ArePlain}
-use Rattle.dam_results.proofs.ReadBack.{plain_fields, reads_journal_text}
+use Rattle.dam_results.proofs.ReadBack.{plain_fields}
 
 bare : (x : List ℕ) → IsPlain x → field_text default_writer x ≡ x
 bare x h = rw h refl
@@ -63,7 +64,10 @@ pub wrote_none : {A : Type 0} (out : Writer (Vec ℕ A)) → fields_written out 
 wrote_none out between clean setup under pending =
     record { between = between; clean = clean; setup = setup; bytes = rw (under, pending) refl }
 
--- the entries so far, and one more
+-- the entries before this place are written, and their commands are within their limits
+pub record WroteEntries (writer : JournalWriter) (periods : ℕ) (entries : List Entry) (i : ℕ) : Type 0 where
+  pub valid : AllByRecursion IsCommand (commands_of (take i entries))
+  pub lines : HasWritten writer (written periods (commands_of (take i entries)))
 
 valid_more : (cs : List Command) (c : Command) → AllByRecursion IsCommand cs → IsCommand c → AllByRecursion IsCommand (cs ++ c ∷ [])
 valid_more [] c h k = (k, tt)
@@ -73,34 +77,21 @@ commands_more : (entries : List Entry) (i : ℕ) (e : Entry) → i < length entr
     (take (i + 1) entries) ≡ commands_of (take i entries) ++ e.command ∷ []
 commands_more entries i e within here = rw (take_more entries i e, here, map-append) refl
 
-pub puts_none : {A : Type 0} (out : Writer (Vec ℕ A)) → PutsCommands out out []
-puts_none out = record { valid = tt; lines = λ text at. rw append-nil at }
-
-pub puts_more : {A : Type 0} (first before after : Writer (Vec ℕ A)) (entries : List Entry) (i : ℕ) (e : Entry) → i < length entries
-    → get_or entries i e ≡ e
-    → PutsCommands first before (commands_of (take i entries)) → PutsCommand before after e.command → PutsCommands first after
-    (commands_of (take (i + 1) entries))
-puts_more first before after entries i e within here h p =
+pub wrote_more : (before after : JournalWriter) (periods : ℕ) (entries : List Entry) (i : ℕ) (e : Entry) → i < length entries
+    → get_or entries i e ≡ e → WroteEntries before periods entries i → IsCommand e.command
+    → ((commands : List Command) → HasWritten before (written periods commands)
+    → HasWritten after (written periods (commands ++ e.command ∷ []))) → WroteEntries after periods entries (i + 1)
+wrote_more before after periods entries i e within here h valid adds =
     let cs = commands_of (take i entries) in
     let more : commands_of (take (i + 1) entries) ≡ cs ++ e.command ∷ [] = commands_more entries i e within here in
-    let both : PutsCommands first after (cs ++ e.command ∷ []) = record {
-      valid = valid_more cs e.command h.valid p.valid;
-      lines = λ text at. subst (λ (all : List ℕ). Wrote after all) (flat_map_more command_line text cs e.command)
-          (p.line (text ++ flat_map command_line cs) (h.lines text at));
-    } in
-    subst (λ (ds : List Command). PutsCommands first after ds) (sym more) both
+    record { valid = rw more (valid_more cs e.command h.valid valid); lines = rw more (adds cs h.lines) }
 
-pub puts_all : {A : Type 0} (first out : Writer (Vec ℕ A)) (entries : List Entry) (i : ℕ) → length entries ≤ i → PutsCommands first out
-    (commands_of (take i entries)) → PutsCommands first out (commands_of entries)
-puts_all first out entries i over h = rw (take_all i entries over) at h
+pub wrote_all : (writer : JournalWriter) (periods : ℕ) (entries : List Entry) (i : ℕ) → length entries ≤ i
+    → WroteEntries writer periods entries i
+    → AllByRecursion IsCommand (commands_of entries) × HasWritten writer (journal_text periods entries)
+wrote_all writer periods entries i over h = (rw (take_all i entries over) at h.valid, rw (take_all i entries over) at h.lines)
 
 -- the text that the writer gives at the end is the text that it has written
 pub wrote_text : {A : Type 0} (out : Writer (Vec ℕ A)) (text : Vec ℕ A) (written : List ℕ) → Wrote out written → Keeps
     (text_written (λ (v : Vec ℕ A). Some v.items) out) (Some text.items) → text.items ≡ written
 wrote_text out text written h keeps = subst (λ (known : Option (List ℕ)). Keeps known (Some text.items)) h.bytes keeps
-
--- and it reads as the day and the commands
-pub wrote_reads : (text : List ℕ) (periods : ℕ) (entries : List Entry) → text ≡ journal_text periods entries → is_day periods ≡ true
-    → length entries ≤ most_entries → AllByRecursion IsCommand (commands_of entries)
-    → ReadsAs text periods (commands_of entries)
-wrote_reads text periods entries same day few valid = rw same (reads_journal_text periods entries day valid few)

@@ -15,16 +15,16 @@ use crate::from_journal::FromJournal;
 use crate::laws;
 use crate::limits::{MOST_BYTES, MOST_RECORDS};
 use crate::nine_fields::{NineFields, field_or_empty};
-use dam_book::{Command, DayLength};
+use dam_book::{Command, DayLength, PackedCommand};
 use std::alloc::{AllocError, Global};
 use thiserror::Error;
 
-/// The content of a journal's text.
+/// The content of a journal's text. Each command is packed as it is read.
 #[derive(Debug, Drop)]
 pub struct JournalRead {
     /// The number of periods of the delivery day.
     pub periods: DayLength,
-    pub commands: Vec<Command>,
+    pub commands: Vec<PackedCommand>,
 }
 
 impl FromJournal for JournalRead {
@@ -43,7 +43,8 @@ impl FromJournal for JournalRead {
     }
 
     fn take_command(&mut self, _number: u32, command: &Command) -> Result<(), AllocError> {
-        self.commands.push(command.copy())?;
+        let packed = PackedCommand::of(*self.commands.allocator(), command)?;
+        self.commands.push(packed)?;
         Ok(())
     }
 }

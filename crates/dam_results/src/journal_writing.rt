@@ -9,16 +9,16 @@ ghost use Rattle.dam_book.specs.Book.{is_day, commands_of};
 ghost use Rattle.dam_book.specs.Limits.{most_entries};
 ghost use Rattle.dam_book.specs.declared.command.Command.{Command};
 ghost use Rattle.dam_results.specs.Records.{optional_text, side_word, day_row};
-ghost use Rattle.dam_results.specs.Journal.{ReadsAs};
+ghost use Rattle.dam_results.specs.Journal.{IsCommand, ReadsAs};
 ghost use Rattle.dam_results.specs.Written.{row_line};
 ghost use Rattle.dam_results.specs.Writer.{HasWritten};
 ghost use Rattle.dam_results.specs.Written;
-ghost use Rattle.dam_results.specs.inside.Writer.{Wrote, PutsCommand, PutsCommands};
+ghost use Rattle.dam_results.specs.inside.Writer.{Wrote, PutsCommand};
 
 use csv::{Writer, WriterBuilder};
 use dam_book::{
-    BlockOrder, Command, DayLength, Entry, HourOrder, Name, Order, PackedEntry, Participant, Price,
-    Side, Volumes, write_pair, write_price, write_volumes,
+    BlockOrder, Command, DayLength, HourOrder, Name, Order, PackedEntry, Participant, Price, Side,
+    Volumes, write_pair, write_price, write_volumes,
 };
 use itoa::Buffer;
 use std::alloc::{AllocError, Global};
@@ -188,54 +188,6 @@ fn put_command(
     }
 }
 
-fn put_entries(
-    alloc: Global,
-    out: &mut Writer<Vec<u8>>,
-    entries: &[Entry],
-) -> Result<(), AllocError>
-    ensures { OnOk result (PutsCommands out.old out.new (commands_of entries.now)) }
-{
-    for entry in entries {
-        put_command(alloc, out, &entry.command)?;
-    }
-    Ok(())
-}
-
-fn put_packed_entries(
-    alloc: Global,
-    out: &mut Writer<Vec<u8>>,
-    entries: &[PackedEntry],
-) -> Result<(), AllocError>
-    ensures { OnOk result (PutsCommands out.old out.new (commands_of entries.now)) }
-{
-    for entry in entries {
-        let command = entry.command().command();
-        put_command(alloc, out, &command)?;
-    }
-    Ok(())
-}
-
-/// Begins a writer, and writes the record of the day.
-fn begin_writer(alloc: Global, periods: DayLength) -> Result<Writer<Vec<u8>>, AllocError>
-    ensures day { IfOk result (λ out. Wrote out (row_line (day_row periods))) }
-    ensures valid { is_day periods ≡ true }
-{
-    let mut out = WriterBuilder::new().from_writer(Vec::new(alloc));
-    put_day(&mut out, periods)?;
-    Ok(out)
-}
-
-/// The text that the writer has written.
-fn written_text(out: Writer<Vec<u8>>) -> Result<Vec<u8>, AllocError>
-    ensures { IfOk result (λ text. (written : List ℕ) → Wrote out written
-        → text.items ≡ written) }
-{
-    match out.into_inner() {
-        Ok(text) => Ok(text),
-        Err(_) => Err(AllocError),
-    }
-}
-
 /// The written journal: the record of the day, and then the record of each entry's command, also if
 /// it was refused. The fields of a record are joined by commas, with no quotes, and each record ends
 /// in one LF.
@@ -244,30 +196,17 @@ fn written_text(out: Writer<Vec<u8>>) -> Result<Vec<u8>, AllocError>
 pub fn journal_text(
     alloc: Global,
     periods: DayLength,
-    entries: &[Entry],
-) -> Result<Vec<u8>, AllocError>
-    requires { length entries.now ≤ most_entries }
-    ensures text { IfOk result (λ text. text.items ≡ Written.journal_text periods entries.now) }
-    ensures reads { IfOk result (λ text. ReadsAs text.items periods (commands_of entries.now)) }
-{
-    let mut out = begin_writer(alloc, periods)?;
-    put_entries(alloc, &mut out, entries)?;
-    written_text(out)
-}
-
-/// The written journal of packed entries, as `journal_text` writes it.
-pub fn packed_journal_text(
-    alloc: Global,
-    periods: DayLength,
     entries: &[PackedEntry],
 ) -> Result<Vec<u8>, AllocError>
     requires { length entries.now ≤ most_entries }
     ensures text { IfOk result (λ text. text.items ≡ Written.journal_text periods entries.now) }
     ensures reads { IfOk result (λ text. ReadsAs text.items periods (commands_of entries.now)) }
 {
-    let mut out = begin_writer(alloc, periods)?;
-    put_packed_entries(alloc, &mut out, entries)?;
-    written_text(out)
+    let mut writer = JournalWriter::begin(alloc, periods)?;
+    for entry in entries {
+        writer.put_command(&entry.command().command())?;
+    }
+    writer.into_text()
 }
 
 /// The written journal of a day, which grows by the record of one command after another. A contract sees the text so far.
@@ -280,17 +219,20 @@ pub struct JournalWriter {
 impl JournalWriter {
     /// A journal with the record of its day, and no command yet.
     pub fn begin(alloc: Global, periods: DayLength) -> Result<JournalWriter, AllocError>
-        ensures { IfOk result (λ writer. HasWritten writer (Written.written periods [])) }
+        ensures written { IfOk result (λ writer. HasWritten writer (Written.written periods [])) }
+        ensures valid { is_day periods ≡ true }
     {
-        let out = begin_writer(alloc, periods)?;
+        let mut out = WriterBuilder::new().from_writer(Vec::new(alloc));
+        put_day(&mut out, periods)?;
         Ok(JournalWriter { alloc, out })
     }
 
     /// Adds the record of a command.
     pub fn put_command(&mut self, command: &Command) -> Result<(), AllocError>
-        ensures { OnOk result ((periods : ℕ) → (commands : List Command)
+        ensures written { OnOk result ((periods : ℕ) → (commands : List Command)
             → HasWritten self.old (Written.written periods commands)
             → HasWritten self.new (Written.written periods (commands ++ command.now ∷ []))) }
+        ensures valid { OnOk result (IsCommand command.now) }
     {
         put_command(self.alloc, &mut self.out, command)
     }
@@ -300,6 +242,9 @@ impl JournalWriter {
         ensures { IfOk result (λ text. (written : List ℕ) → HasWritten self written
             → text.items ≡ written) }
     {
-        written_text(self.out)
+        match self.out.into_inner() {
+            Ok(text) => Ok(text),
+            Err(_) => Err(AllocError),
+        }
     }
 }

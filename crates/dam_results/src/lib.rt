@@ -1,10 +1,9 @@
 //! The texts that the auction reads and prints, and the published results of a selection of blocks.
 //!
-//! A journal's text is read into its commands (`read_journal`, `read_packed_journal`), its book (`book_of_text`), its
-//! book and the number of commands that the book refused (`run_of_text`), the replies to its commands (`replay_text`),
-//! or another value made of its commands one by one (`read_into`). Each returns the first fault if the text isn't a
-//! journal. `results` finds the published results of an eligible selection; `results_text`, `replies_text`,
-//! `journal_text`, `packed_journal_text` and `JournalWriter` write.
+//! A journal's text is read into its commands (`read_journal`), its book (`book_of_text`), its book and the number of
+//! commands that the book refused (`run_of_text`), the replies to its commands (`replay_text`), or another value made of
+//! its commands one by one (`read_into`). Each returns the first fault if the text isn't a journal. `results` finds the
+//! published results of an eligible selection; `results_text`, `replies_text`, `journal_text` and `JournalWriter` write.
 //!
 //! ```
 //! let book = book_of_text(alloc, Seed::fixed(), text)?;
@@ -30,7 +29,6 @@ mod limits;
 mod lines;
 pub mod market;
 mod nine_fields;
-mod packed_journal;
 mod publish;
 mod published;
 pub mod publishing_laws;
@@ -43,9 +41,8 @@ pub mod spelling_laws;
 
 pub use from_journal::FromJournal;
 pub use journal_reading::{JournalFault, JournalRead, read_into, read_journal};
-pub use journal_writing::{JournalWriter, journal_text, packed_journal_text};
+pub use journal_writing::{JournalWriter, journal_text};
 pub use limits::{MOST_BYTES, MOST_RECORDS};
-pub use packed_journal::{PackedJournal, read_packed_journal};
 pub use publish::results;
 pub use published::{PeriodResult, Results, RowResult};
 pub use replay::replay_text;

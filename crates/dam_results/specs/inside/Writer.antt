@@ -1,6 +1,5 @@
 -- A writer of records into a list of bytes, between two records.
 use Rattle.std.specs.Prelude.{◌≡◌, ℕ, false, List, ◌++◌, Some}
-use Rattle.std.specs.List.{AllByRecursion, flat_map}
 use Rattle.std.specs.declared.vec.Vec.{Vec}
 use Rattle.csv.specs.Writing.{default_writer, fields_written, has_written, writer_setup, text_written}
 use Rattle.csv.specs.declared.writer.Writer.{Writer}
@@ -20,10 +19,3 @@ pub record PutsCommand {A : Type 0} (before after : Writer (Vec ℕ A)) (command
     : Type 0 where
   pub valid : IsCommand command
   pub line : (text : List ℕ) → Wrote before text → Wrote after (text ++ command_line command)
-
--- the same for more commands, one after another
-pub record PutsCommands {A : Type 0} (before after : Writer (Vec ℕ A)) (commands : List Command)
-    : Type 0 where
-  pub valid : AllByRecursion IsCommand commands
-  pub lines : (text : List ℕ) → Wrote before text
-      → Wrote after (text ++ flat_map command_line commands)

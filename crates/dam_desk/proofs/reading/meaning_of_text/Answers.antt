@@ -6,7 +6,7 @@ use Rattle.dam_desk.specs.InputLines.{record_of}
 use Rattle.dam_desk.proofs.AfterDay.{says_command}
 use Rattle.dam_desk.proofs.Readings.{alone, not_one_alone, not_one_after, same_fault}
 use Rattle.dam_desk.proofs.reading.meaning_of_text.Goals as goal
-use Rattle.dam_desk.proofs.reading.meaning_of_text.Goals.{in-Ok, in-Ok-read_packed_journal-2, in-Err-1, in-Ok-2+in-None, in-Err+in_ok-fault-in-Err}
+use Rattle.dam_desk.proofs.reading.meaning_of_text.Goals.{in-Ok, in-Ok-read_journal-2, in-Err-1, in-Ok-2+in-None, in-Err+in_ok-fault-in-Err}
 
 pub returns-in-Some : goal.returns-in-Some
 returns-in-Some c day line valid is before_is few =
@@ -21,7 +21,7 @@ returns-in-None-2 c day line valid is before_is few =
     let no_day : (q : ℕ) → ¬ (ReadsAs (line ++ 10 ∷ []) q []) = subst (λ (t : List ℕ). (q : ℕ) → ¬ (ReadsAs t q [])) (alone day line text before is before_is) none in
     inr (
       record { short = few; other = λ q day_line. no_day q day_line.1 },
-      elim c.match-read_packed_journal.branch [
+      elim c.match-read_journal.branch [
         | in-Ok w ↦
             let reads = w.in-Ok.ensures.ok in
             inr (
@@ -47,7 +47,7 @@ returns-in-None-2 c day line valid is before_is few =
             inl (
               w.in-Err.fault,
               subst (λ (t : List ℕ). IsJournalFault t w.in-Err.fault) is w.in-Err.ensures.fault,
-              same_fault before (length (record_of day)) w.in-Err.fault _ c.match-read_packed_journal.fault before_is w.fault-is w.in_ok-fault-in-Err.ensures,
+              same_fault before (length (record_of day)) w.in-Err.fault _ c.match-read_journal.fault before_is w.fault-is w.in_ok-fault-in-Err.ensures,
             )
       ],
     )

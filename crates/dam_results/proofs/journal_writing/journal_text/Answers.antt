@@ -1,19 +1,17 @@
 -- The written text is the text of a journal, and it reads back as its commands.
 use Rattle.std.proofs.lemmas.Result.{IfOk-weaker}
-use Rattle.dam_results.specs.Records.{day_row}
-use Rattle.dam_results.specs.Written.{row_line, journal_text}
-use Rattle.dam_results.proofs.WriterLines.{wrote_reads}
+use Rattle.dam_results.specs.Written.{journal_text}
+use Rattle.dam_results.proofs.ReadBack.{reads_journal_text}
+use Rattle.dam_results.proofs.WriterLines.{wrote_more, wrote_all}
 use Rattle.dam_results.proofs.journal_writing.journal_text.Goals as goal
 
 pub returns-clause-text : goal.returns-clause-text
 returns-clause-text c =
-    let wrote = c.in_ok-put_entries.ensures.lines (row_line (day_row c.args.periods)) c.in_ok-out.ensures.day in
-    IfOk-weaker c.written_text.result _ _ (λ text is. is (journal_text c.args.periods c.args.entries.now) wrote) c.written_text.ensures
+    let all = wrote_all _ _ _ _ c.loop-entry-test.false c.loop-entry.invariant in
+    IfOk-weaker c.into_text.result _ _ (λ text is. is (journal_text c.args.periods c.args.entries.now) all.1) c.into_text.ensures
 
 pub returns-clause-reads : goal.returns-clause-reads
 returns-clause-reads c =
-    let wrote = c.in_ok-put_entries.ensures.lines (row_line (day_row c.args.periods)) c.in_ok-out.ensures.day in
-    IfOk-weaker c.written_text.result _ _
-    (λ text is. wrote_reads text.items c.args.periods c.args.entries.now (is (journal_text c.args.periods c.args.entries.now) wrote)
-    c.begin_writer.ensures.valid c.requires c.in_ok-put_entries.ensures.valid)
-    c.written_text.ensures
+    let all = wrote_all _ _ _ _ c.loop-entry-test.false c.loop-entry.invariant in
+    IfOk-weaker c.into_text.result _ _ (λ text is. rw (is (journal_text c.args.periods c.args.entries.now) all.1)
+    (reads_journal_text c.args.periods c.args.entries.now c.begin.ensures.valid all.0 c.requires)) c.into_text.ensures

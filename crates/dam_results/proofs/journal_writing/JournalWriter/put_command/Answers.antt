@@ -7,8 +7,8 @@ use Rattle.dam_results.specs.Written.{command_line, row_line, written}
 use Rattle.dam_results.specs.inside.Writer.{Wrote}
 use Rattle.dam_results.proofs.journal_writing.JournalWriter.put_command.Goals as goal
 
-pub returns : goal.returns
-returns c =
+pub returns-clause-written : goal.returns-clause-written
+returns-clause-written c =
     on_ok_weaker c.put_command.result (λ puts periods commands at.
     subst (Wrote c.put_command.new.out) (flat_map_more command_line (row_line (day_row periods)) commands c.args.command.now)
     (puts.line (written periods commands) at)) c.put_command.ensures
