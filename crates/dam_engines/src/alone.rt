@@ -10,7 +10,7 @@ use crate::fault::RunFault;
 use dam_blocks::Problem;
 use dam_book::{Book, Seed};
 use dam_results::publishing_laws::published_results_are_clearings;
-use dam_results::{book_of_text, results, results_text};
+use dam_results::{results, results_text, run_of_text};
 use dam_search::{Nodes, search_alone};
 use std::alloc::Global;
 
@@ -45,6 +45,6 @@ pub fn clear_journal_alone(
         IsMadeFrom (AreResultsWithin (terms_alone nodes)) text.now results.items) }
     ensures fault { IfErr result (IsRunFault (IsClearFault (terms_alone nodes)) text.now) }
 {
-    let book = book_of_text(alloc, seed, text)?;
-    clear_book_alone(alloc, &book, nodes)
+    let run = run_of_text(alloc, seed, text)?;
+    clear_book_alone(alloc, &run.book, nodes)
 }

@@ -7,7 +7,7 @@ use anyhow::{Context, Result};
 use dam_blocks::Problem;
 use dam_book::{Book, Seed};
 use dam_results::publishing_laws::published_results_are_clearings;
-use dam_results::{Results, book_of_text, results};
+use dam_results::{Results, results, run_of_text};
 use dam_search::{FreeTurn, MOST_NODES, Plan, search};
 use std::alloc::Global;
 use std::thread::Threads;
@@ -16,8 +16,8 @@ use std::thread::Threads;
 pub fn clear_text<R: Threads + Sync>(rt: &R, alloc: Global, text: &[u8]) -> Result<Results>
     ensures { IfOk result (λ r. IsClearingOf text.now r.welfare r.periods.items r.rows.items) }
 {
-    let book = book_of_text(alloc, Seed::fixed(), text)?;
-    clear(rt, alloc, &book)
+    let run = run_of_text(alloc, Seed::fixed(), text)?;
+    clear(rt, alloc, &run.book)
 }
 
 /// Finds the best selection of the blocks of a closed book, and its published results.

@@ -6,7 +6,7 @@ use Rattle.std.specs.Option.{option_map, unwrap_or}
 use Rattle.std.proofs.lemmas.Int.{ints}
 use Rattle.std.proofs.lemmas.Bool.{eq-eqb, eqb-true}
 use Rattle.std.proofs.lemmas.List.{append-nil, drop_all}
-use Rattle.std.proofs.lemmas.List.Elements.{filter_map-append}
+use Rattle.std.proofs.lemmas.Option.{same_Some}
 use Rattle.dam_book.specs.Terms.{HourTerms, BlockTerms}
 use Rattle.dam_book.specs.Book.{Key, Row, BookState, IsBook}
 use Rattle.dam_book.specs.declared.order.Side.{Side}
@@ -18,7 +18,7 @@ use Rattle.dam_hour.specs.Best.{IsBest}
 use Rattle.dam_hour.specs.Market.{order_surplus}
 use Rattle.dam_blocks.specs.declared.problem.Block.{Block}
 use Rattle.dam_blocks.specs.declared.problem.Place.TheVariants.{Hour as AtHour, Block as AtBlock}
-use Rattle.dam_blocks.specs.Problem.{ProblemState, step_in, steps_in, hours_from, block_under, blocks_in, rows_after, problem_of, IsProblem}
+use Rattle.dam_blocks.specs.Problem.{ProblemState, steps_in, hours_from, blocks_in, rows_after, problem_of, IsProblem}
 use Rattle.dam_blocks.specs.Selection.{accepts, over_accepted, net_volume, volume_in}
 use Rattle.dam_blocks.specs.Eligible.{ArePrices, surplus_of, surplus_at, selection_welfare}
 use Rattle.dam_blocks.specs.Market.{AreBestExecutions, IsOutcome, block_volume_of, traded, order_surplus_at, order_surplus_in, gain_of, over_orders}
@@ -29,6 +29,7 @@ use Rattle.dam_results.specs.Published.{prices_of, IsPeriodResult, ArePeriodResu
 use Rattle.dam_results.specs.Clearing.{IsClearing}
 use Rattle.dam_results.specs.Market.{price_in, published_gains, published_trades}
 use Rattle.dam_blocks.proofs.Families.{where_true}
+use Rattle.dam_results.proofs.Places.{same_hour, same_block, best_at, get_between, blocks_split, steps_split}
 
 -- the laws below
 pub record AddingLaws : Type 0 where
@@ -39,15 +40,6 @@ pub record AddingLaws : Type 0 where
   pub balance : (blocks : List Block) (sel : List Bool) (t : ℕ) (ss : List Step) (xs : List ℕ) → IsBest ss (net_volume blocks sel t) xs
       → traded Buy blocks sel t ss xs ≡ traded Sell blocks sel t ss xs
   pub best : (ss : List Step) (net : ℤ) (xs ys : List ℕ) → IsBest ss net xs → IsBest ss net ys → xs ≡ ys
-
-pub same_some : {A : Type 0} (a b : A) → Some a ≡ Some b → a ≡ b
-same_some a b e = cc
-
-pub same_hour : (t i s j : ℕ) → AtHour t i ≡ AtHour s j → (t ≡ s) × (i ≡ j)
-same_hour t i s j e = (cc, cc)
-
-pub same_block : (i j : ℕ) → AtBlock i ≡ AtBlock j → i ≡ j
-same_block i j e = cc
 
 hour_no_block : (t i j : ℕ) → AtHour t i ≡ AtBlock j → ⊥
 hour_no_block t i j e = cc
@@ -71,26 +63,6 @@ executions_are blocks sel t (ss ∷ hours) [] are = absurd are
 executions_are blocks sel t (ss ∷ hours) (r ∷ periods) are =
     let rest = executions_are blocks sel (suc t) hours periods are.1 in (are.0.executed ∷ rest.0, (are.0.best, rest.1))
 
--- the hour and the execution of a period
-best_at : (blocks : List Block) (sel : List Bool) (t k : ℕ) (hours : List (List Step)) (executions : List (List ℕ)) (ss : List Step)
-    → AreBestExecutions blocks sel t hours executions → slice_get hours k ≡ Some ss
-    → (xs : List ℕ) × (slice_get executions k ≡ Some xs) × IsBest ss (net_volume blocks sel (k + t)) xs
-best_at blocks sel t k [] [] ss are e = absurd (cc)
-best_at blocks sel t k [] (xs ∷ executions) ss are e = absurd are
-best_at blocks sel t k (hour ∷ hours) [] ss are e = absurd are
-best_at blocks sel t zero (hour ∷ hours) (xs ∷ executions) ss are e =
-    let same = same_some hour ss e in
-    let first : t ≡ 0 + t = omega arith in (
-      xs,
-      refl,
-      subst (λ (n : ℕ). IsBest ss (net_volume blocks sel n) xs) first
-          (subst (λ (h : List Step). IsBest h (net_volume blocks sel t) xs) same are.0),
-    )
-best_at blocks sel t (suc k) (hour ∷ hours) (xs ∷ executions) ss are e =
-    let rest = best_at blocks sel (suc t) k hours executions ss are.1 e in
-    let next : k + suc t ≡ suc k + t = omega arith in
-    (rest.0, rest.1, subst (λ (n : ℕ). IsBest ss (net_volume blocks sel n) rest.0) next rest.2)
-
 period_at : (blocks : List Block) (sel : List Bool) (t k : ℕ) (hours : List (List Step)) (periods : List PeriodResult) (r : PeriodResult)
     → ArePeriodResults blocks sel t hours periods → slice_get periods k ≡ Some r
     → (ss : List Step) × (slice_get hours k ≡ Some ss) × IsPeriodResult blocks sel (k + t) ss r
@@ -98,7 +70,7 @@ period_at blocks sel t k [] [] r are e = absurd (cc)
 period_at blocks sel t k [] (q ∷ periods) r are e = absurd are
 period_at blocks sel t k (hour ∷ hours) [] r are e = absurd are
 period_at blocks sel t zero (hour ∷ hours) (q ∷ periods) r are e =
-    let same = same_some q r e in
+    let same = same_Some q r e in
     let first : t ≡ 0 + t = omega arith in (
       hour,
       refl,
@@ -114,7 +86,7 @@ pub hour_is : (t n k : ℕ) (rows : List Row) (ss : List Step) → slice_get (ho
 hour_is t zero k rows ss e = absurd (cc)
 hour_is t (suc n) zero rows ss e =
     let first : t ≡ 0 + t = omega arith in
-    sym (same_some (steps_in t rows) ss e) ∙ ap (λ (m : ℕ). steps_in m rows) first
+    sym (same_Some (steps_in t rows) ss e) ∙ ap (λ (m : ℕ). steps_in m rows) first
 hour_is t (suc n) (suc k) rows ss e =
     let next : k + suc t ≡ suc k + t = omega arith in
     hour_is (suc t) n k rows ss e ∙ ap (λ (m : ℕ). steps_in m rows) next
@@ -122,10 +94,6 @@ hour_is t (suc n) (suc k) rows ss e =
 -- ---- the place of an hourly order
 abbrev pub step_of : HourTerms → Step
 step_of o = record { side = o.side; price = o.price; qty = o.qty }
-
-seam : {A : Type 0} (xs ys : List A) (y : A) → slice_get (xs ++ y ∷ ys) (length xs) ≡ Some y
-seam [] ys y = refl
-seam (x ∷ xs) ys y = seam xs ys y
 
 own_steps : (key : Key) (o : HourTerms) (rest : List Row) → steps_in o.period ((key, Hour o) ∷ rest) ≡ step_of o ∷ steps_in o.period rest
 own_steps key o rest =
@@ -135,9 +103,9 @@ pub stands_there : (front : List Row) (key : Key) (o : HourTerms) (rest : List R
     → slice_get (steps_in o.period (front ++ (key, Hour o) ∷ rest)) (length (steps_in o.period front)) ≡ Some (step_of o)
 stands_there front key o rest =
     ap (λ (ss : List Step). slice_get ss (length (steps_in o.period front)))
-    (filter_map-append (λ (r : Row). step_in o.period r.1) front ((key, Hour o) ∷ rest)
+    (steps_split o.period front ((key, Hour o) ∷ rest)
     ∙ ap (λ (ss : List Step). steps_in o.period front ++ ss) (own_steps key o rest))
-    ∙ seam (steps_in o.period front) (steps_in o.period rest) (step_of o)
+    ∙ get_between (steps_in o.period front) (steps_in o.period rest) (step_of o)
 
 -- ---- the published line of an hourly order
 -- its period's orders and best execution, and its volume there
@@ -184,7 +152,7 @@ gain_at_place : (p : ℤ) (ss : List Step) (xs : List ℕ) (i : ℕ) (s : Step) 
     → order_surplus_at p ss xs i ≡ order_surplus p s x
 gain_at_place p [] xs i s x e f = absurd (cc)
 gain_at_place p (r ∷ ss) [] i s x e f = absurd (cc)
-gain_at_place p (r ∷ ss) (y ∷ xs) zero s x e f = ap₂ (λ (q : Step) (z : ℕ). order_surplus p q z) (same_some r s e) (same_some y x f)
+gain_at_place p (r ∷ ss) (y ∷ xs) zero s x e f = ap₂ (λ (q : Step) (z : ℕ). order_surplus p q z) (same_Some r s e) (same_Some y x f)
 gain_at_place p (r ∷ ss) (y ∷ xs) (suc i) s x e f = gain_at_place p ss xs i s x e f
 
 gain_in_period : (blocks : List Block) (sel : List Bool) (t : ℕ) (prices : List ℤ) (hours : List (List Step)) (executions : List (List ℕ))
@@ -195,7 +163,7 @@ gain_in_period blocks sel t prices [] executions k i ss xs s x are e f at volume
 gain_in_period blocks sel t [] (hour ∷ hours) executions k i ss xs s x are e f at volume = absurd are
 gain_in_period blocks sel t (p ∷ prices) (hour ∷ hours) [] k i ss xs s x are e f at volume = absurd (cc)
 gain_in_period blocks sel t (p ∷ prices) (hour ∷ hours) (ys ∷ executions) zero i ss xs s x are e f at volume =
-    ap₂ (λ (h : List Step) (v : List ℕ). order_surplus_at p h v i) (same_some hour ss e) (same_some ys xs f)
+    ap₂ (λ (h : List Step) (v : List ℕ). order_surplus_at p h v i) (same_Some hour ss e) (same_Some ys xs f)
     ∙ gain_at_place p ss xs i s x at volume
 gain_in_period blocks sel t (p ∷ prices) (hour ∷ hours) (ys ∷ executions) (suc k) i ss xs s x are e f at volume =
     gain_in_period blocks sel (suc t) prices hours executions k i ss xs s x are.1 e f at volume
@@ -263,7 +231,7 @@ welfare_adds_up laws book welfare periods rows is clearing =
     let day : IsDay book sel periods executions.0 = record { periods_are = published.periods_are; best = executions.1 } in
     let outcome : IsOutcome (problem_of book) sel (prices_of periods) executions.0 =
     record { prices_are = prices_are blocks sel 1 hours periods published.periods_are; executions_are = executions.1 } in
-    same_some (pos welfare) (published_gains periods book.rows rows)
+    same_Some (pos welfare) (published_gains periods book.rows rows)
     (sym published.welfare_is
     ∙ laws.shared (problem_of book) sel (prices_of periods) executions.0 (laws.problem book is clearing.closed) outcome
     ∙ ap (λ (z : ℤ). Some z) (rows_gain laws book sel periods executions.0 [] book.rows rows day refl published.rows_are))
@@ -284,7 +252,7 @@ next_block f b bs (suc n) (a ∷ sel) = next_block f b bs n sel
 
 drop_at : {A : Type 0} (xs : List A) (n : ℕ) (x : A) → slice_get xs n ≡ Some x → drop n xs ≡ x ∷ drop (suc n) xs
 drop_at [] n x e = absurd (cc)
-drop_at {A = A} (y ∷ xs) zero x e = ap (λ (z : A). z ∷ xs) (same_some y x e)
+drop_at {A = A} (y ∷ xs) zero x e = ap (λ (z : A). z ∷ xs) (same_Some y x e)
 drop_at (y ∷ xs) (suc n) x e = drop_at xs n x e
 
 -- the rest of a period from the orders in front on
@@ -305,7 +273,7 @@ record IsPeriodOf (book : BookState) (t : ℕ) (executions : List (List ℕ)) (s
 one_more_here : (front : List Row) (key : Key) (o : HourTerms)
     → length (steps_in o.period (front ++ (key, Hour o) ∷ [])) ≡ suc (length (steps_in o.period front))
 one_more_here front key o =
-    let parts = ap (λ (ss : List Step). length ss) (filter_map-append (λ (r : Row). step_in o.period r.1) front ((key, Hour o) ∷ [])) in
+    let parts = ap (λ (ss : List Step). length ss) (steps_split o.period front ((key, Hour o) ∷ [])) in
     let own = ap (λ (ss : List Step). length ss) (own_steps key o []) in
     let sum = length-append (steps_in o.period front) (steps_in o.period ((key, Hour o) ∷ [])) in
     omega (arith, own, parts, sum)
@@ -313,7 +281,7 @@ one_more_here front key o =
 none_more_elsewhere : (front : List Row) (key : Key) (o : HourTerms) (t : ℕ) → (o.period == t) ≡ false
     → length (steps_in t (front ++ (key, Hour o) ∷ [])) ≡ length (steps_in t front)
 none_more_elsewhere front key o t apart =
-    let parts = ap (λ (ss : List Step). length ss) (filter_map-append (λ (r : Row). step_in t r.1) front ((key, Hour o) ∷ [])) in
+    let parts = ap (λ (ss : List Step). length ss) (steps_split t front ((key, Hour o) ∷ [])) in
     let none : steps_in t ((key, Hour o) ∷ []) ≡ [] = ap (λ (b : Bool). cons_option (cond b (Some (step_of o)) None) []) apart in
     let own = ap (λ (ss : List Step). length ss) none in
     let sum = length-append (steps_in t front) (steps_in t ((key, Hour o) ∷ [])) in
@@ -322,12 +290,9 @@ none_more_elsewhere front key o t apart =
 none_more_of_block : (front : List Row) (key : Key) (o : BlockTerms) (t : ℕ)
     → length (steps_in t (front ++ (key, BlockVariant o) ∷ [])) ≡ length (steps_in t front)
 none_more_of_block front key o t =
-    let parts = ap (λ (ss : List Step). length ss) (filter_map-append (λ (r : Row). step_in t r.1) front ((key, BlockVariant o) ∷ [])) in
+    let parts = ap (λ (ss : List Step). length ss) (steps_split t front ((key, BlockVariant o) ∷ [])) in
     let sum = length-append (steps_in t front) [] in
     omega (arith, parts, sum)
-
-blocks_split : (front rest : List Row) → blocks_in (front ++ rest) ≡ blocks_in front ++ blocks_in rest
-blocks_split front rest = filter_map-append (λ (r : Row). block_under r.0.0 r.0.1 r.1) front rest
 
 no_more_blocks : (front : List Row) (key : Key) (o : HourTerms) → length (blocks_in (front ++ (key, Hour o) ∷ [])) ≡ length (blocks_in front)
 no_more_blocks front key o = ap length (blocks_split front ((key, Hour o) ∷ []) ∙ append-nil (blocks_in front))
@@ -351,9 +316,9 @@ hour_part laws side book sel periods executions t ss xs front key o rest u i vol
     let same : o.period ≡ t = eqb-true o.period t test in
     let at = stands_executed laws book sel executions front key o rest u i volume day.best whole own place is in
     let steps : at.steps ≡ ss =
-    same_some at.steps ss (sym at.hour ∙ ap (λ (n : ℕ). slice_get (hours_from 1 book.periods book.rows) (n - 1)) same ∙ period.hour) in
+    same_Some at.steps ss (sym at.hour ∙ ap (λ (n : ℕ). slice_get (hours_from 1 book.periods book.rows) (n - 1)) same ∙ period.hour) in
     let volumes : at.volumes ≡ xs =
-    same_some at.volumes xs (sym at.executed ∙ ap (λ (n : ℕ). slice_get executions (n - 1)) same ∙ period.executed) in
+    same_Some at.volumes xs (sym at.executed ∙ ap (λ (n : ℕ). slice_get executions (n - 1)) same ∙ period.executed) in
     let n : length (steps_in t front) ≡ length (steps_in o.period front) = ap (λ (m : ℕ). length (steps_in m front)) (sym same) in
     let first = next_order side ss xs (length (steps_in o.period front)) (step_of o) volume
     (ap (λ (ts : List Step). slice_get ts (length (steps_in o.period front))) (sym steps) ∙ at.step)
@@ -427,40 +392,6 @@ side_adds_up : AddingLaws → (side : Side) (book : BookState) (sel : List Bool)
 side_adds_up laws side book sel periods executions t ss xs results day period are =
     rows_trade laws side book sel periods executions t ss xs [] book.rows results day period refl are
 
-both_sides : (bought sold volume : ℕ) (b s : ℤ) → pos bought ≡ b → pos sold ≡ s → b ≡ s → pos volume ≡ b
-    → (bought ≡ volume) × (sold ≡ volume)
-both_sides bought sold volume b s e f g h = (omega (arith, ints, e, f, g, h), omega (arith, ints, e, f, g, h))
-
-pub volume_adds_up : AddingLaws → (book : BookState) (welfare : ℕ) (periods : List PeriodResult) (rows : List RowResult) (k : ℕ)
-    (period : PeriodResult) → IsBook book → IsClearing book welfare periods rows → slice_get periods k ≡ Some period
-    → (published_trades Buy (k + 1) book.rows rows ≡ period.volume) × (published_trades Sell (k + 1) book.rows rows ≡ period.volume)
-volume_adds_up laws book welfare periods rows k period is clearing at =
-    let published = clearing.published in
-    let sel = clearing.selection in
-    let hours = hours_from 1 book.periods book.rows in
-    let blocks = blocks_in book.rows in
-    let t = k + 1 in
-    let executions = executions_are blocks sel 1 hours periods published.periods_are in
-    let day : IsDay book sel periods executions.0 = record { periods_are = published.periods_are; best = executions.1 } in
-    let found = period_at blocks sel 1 k hours periods period published.periods_are at in
-    let ss = found.0 in
-    let result = found.2 in
-    let own = best_at blocks sel 1 k hours executions.0 ss executions.1 found.1 in
-    let same : own.0 ≡ result.executed = laws.best ss (net_volume blocks sel t) own.0 result.executed own.2 result.best in
-    let back : k ≡ t - 1 = omega arith in
-    let there : IsPeriodOf book t executions.0 ss own.0 = record {
-      from_one = omega arith;
-      hour = ap (λ (n : ℕ). slice_get hours n) (sym back) ∙ found.1;
-      steps_are = hour_is 1 book.periods k book.rows ss found.1;
-      executed = ap (λ (n : ℕ). slice_get executions.0 n) (sym back) ∙ own.1;
-    } in
-    both_sides (published_trades Buy t book.rows rows) (published_trades Sell t book.rows rows) period.volume
-    (traded Buy blocks sel t ss own.0) (traded Sell blocks sel t ss own.0)
-    (side_adds_up laws Buy book sel periods executions.0 t ss own.0 rows day there published.rows_are)
-    (side_adds_up laws Sell book sel periods executions.0 t ss own.0 rows day there published.rows_are)
-    (laws.balance blocks sel t ss own.0 own.2)
-    (result.volume ∙ ap (λ (xs : List ℕ). traded Buy blocks sel t ss xs) (sym same))
-
 -- the traded volume of the published lines is the traded volume of the selection and the best
 -- execution
 pub traded_is : AddingLaws → (book : BookState) (welfare : ℕ) (periods : List PeriodResult) (rows : List RowResult)
@@ -484,3 +415,26 @@ traded_is laws book welfare periods rows clearing k ss side at =
       executed = ap (λ (n : ℕ). slice_get executions.0 n) (sym back) ∙ own.1;
     } in
     (own.0, own.2, side_adds_up laws side book sel periods executions.0 (k + 1) ss own.0 rows day there published.rows_are)
+
+both_sides : (bought sold volume : ℕ) (b s : ℤ) → pos bought ≡ b → pos sold ≡ s → b ≡ s → pos volume ≡ b
+    → (bought ≡ volume) × (sold ≡ volume)
+both_sides bought sold volume b s e f g h = (omega (arith, ints, e, f, g, h), omega (arith, ints, e, f, g, h))
+
+pub volume_adds_up : AddingLaws → (book : BookState) (welfare : ℕ) (periods : List PeriodResult) (rows : List RowResult) (k : ℕ)
+    (period : PeriodResult) → IsBook book → IsClearing book welfare periods rows → slice_get periods k ≡ Some period
+    → (published_trades Buy (k + 1) book.rows rows ≡ period.volume) × (published_trades Sell (k + 1) book.rows rows ≡ period.volume)
+volume_adds_up laws book welfare periods rows k period is clearing at =
+    let sel = clearing.selection in
+    let blocks = blocks_in book.rows in
+    let t = k + 1 in
+    let found = period_at blocks sel 1 k (hours_from 1 book.periods book.rows) periods period clearing.published.periods_are at in
+    let ss = found.0 in
+    let xs = found.2.executed in
+    let best = found.2.best in
+    let buys = traded_is laws book welfare periods rows clearing k ss Buy found.1 in
+    let sells = traded_is laws book welfare periods rows clearing k ss Sell found.1 in
+    both_sides (published_trades Buy t book.rows rows) (published_trades Sell t book.rows rows) period.volume (traded Buy blocks sel t ss xs)
+    (traded Sell blocks sel t ss xs)
+    (buys.2 ∙ ap (λ (ys : List ℕ). traded Buy blocks sel t ss ys) (laws.best ss (net_volume blocks sel t) buys.0 xs buys.1 best))
+    (sells.2 ∙ ap (λ (ys : List ℕ). traded Sell blocks sel t ss ys) (laws.best ss (net_volume blocks sel t) sells.0 xs sells.1 best))
+    (laws.balance blocks sel t ss xs best) found.2.volume

@@ -19,10 +19,12 @@ use Rattle.dam_blocks.specs.declared.problem.ProblemRow.{ProblemRow}
 use Rattle.dam_blocks.specs.Problem.{ProblemState, StandsAt}
 use Rattle.dam_blocks.specs.Selection.{net_volume, bought_volume}
 use Rattle.dam_blocks.specs.Eligible.{IsClearingPrice, ArePrices, IsEligible}
+use Rattle.dam_blocks.specs.Market.{AreBestExecutions}
 use Rattle.dam_results.specs.declared.published.PeriodResult.{PeriodResult}
 use Rattle.dam_results.specs.declared.published.RowResult.{RowResult}
 use Rattle.dam_results.specs.Published.{IsPeriodResult, ArePeriodResults, prices_of, IsExecuted, IsRowResult, AreRowResults}
-use Rattle.dam_results.specs.inside.Cleared.{IsBalancedIn, IsCleared, AreBest, AreCleared, volume_at}
+use Rattle.dam_results.specs.inside.Cleared.{IsBalancedIn, IsCleared, AreCleared, volume_at}
+use Rattle.dam_results.proofs.Places.{best_at}
 use Rattle.dam_results.proofs.Rules.{short_day}
 
 take_at : {X : Type 0} (xs : List X) (i : ℕ) (x : X) → slice_get xs i ≡ Some x → take (i + 1) xs ≡ take i xs ++ x ∷ []
@@ -90,7 +92,7 @@ periods_push blocks sel t n (h ∷ hours) (q ∷ rs) ss r e all one =
     (all.0, periods_push blocks sel (suc t) n hours rs ss r (omega (arith, e)) all.1 one)
 
 best_push : (blocks : List Block) (sel : List Bool) (t n : ℕ) (hours : List (List Step)) (rs : List (List ℕ)) (ss : List Step) (r : List ℕ)
-    → n ≡ t + length hours → AreBest blocks sel t hours rs → IsBest ss (net_volume blocks sel n) r → AreBest blocks sel t (hours ++ ss ∷ [])
+    → n ≡ t + length hours → AreBestExecutions blocks sel t hours rs → IsBest ss (net_volume blocks sel n) r → AreBestExecutions blocks sel t (hours ++ ss ∷ [])
     (rs ++ r ∷ [])
 best_push blocks sel t n [] [] ss r e all one = let same : n ≡ t = omega (arith, e) in
     (subst (λ (m : ℕ). IsBest ss (net_volume blocks sel m) r) same one, tt)
@@ -120,8 +122,8 @@ cleared_more problem sel place t periods periods' prices prices' executions exec
       are_prices = ps ∙ ap (λ (zs : List ℤ). zs ++ published.price ∷ []) so_far.are_prices ∙ sym
           (map-append (λ (r : PeriodResult). r.price) periods (published ∷ []))
           ∙ ap prices_of (sym es);
-      are_best = subst (λ (hs : List (List Step)). AreBest problem.blocks sel 1 hs executions') (sym hours)
-          (subst (λ (rs : List (List ℕ)). AreBest problem.blocks sel 1 (take place problem.hours ++ one.hour ∷ []) rs) (sym xs)
+      are_best = subst (λ (hs : List (List Step)). AreBestExecutions problem.blocks sel 1 hs executions') (sym hours)
+          (subst (λ (rs : List (List ℕ)). AreBestExecutions problem.blocks sel 1 (take place problem.hours ++ one.hour ∷ []) rs) (sym xs)
           (best_push problem.blocks sel 1 t (take place problem.hours) executions one.hour executed number so_far.are_best one.best));
     }
 
@@ -132,32 +134,14 @@ long_as [] (x ∷ xs) is = absurd is
 long_as (s ∷ ss) [] is = absurd is
 long_as (s ∷ ss) (x ∷ xs) is = ap (λ (n : ℕ). suc n) (long_as ss xs is.1)
 
-best_at : (blocks : List Block) (sel : List Bool) (t k : ℕ) (hours : List (List Step)) (executions : List (List ℕ)) (ss : List Step)
-    → AreBest blocks sel t hours executions
-    → slice_get hours k ≡ Some ss → (xs : List ℕ) × (slice_get executions k ≡ Some xs) × IsBest ss (net_volume blocks sel (t + k)) xs
-best_at blocks sel t k [] executions ss are at = absurd (cc)
-best_at blocks sel t k (h ∷ hours) [] ss are at = absurd are
-best_at blocks sel t zero (h ∷ hours) (xs ∷ executions) ss are at =
-    let same : h ≡ ss = cc in
-    let here : t ≡ t + 0 = omega arith in (
-      xs,
-      refl,
-      subst (λ (n : ℕ). IsBest ss (net_volume blocks sel n) xs) here
-          (subst (λ (hs : List Step). IsBest hs (net_volume blocks sel t) xs) same are.0),
-    )
-best_at blocks sel t (suc k) (h ∷ hours) (xs ∷ executions) ss are at =
-    let rest = best_at blocks sel (suc t) k hours executions ss are.1 at in
-    let here : suc t + k ≡ t + suc k = omega arith in
-    (rest.0, rest.1, subst (λ (n : ℕ). IsBest ss (net_volume blocks sel n) rest.0) here rest.2)
-
 -- the hourly order has a volume
 volume_found : (problem : ProblemState) (sel : List Bool) (t i : ℕ) (executions : List (List ℕ)) (hour : List Step)
-    → AreBest problem.blocks sel 1 problem.hours executions
+    → AreBestExecutions problem.blocks sel 1 problem.hours executions
     → slice_get problem.hours (t - 1) ≡ Some hour → 1 ≤ t → i < length hour → (v : ℕ) × (volume_at executions (t - 1) i ≡ Some v)
     × IsExecuted problem sel t i v
 volume_found problem sel t i executions hour are stands least within =
     let found = best_at problem.blocks sel 1 (t - 1) problem.hours executions hour are stands in
-    let number : 1 + (t - 1) ≡ t = omega (arith, least) in
+    let number : (t - 1) + 1 ≡ t = omega (arith, least) in
     let best = subst (λ (n : ℕ). IsBest hour (net_volume problem.blocks sel n) found.0) number found.2 in
     let long = long_as hour found.0 best.execution in
     let volume = slice_get-get_or found.0 i 0 (omega (arith, long, within)) in (
@@ -180,7 +164,7 @@ found_volume problem sel t i w (Some v) is executed = subst (λ (n : ℕ). IsExe
 
 pub executed_at : (problem : ProblemState) (sel : List Bool) (t i : ℕ) (executions : List (List ℕ)) (row : ProblemRow) (o : Option ℕ)
     → row.at ≡ AtHour t i → StandsAt problem row row.at
-    → AreBest problem.blocks sel 1 problem.hours executions → o ≡ volume_at executions (t - 1) i → MatchOption o ⊥
+    → AreBestExecutions problem.blocks sel 1 problem.hours executions → o ≡ volume_at executions (t - 1) i → MatchOption o ⊥
     (IsExecuted problem sel t i)
 executed_at problem sel t i executions row o at stands are is =
     let there = subst (λ (p : Place). StandsAt problem row p) at stands in

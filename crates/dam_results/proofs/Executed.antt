@@ -2,6 +2,7 @@
 use Rattle.std.proofs.Common.{◌≡◌, ℕ, zero, suc, ◌+◌, ◌-◌, pos, Bool, Some, List, [], ◌∷◌, ◌++◌, length, take, get_or, append_assoc, ap, ◌∙◌, sym, subst, refl, arith}
 use Rattle.std.specs.List.{slice_get}
 use Rattle.std.proofs.lemmas.List.{append-nil}
+use Rattle.std.proofs.lemmas.Option.{same_Some}
 use Rattle.dam_book.specs.Terms.{HourTerms, BlockTerms}
 use Rattle.dam_book.specs.Book.{Key, Row, BookState}
 use Rattle.dam_book.specs.declared.order.Order.TheVariants.{Hour, Block as BlockVariant}
@@ -18,7 +19,8 @@ use Rattle.dam_results.specs.declared.published.RowResult.TheVariants.{Hour as H
 use Rattle.dam_results.specs.Published.{prices_of, ArePeriodResults, IsExecuted, AreRowResults}
 use Rattle.dam_results.specs.Clearing.{IsClearing}
 use Rattle.dam_results.specs.Market.{price_in}
-use Rattle.dam_results.proofs.AddingUp.{same_some, same_hour, hour_is, step_of, stands_there}
+use Rattle.dam_results.proofs.Places.{same_hour}
+use Rattle.dam_results.proofs.AddingUp.{hour_is, step_of, stands_there}
 
 -- the published price of a period is its price under the selection
 price_at : (blocks : List Block) (sel : List Bool) (t k : ℕ) (hours : List (List Step)) (periods : List PeriodResult) (ss : List Step)
@@ -28,7 +30,7 @@ price_at blocks sel t k [] [] ss are e = absurd (cc)
 price_at blocks sel t k [] (r ∷ periods) ss are e = absurd are
 price_at blocks sel t k (hour ∷ hours) [] ss are e = absurd are
 price_at blocks sel t zero (hour ∷ hours) (r ∷ periods) ss are e =
-    let same = same_some hour ss e in
+    let same = same_Some hour ss e in
     let first : t ≡ 0 + t = omega arith in
     subst (λ (n : ℕ). IsClearingPrice ss (net_volume blocks sel n) r.price) first
     (subst (λ (h : List Step). IsClearingPrice h (net_volume blocks sel t) r.price) same are.0.price)
@@ -79,7 +81,7 @@ no_hourly : (b : BlockTerms) (o : HourTerms) → BlockVariant b ≡ Hour o → �
 no_hourly b o e = cc
 
 orders_equal : (row other : Row) → Some row ≡ Some other → row.1 ≡ other.1
-orders_equal row other e = ap (λ (r : Row). r.1) (same_some row other e)
+orders_equal row other e = ap (λ (r : Row). r.1) (same_Some row other e)
 
 same_volume : (w who m name : List ℕ) (x volume : ℕ) → Some (HourResult w m x) ≡ Some (HourResult who name volume) → x ≡ volume
 same_volume w who m name x volume e = cc

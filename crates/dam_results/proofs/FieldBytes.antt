@@ -187,25 +187,11 @@ command_fields (Submit who text (Hour o)) h =
     (word, (participant who h.0, (name text h.1, (form, (side o.side, (price o.price h.2.price, (qty, (empty _, (empty _, tt)))))))))
 command_fields (Submit who text (Block o)) h =
     let word : IsFieldText 6 (codes "submit") = record { fits = omega arith; bytes = refl } in
-    let form : IsFieldText 5 (codes "block") = record { fits = omega arith; bytes = refl } in (
-      word,
-      (
-        participant who h.0,
-        (
-          name text h.1,
-          (
-            form,
-            (
-              side o.side,
-              (
-                price o.price h.2.price,
-                (volumes o.volumes h.2.volumes, (optional_name o.parent h.2.parent, (optional_name o.group h.2.group, tt))),
-              ),
-            ),
-          ),
-        ),
-      ),
-    )
+    let form : IsFieldText 5 (codes "block") = record { fits = omega arith; bytes = refl } in
+    let pairs = volumes o.volumes h.2.volumes in
+    let parent = optional_name o.parent h.2.parent in
+    let group = optional_name o.group h.2.group in
+    (word, (participant who h.0, (name text h.1, (form, (side o.side, (price o.price h.2.price, (pairs, (parent, (group, tt)))))))))
 command_fields (Amend who text cents pairs) h =
     let word : IsFieldText 6 (codes "amend") = record { fits = omega arith; bytes = refl } in
     (word, (participant who h.0, (name text h.1, (empty _, (empty _, (price cents h.2, (volumes pairs h.3, (empty _, (empty _, tt)))))))))

@@ -5,6 +5,7 @@ use Rattle.std.specs.List.{AllByRecursion}
 use Rattle.std.proofs.lemmas.List.{length-append}
 use Rattle.std.proofs.lemmas.Bool.Decides.{nat_tests}
 use Rattle.dam_book.specs.Name.{IsName}
+use Rattle.dam_book.specs.Fields.{price_text, volumes_text}
 use Rattle.dam_book.specs.Book.{is_day}
 use Rattle.dam_book.specs.declared.order.Side.{Side}
 use Rattle.dam_book.specs.declared.order.Side.TheVariants.{Buy, Sell}
@@ -16,7 +17,7 @@ use Rattle.dam_results.specs.declared.journal_reading.JournalFault.{JournalFault
 use Rattle.dam_results.specs.declared.journal_reading.JournalFault.TheVariants.{TooLong, NotAscii, TooManyRecords, NotDay, FieldCount, BadField}
 use Rattle.dam_results.specs.declared.journal_reading.JournalFault.TheVariants.{Memory}
 use Rattle.dam_results.specs.Records.{Fields, day_row, row_of, records_of, kind_field, optional_text, side_word}
-use Rattle.dam_results.specs.Rules.{FieldRule, OneOf, NameOrEmpty, Obeys, IsLeastBroken, rules_of, command_rules, day_rules}
+use Rattle.dam_results.specs.Rules.{FieldRule, OneOf, LimitPrice, OneVolume, AllVolumes, NameOrEmpty, Obeys, IsLeastBroken, rules_of, command_rules, day_rules}
 use Rattle.dam_results.specs.Journal.{AreRecords, IsCommand, ReadsAs}
 use Rattle.dam_results.specs.Faults.{IsRecordFault, HasFault, IsJournalFault}
 
@@ -44,44 +45,16 @@ Keeps-optional None h = inl refl
 Keeps-optional (Some text) h = inr h
 
 ObeyAll-command : (c : Command) → IsCommand c → ObeyAll (command_rules (row_of c)) (row_of c)
-ObeyAll-command (Submit who name (Hour o)) h = (
-  refl,
-  (
-    h.0,
-    (
-      h.1,
-      (
-        refl,
-        (
-          Keeps-side o.side,
-          ((o.price, h.2.price, refl), ((o.period, o.qty, h.2.period, h.2.qty, refl), (refl, (refl, tt)))),
-        ),
-      ),
-    ),
-  ),
-)
-ObeyAll-command (Submit who name (Block o)) h = (
-  refl,
-  (
-    h.0,
-    (
-      h.1,
-      (
-        refl,
-        (
-          Keeps-side o.side,
-          (
-            (o.price, h.2.price, refl),
-            (
-              (o.volumes, h.2.volumes, refl),
-              (Keeps-optional o.parent h.2.parent, (Keeps-optional o.group h.2.group, tt)),
-            ),
-          ),
-        ),
-      ),
-    ),
-  ),
-)
+ObeyAll-command (Submit who name (Hour o)) h =
+    let price : Obeys LimitPrice (price_text o.price) = (o.price, h.2.price, refl) in
+    let volume : Obeys OneVolume (volumes_text ((o.period, o.qty) ∷ [])) = (o.period, o.qty, h.2.period, h.2.qty, refl) in
+    (refl, (h.0, (h.1, (refl, (Keeps-side o.side, (price, (volume, (refl, (refl, tt)))))))))
+ObeyAll-command (Submit who name (Block o)) h =
+    let price : Obeys LimitPrice (price_text o.price) = (o.price, h.2.price, refl) in
+    let volumes : Obeys AllVolumes (volumes_text o.volumes) = (o.volumes, h.2.volumes, refl) in
+    let parent = Keeps-optional o.parent h.2.parent in
+    let group = Keeps-optional o.group h.2.group in
+    (refl, (h.0, (h.1, (refl, (Keeps-side o.side, (price, (volumes, (parent, (group, tt)))))))))
 ObeyAll-command (Amend who name price volumes) h =
     (refl, (h.0, (h.1, (refl, (refl, ((price, h.2, refl), ((volumes, h.3, refl), (refl, (refl, tt)))))))))
 ObeyAll-command (Cancel who name) h = (refl, (h.0, (h.1, (refl, (refl, (refl, (refl, (refl, (refl, tt)))))))))

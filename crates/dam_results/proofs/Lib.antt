@@ -14,6 +14,7 @@ pub mod SpelledRecords
 pub mod FieldBytes
 pub mod ReadBack
 pub mod WriterLines
+pub mod Places
 pub mod ClearingSteps
 pub mod PublishedOnce
 pub mod BestSelections

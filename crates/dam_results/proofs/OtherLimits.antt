@@ -4,13 +4,12 @@ use Rattle.std.proofs.Common.{◌∷◌, ◌++◌, length, length-append, take, 
 use Rattle.std.specs.List.{slice_get}
 use Rattle.std.proofs.lemmas.Int.{ints}
 use Rattle.std.proofs.lemmas.List.{append-nil}
+use Rattle.std.proofs.lemmas.Option.{same_Some}
 use Rattle.dam_book.specs.Terms.{HourTerms, BlockTerms}
 use Rattle.dam_book.specs.Book.{Key, Row, BookState, IsBook}
-use Rattle.dam_book.specs.declared.order.Side.TheVariants.{Buy}
 use Rattle.dam_book.specs.declared.order.Order.{Order}
 use Rattle.dam_book.specs.declared.order.Order.TheVariants.{Hour, Block as BlockVariant}
 use Rattle.dam_hour.specs.declared.step.Step.{Step}
-use Rattle.dam_hour.specs.Execution.{executed_volume}
 use Rattle.dam_hour.specs.Price.{IsBetter, IsWorse}
 use Rattle.dam_hour.specs.Best.{IsBest}
 use Rattle.dam_blocks.specs.declared.problem.Block.{Block}
@@ -19,17 +18,17 @@ use Rattle.dam_blocks.specs.declared.problem.Place.TheVariants.{Hour as AtHour, 
 use Rattle.dam_blocks.specs.declared.problem.ProblemRow.{ProblemRow}
 use Rattle.dam_blocks.specs.Problem.{ProblemState, steps_in, blocks_in, place_after, rows_after, problem_of, IsProblem}
 use Rattle.dam_blocks.specs.Selection.{accepts, over_accepted, net_volume_of_block, bought_volume_of_block}
-use Rattle.dam_blocks.specs.Eligible.{IsClearingPrice, surplus_of}
+use Rattle.dam_blocks.specs.Eligible.{surplus_of}
 use Rattle.dam_blocks.specs.Result.{IsResult}
-use Rattle.dam_blocks.specs.Changes.{IsWithoutBlock, IsWithLimit}
+use Rattle.dam_blocks.specs.Changes.{IsWithoutBlock, IsWithLimit, with_limit}
 use Rattle.dam_results.specs.declared.published.PeriodResult.{PeriodResult}
 use Rattle.dam_results.specs.declared.published.RowResult.{RowResult}
 use Rattle.dam_results.specs.declared.published.RowResult.TheVariants.{Hour as HourResult, Block as BlockResult}
-use Rattle.dam_results.specs.Published.{prices_of, ArePeriodResults, IsRowResult, AreRowResults}
+use Rattle.dam_results.specs.Published.{prices_of, ArePeriodResults, IsExecuted, HasSurplus, IsRowResult, AreRowResults}
 use Rattle.dam_results.specs.Clearing.{IsBestSelection, IsClearing}
 use Rattle.dam_results.specs.Market.{IsWithoutRow, IsWithOtherLimit}
-use Rattle.dam_results.proofs.Withdrawn.{parted, blocks_split, steps_split, gone_block}
-use Rattle.dam_results.proofs.AddingUp.{same_some}
+use Rattle.dam_results.proofs.Places.{same_block, parted, replaced, blocks_split, steps_split}
+use Rattle.dam_results.proofs.Withdrawn.{gone_block, same_periods}
 
 -- ---- a block less
 pub record OneMoreLaws : Type 0 where
@@ -126,11 +125,6 @@ record IsChangedBetween (book other : BookState) (place : ℕ) (order : BlockTer
   periods : other.periods ≡ book.periods
   closed : other.closed ≡ book.closed
 
-replaced : {A : Type 0} (xs : List A) (n : ℕ) (x y : A) → slice_get xs n ≡ Some x → set xs n y ≡ take n xs ++ y ∷ drop (suc n) xs
-replaced [] n x y e = absurd (cc)
-replaced (z ∷ xs) zero x y e = refl
-replaced {A = A} (z ∷ xs) (suc n) x y e = ap (λ (zs : List A). z ∷ zs) (replaced xs n x y e)
-
 changed_between : (book other : BookState) (place : ℕ) (order : BlockTerms) (limit : ℤ) → IsWithOtherLimit book other place order limit
     → IsChangedBetween book other place order limit
 changed_between book other place order limit is =
@@ -170,7 +164,7 @@ still_accepted laws book other place order limit welfare after periods days rows
     let old = line_in book front back key order place welfare periods rows first change.rows change.place_is in
     let new = line_in other front back key (record order { price = limit }) place after days results second change.others change.place_is in
     let was = same_line who name key.0 key.1 true old.2.accepted surplus old.2.surplus
-    (same_some (BlockResult who name true surplus) (BlockResult key.0 key.1 old.2.accepted old.2.surplus)
+    (same_Some (BlockResult who name true surplus) (BlockResult key.0 key.1 old.2.accepted old.2.surplus)
     (sym at ∙ old.1 ∙ ap (λ (x : RowResult). Some x) old.2.line)) in
     let kept = laws.better (problem_of book) (problem_of other) i (gone_block key order) limit first.selection second.selection (pos welfare)
     (pos after) (laws.change book other front back key order limit change.rows change.others change.periods) better
@@ -195,112 +189,71 @@ pub record WorseLaws : Type 0 where
       → accepts sel place ≡ false → IsResult other sel welfare
 
 -- a sum that doesn't read limits is the same
-same_sum : (f : BlockTerms → ℤ) (bs cs : List Block) (b c : Block) (sel : List Bool) → f b.order ≡ f c.order
-    → over_accepted f (bs ++ b ∷ cs) sel ≡ over_accepted f (bs ++ c ∷ cs) sel
-same_sum f [] cs b c [] e = refl
-same_sum f [] cs b c (true ∷ sel) e = ap (λ (z : ℤ). z +ℤ over_accepted f cs sel) e
-same_sum f [] cs b c (false ∷ sel) e = refl
-same_sum f (d ∷ bs) cs b c [] e = refl
-same_sum f (d ∷ bs) cs b c (true ∷ sel) e = ap (λ (z : ℤ). f d.order +ℤ z) (same_sum f bs cs b c sel e)
-same_sum f (d ∷ bs) cs b c (false ∷ sel) e = same_sum f bs cs b c sel e
+same_sum : (f : BlockTerms → ℤ) (bs : List Block) (i : ℕ) (b c : Block) (sel : List Bool) → slice_get bs i ≡ Some b → f c.order ≡ f b.order
+    → over_accepted f (set bs i c) sel ≡ over_accepted f bs sel
+same_sum f [] i b c sel at e = absurd (cc)
+same_sum f (d ∷ bs) zero b c [] at e = refl
+same_sum f (d ∷ bs) zero b c (true ∷ sel) at e =
+    ap (λ (z : ℤ). z +ℤ over_accepted f bs sel) (e ∙ ap (λ (x : Block). f x.order) (sym (same_Some d b at)))
+same_sum f (d ∷ bs) zero b c (false ∷ sel) at e = refl
+same_sum f (d ∷ bs) (suc i) b c [] at e = refl
+same_sum f (d ∷ bs) (suc i) b c (true ∷ sel) at e = ap (λ (z : ℤ). f d.order +ℤ z) (same_sum f bs i b c sel at e)
+same_sum f (d ∷ bs) (suc i) b c (false ∷ sel) at e = same_sum f bs i b c sel at e
 
-get_elsewhere : (bs cs : List Block) (b c : Block) (n : ℕ) → (n ≡ length bs → ⊥) → slice_get (bs ++ b ∷ cs) n ≡ slice_get (bs ++ c ∷ cs) n
-get_elsewhere [] cs b c zero apart = absurd (apart refl)
-get_elsewhere [] cs b c (suc n) apart = refl
-get_elsewhere (d ∷ bs) cs b c zero apart = refl
-get_elsewhere (d ∷ bs) cs b c (suc n) apart = get_elsewhere bs cs b c n (λ e. apart (ap suc e))
+get_elsewhere : (bs : List Block) (i n : ℕ) (b : Block) → (n ≡ i → ⊥) → slice_get (set bs i b) n ≡ slice_get bs n
+get_elsewhere [] i n b apart = refl
+get_elsewhere (d ∷ bs) zero zero b apart = absurd (apart refl)
+get_elsewhere (d ∷ bs) zero (suc n) b apart = refl
+get_elsewhere (d ∷ bs) (suc i) zero b apart = refl
+get_elsewhere (d ∷ bs) (suc i) (suc n) b apart = get_elsewhere bs i n b (λ e. apart (ap suc e))
 
-get_here : (bs cs : List Block) (b : Block) → slice_get (bs ++ b ∷ cs) (length bs) ≡ Some b
-get_here [] cs b = refl
-get_here (d ∷ bs) cs b = get_here bs cs b
+get_here : (bs : List Block) (i : ℕ) (b c : Block) → slice_get bs i ≡ Some b → slice_get (set bs i c) i ≡ Some c
+get_here [] i b c at = absurd (cc)
+get_here (d ∷ bs) zero b c at = refl
+get_here (d ∷ bs) (suc i) b c at = get_here bs i b c at
 
--- two books with the same orders but for the limit of one block
-record AreAlike (book other : BookState) (front back : List Row) (key : Key) (o p : BlockTerms) : Type 0 where
-  hours : (problem_of other).hours ≡ (problem_of book).hours
-  blocks : blocks_in book.rows ≡ blocks_in front ++ gone_block key o ∷ blocks_in back
-  others : blocks_in other.rows ≡ blocks_in front ++ gone_block key p ∷ blocks_in back
-  net : (t : ℕ) → net_volume_of_block t o ≡ net_volume_of_block t p
-  bought : (t : ℕ) → bought_volume_of_block t o ≡ bought_volume_of_block t p
-
-sum_of : (book other : BookState) (front back : List Row) (key : Key) (o p : BlockTerms) (sel : List Bool) (f : BlockTerms → ℤ)
-    → AreAlike book other front back key o p → f o ≡ f p
-    → over_accepted f (blocks_in other.rows) sel ≡ over_accepted f (blocks_in book.rows) sel
-sum_of book other front back key o p sel f two e =
-    ap (λ (bs : List Block). over_accepted f bs sel) two.others
-    ∙ same_sum f (blocks_in front) (blocks_in back) (gone_block key p) (gone_block key o) sel (sym e)
-    ∙ ap (λ (bs : List Block). over_accepted f bs sel) (sym two.blocks)
-
-periods_alike : (blocks others : List Block) (sel : List Bool) (t : ℕ) (hours : List (List Step)) (periods : List PeriodResult)
-    → ((s : ℕ) → over_accepted (net_volume_of_block s) others sel ≡ over_accepted (net_volume_of_block s) blocks sel)
-    → ((s : ℕ) → over_accepted (bought_volume_of_block s) others sel ≡ over_accepted (bought_volume_of_block s) blocks sel)
-    → ArePeriodResults blocks sel t hours periods → ArePeriodResults others sel t hours periods
-periods_alike blocks others sel t [] [] net bought are = tt
-periods_alike blocks others sel t [] (r ∷ periods) net bought are = absurd are
-periods_alike blocks others sel t (ss ∷ hours) [] net bought are = absurd are
-periods_alike blocks others sel t (ss ∷ hours) (r ∷ periods) net bought are = (
-  record {
-    price = subst (λ (z : ℤ). IsClearingPrice ss z r.price) (sym (net t)) are.0.price;
-    executed = are.0.executed;
-    best = subst (λ (z : ℤ). IsBest ss z are.0.executed) (sym (net t)) are.0.best;
-    volume = are.0.volume ∙ ap (λ (z : ℤ). pos (executed_volume Buy ss are.0.executed) +ℤ z) (sym (bought t));
-  },
-  periods_alike blocks others sel (suc t) hours periods net bought are.1,
-)
+sum_of : (problem other : ProblemState) (i : ℕ) (b : Block) (limit : ℤ) (sel : List Bool) (f : BlockTerms → ℤ)
+    → IsWithLimit problem other i b limit → f (with_limit b limit).order ≡ f b.order
+    → over_accepted f other.blocks sel ≡ over_accepted f problem.blocks sel
+sum_of problem other i b limit sel f two e =
+    ap (λ (bs : List Block). over_accepted f bs sel) two.blocks
+    ∙ same_sum f problem.blocks i b (with_limit b limit) sel two.stands e
 
 -- the line of an order that isn't the block
-row_alike : (book other : BookState) (front back : List Row) (key : Key) (o p : BlockTerms) (sel : List Bool) (prices : List ℤ)
-    (row : ProblemRow) (x : RowResult) → AreAlike book other front back key o p → (row.at ≡ AtBlock (length (blocks_in front)) → ⊥)
-    → IsRowResult (problem_of book) sel prices row x → IsRowResult (problem_of other) sel prices row x
-row_alike book other front back key o p sel prices row (HourResult own named executed) two apart is =
-    let e = is.2.3 in (
-      is.0,
-      is.1,
-      (
-        is.2.0,
-        is.2.1,
-        is.2.2,
-        record {
-          from_one = e.from_one;
-          hour = e.hour;
-          stands = ap (λ (hours : List (List Step)). slice_get hours (is.2.0 - 1)) two.hours ∙ e.stands;
-          executed = e.executed;
-          best = subst (λ (z : ℤ). IsBest e.hour z e.executed)
-              (sym (sum_of book other front back key o p sel (net_volume_of_block is.2.0) two (two.net is.2.0))) e.best;
-          volume_is = e.volume_is;
-        },
-      ),
-    )
-row_alike book other front back key o p sel prices row (BlockResult own named accepted surplus) two apart is =
+row_alike : (problem other : ProblemState) (i : ℕ) (b : Block) (limit : ℤ) (sel : List Bool) (prices : List ℤ) (row : ProblemRow)
+    (x : RowResult) → IsWithLimit problem other i b limit → (row.at ≡ AtBlock i → ⊥) → IsRowResult problem sel prices row x
+    → IsRowResult other sel prices row x
+row_alike problem other i b limit sel prices row (HourResult own named executed) two apart is =
+    let e = is.2.3 in
+    let moved : IsExecuted other sel is.2.0 is.2.1 executed = record {
+      from_one = e.from_one;
+      hour = e.hour;
+      stands = ap (λ (hours : List (List Step)). slice_get hours (is.2.0 - 1)) two.hours ∙ e.stands;
+      executed = e.executed;
+      best = subst (λ (z : ℤ). IsBest e.hour z e.executed)
+          (sym (sum_of problem other i b limit sel (net_volume_of_block is.2.0) two refl)) e.best;
+      volume_is = e.volume_is;
+    } in
+    (is.0, is.1, (is.2.0, is.2.1, is.2.2, moved))
+row_alike problem other i b limit sel prices row (BlockResult own named accepted surplus) two apart is =
     let has = is.2.3 in
-    let elsewhere : is.2.0 ≡ length (blocks_in front) → ⊥ = λ e. apart (is.2.1 ∙ ap (λ (n : ℕ). AtBlock n) e) in (
-      is.0,
-      is.1,
-      (
-        is.2.0,
-        is.2.1,
-        is.2.2,
-        record {
-          block = has.block;
-          stands = ap (λ (bs : List Block). slice_get bs is.2.0) two.others
-              ∙ get_elsewhere (blocks_in front) (blocks_in back) (gone_block key p) (gone_block key o) is.2.0 elsewhere
-              ∙ ap (λ (bs : List Block). slice_get bs is.2.0) (sym two.blocks)
-              ∙ has.stands;
-          surplus_is = has.surplus_is;
-        },
-      ),
-    )
+    let elsewhere : is.2.0 ≡ i → ⊥ = λ e. apart (is.2.1 ∙ ap (λ (n : ℕ). AtBlock n) e) in
+    let still : HasSurplus other.blocks prices is.2.0 surplus = record {
+      block = has.block;
+      stands = ap (λ (bs : List Block). slice_get bs is.2.0) two.blocks
+          ∙ get_elsewhere problem.blocks i is.2.0 (with_limit b limit) elsewhere ∙ has.stands;
+      surplus_is = has.surplus_is;
+    } in
+    (is.0, is.1, (is.2.0, is.2.1, is.2.2, still))
 
 hour_is_no_block : (h : HourTerms) (i n : ℕ) → AtHour h.period i ≡ AtBlock n → ⊥
 hour_is_no_block h i n e = cc
-
-block_place : (m n : ℕ) → AtBlock m ≡ AtBlock n → m ≡ n
-block_place m n e = cc
 
 -- rows before the block
 apart_before : (front done rest : List Row) (r : Row) → done ++ r ∷ rest ≡ front → place_after done r.1 ≡ AtBlock (length (blocks_in front)) → ⊥
 apart_before front done rest (k, Hour h) whole e = hour_is_no_block h (length (steps_in h.period done)) (length (blocks_in front)) e
 apart_before front done rest (k, BlockVariant b) whole e =
-    let same = block_place (length (blocks_in done)) (length (blocks_in front)) e in
+    let same = same_block (length (blocks_in done)) (length (blocks_in front)) e in
     let a = ap (λ (rows : List Row). length (blocks_in rows)) whole in
     let c = ap (λ (bs : List Block). length bs) (blocks_split done ((k, BlockVariant b) ∷ rest)) in
     let d = length-append (blocks_in done) (gone_block k b ∷ blocks_in rest) in
@@ -313,7 +266,7 @@ apart_after : (front more : List Row) (key : Key) (o : BlockTerms) (order : Orde
 apart_after front more key o (Hour h) e =
     hour_is_no_block h (length (steps_in h.period (front ++ (key, BlockVariant o) ∷ more))) (length (blocks_in front)) e
 apart_after front more key o (BlockVariant b) e =
-    let same = block_place (length (blocks_in (front ++ (key, BlockVariant o) ∷ more))) (length (blocks_in front)) e in
+    let same = same_block (length (blocks_in (front ++ (key, BlockVariant o) ∷ more))) (length (blocks_in front)) e in
     let c = ap (λ (bs : List Block). length bs) (blocks_split front ((key, BlockVariant o) ∷ more)) in
     let d = length-append (blocks_in front) (gone_block key o ∷ blocks_in more) in
     let wrong : 0 < 0 = omega (arith, same, c, d) in
@@ -333,75 +286,73 @@ same_place front more key o p (BlockVariant b) =
     omega (arith, a, c, d, e) in
     ap (λ (n : ℕ). AtBlock n) long
 
-rows_behind : (book other : BookState) (front back : List Row) (key : Key) (o p : BlockTerms) (sel : List Bool) (prices : List ℤ)
-    (more rest : List Row) (results : List RowResult) → AreAlike book other front back key o p
-    → AreRowResults (problem_of book) sel prices (rows_after (front ++ (key, BlockVariant o) ∷ more) rest) results
-    → AreRowResults (problem_of other) sel prices (rows_after (front ++ (key, BlockVariant p) ∷ more) rest) results
-rows_behind book other front back key o p sel prices more [] [] two are = tt
-rows_behind book other front back key o p sel prices more [] (x ∷ results) two are = absurd are
-rows_behind book other front back key o p sel prices more (r ∷ rest) [] two are = absurd are
-rows_behind book other front back key o p sel prices more (r ∷ rest) (x ∷ results) two are =
-    let later = subst (λ (rows : List Row). AreRowResults (problem_of book) sel prices (rows_after rows rest) results)
+rows_behind : (problem other : ProblemState) (front : List Row) (key : Key) (o : BlockTerms) (limit : ℤ) (sel : List Bool)
+    (prices : List ℤ) (more rest : List Row) (results : List RowResult)
+    → IsWithLimit problem other (length (blocks_in front)) (gone_block key o) limit
+    → AreRowResults problem sel prices (rows_after (front ++ (key, BlockVariant o) ∷ more) rest) results
+    → AreRowResults other sel prices (rows_after (front ++ (key, BlockVariant (record o { price = limit })) ∷ more) rest) results
+rows_behind problem other front key o limit sel prices more [] [] two are = tt
+rows_behind problem other front key o limit sel prices more [] (x ∷ results) two are = absurd are
+rows_behind problem other front key o limit sel prices more (r ∷ rest) [] two are = absurd are
+rows_behind problem other front key o limit sel prices more (r ∷ rest) (x ∷ results) two are =
+    let p : BlockTerms = record o { price = limit } in
+    let later = subst (λ (rows : List Row). AreRowResults problem sel prices (rows_after rows rest) results)
     (append_assoc front ((key, BlockVariant o) ∷ more) (r ∷ [])) are.1 in
-    let done = rows_behind book other front back key o p sel prices (more ++ r ∷ []) rest results two later in (
-      subst (λ (at : Place). IsRowResult (problem_of other) sel prices (record { who = r.0.0; name = r.0.1; at = at }) x)
+    let done = rows_behind problem other front key o limit sel prices (more ++ r ∷ []) rest results two later in (
+      subst (λ (at : Place). IsRowResult other sel prices (record { who = r.0.0; name = r.0.1; at = at }) x)
           (same_place front more key o p r.1)
-          (row_alike book other front back key o p sel prices
+          (row_alike problem other (length (blocks_in front)) (gone_block key o) limit sel prices
           (record { who = r.0.0; name = r.0.1; at = place_after (front ++ (key, BlockVariant o) ∷ more) r.1 }) x two
           (apart_after front more key o r.1) are.0),
-      subst (λ (rows : List Row). AreRowResults (problem_of other) sel prices (rows_after rows rest) results)
+      subst (λ (rows : List Row). AreRowResults other sel prices (rows_after rows rest) results)
           (sym (append_assoc front ((key, BlockVariant p) ∷ more) (r ∷ []))) done,
     )
 
 -- the gain of the block with its other limit
-own_line : (book other : BookState) (front back : List Row) (key : Key) (o p : BlockTerms) (sel : List Bool) (prices : List ℤ)
-    (done : List Row) (who name : List ℕ) (accepted : Bool) (surplus : ℤ) → AreAlike book other front back key o p → done ≡ front
-    → IsRowResult (problem_of book) sel prices (record { who = key.0; name = key.1; at = place_after done (BlockVariant o) })
+own_line : (problem other : ProblemState) (front : List Row) (key : Key) (o : BlockTerms) (limit : ℤ) (sel : List Bool) (prices : List ℤ)
+    (done : List Row) (who name : List ℕ) (accepted : Bool) (surplus : ℤ)
+    → IsWithLimit problem other (length (blocks_in front)) (gone_block key o) limit → done ≡ front
+    → IsRowResult problem sel prices (record { who = key.0; name = key.1; at = place_after done (BlockVariant o) })
     (BlockResult who name accepted surplus)
-    → IsRowResult (problem_of other) sel prices (record { who = key.0; name = key.1; at = place_after done (BlockVariant p) })
-    (BlockResult who name accepted (surplus_of prices p))
-own_line book other front back key o p sel prices done who name accepted surplus two whole is =
-    let place = block_place (length (blocks_in done)) is.2.0 is.2.1 in
-    let here : is.2.0 ≡ length (blocks_in front) = sym place ∙ ap (λ (rows : List Row). length (blocks_in rows)) whole in (
-      is.0,
-      is.1,
-      (
-        is.2.0,
-        is.2.1,
-        is.2.2,
-        record {
-          block = gone_block key p;
-          stands = ap₂ (λ (bs : List Block) (n : ℕ). slice_get bs n) two.others here
-              ∙ get_here (blocks_in front) (blocks_in back) (gone_block key p);
-          surplus_is = refl;
-        },
-      ),
-    )
+    → IsRowResult other sel prices (record { who = key.0; name = key.1; at = place_after done (BlockVariant (record o { price = limit })) })
+    (BlockResult who name accepted (surplus_of prices (record o { price = limit })))
+own_line problem other front key o limit sel prices done who name accepted surplus two whole is =
+    let place = same_block (length (blocks_in done)) is.2.0 is.2.1 in
+    let b = gone_block key o in
+    let here : is.2.0 ≡ length (blocks_in front) = sym place ∙ ap (λ (rows : List Row). length (blocks_in rows)) whole in
+    let own : HasSurplus other.blocks prices is.2.0 (surplus_of prices (record o { price = limit })) = record {
+      block = with_limit b limit;
+      stands = ap₂ (λ (bs : List Block) (n : ℕ). slice_get bs n) two.blocks here
+          ∙ get_here problem.blocks (length (blocks_in front)) b (with_limit b limit) two.stands;
+      surplus_is = refl;
+    } in
+    (is.0, is.1, (is.2.0, is.2.1, is.2.2, own))
 
-rows_alike : (book other : BookState) (front back : List Row) (key : Key) (o p : BlockTerms) (sel : List Bool) (prices : List ℤ)
-    (done rest : List Row) (results : List RowResult) (who name : List ℕ) (accepted : Bool) (surplus : ℤ)
-    → AreAlike book other front back key o p → done ++ rest ≡ front
-    → AreRowResults (problem_of book) sel prices (rows_after done (rest ++ (key, BlockVariant o) ∷ back)) results
+rows_alike : (problem other : ProblemState) (front back : List Row) (key : Key) (o : BlockTerms) (limit : ℤ) (sel : List Bool)
+    (prices : List ℤ) (done rest : List Row) (results : List RowResult) (who name : List ℕ) (accepted : Bool) (surplus : ℤ)
+    → IsWithLimit problem other (length (blocks_in front)) (gone_block key o) limit → done ++ rest ≡ front
+    → AreRowResults problem sel prices (rows_after done (rest ++ (key, BlockVariant o) ∷ back)) results
     → slice_get results (length rest) ≡ Some (BlockResult who name accepted surplus)
-    → AreRowResults (problem_of other) sel prices (rows_after done (rest ++ (key, BlockVariant p) ∷ back))
-    (set results (length rest) (BlockResult who name accepted (surplus_of prices p)))
-rows_alike book other front back key o p sel prices done [] [] who name accepted surplus two whole are at = absurd are
-rows_alike book other front back key o p sel prices done [] (x ∷ results) who name accepted surplus two whole are at =
+    → AreRowResults other sel prices (rows_after done (rest ++ (key, BlockVariant (record o { price = limit })) ∷ back))
+    (set results (length rest) (BlockResult who name accepted (surplus_of prices (record o { price = limit }))))
+rows_alike problem other front back key o limit sel prices done [] [] who name accepted surplus two whole are at = absurd are
+rows_alike problem other front back key o limit sel prices done [] (x ∷ results) who name accepted surplus two whole are at =
+    let p : BlockTerms = record o { price = limit } in
     let here : done ≡ front = sym (append-nil done) ∙ whole in
-    let is : x ≡ BlockResult who name accepted surplus = same_some x (BlockResult who name accepted surplus) at in
-    let later = subst (λ (rows : List Row). AreRowResults (problem_of book) sel prices (rows_after (rows ++ (key, BlockVariant o) ∷ []) back)
-    results) here are.1 in (
-      own_line book other front back key o p sel prices done who name accepted surplus two here
-          (subst (λ (y : RowResult). IsRowResult (problem_of book) sel prices
+    let is : x ≡ BlockResult who name accepted surplus = same_Some x (BlockResult who name accepted surplus) at in
+    let later = subst (λ (rows : List Row). AreRowResults problem sel prices (rows_after (rows ++ (key, BlockVariant o) ∷ []) back) results)
+    here are.1 in (
+      own_line problem other front key o limit sel prices done who name accepted surplus two here
+          (subst (λ (y : RowResult). IsRowResult problem sel prices
           (record { who = key.0; name = key.1; at = place_after done (BlockVariant o) }) y) is are.0),
-      subst (λ (rows : List Row). AreRowResults (problem_of other) sel prices (rows_after (rows ++ (key, BlockVariant p) ∷ []) back) results)
-          (sym here) (rows_behind book other front back key o p sel prices [] back results two later),
+      subst (λ (rows : List Row). AreRowResults other sel prices (rows_after (rows ++ (key, BlockVariant p) ∷ []) back) results)
+          (sym here) (rows_behind problem other front key o limit sel prices [] back results two later),
     )
-rows_alike book other front back key o p sel prices done (r ∷ rest) [] who name accepted surplus two whole are at = absurd are
-rows_alike book other front back key o p sel prices done (r ∷ rest) (x ∷ results) who name accepted surplus two whole are at = (
-  row_alike book other front back key o p sel prices (record { who = r.0.0; name = r.0.1; at = place_after done r.1 }) x two
-      (apart_before front done rest r whole) are.0,
-  rows_alike book other front back key o p sel prices (done ++ r ∷ []) rest results who name accepted surplus two
+rows_alike problem other front back key o limit sel prices done (r ∷ rest) [] who name accepted surplus two whole are at = absurd are
+rows_alike problem other front back key o limit sel prices done (r ∷ rest) (x ∷ results) who name accepted surplus two whole are at = (
+  row_alike problem other (length (blocks_in front)) (gone_block key o) limit sel prices
+      (record { who = r.0.0; name = r.0.1; at = place_after done r.1 }) x two (apart_before front done rest r whole) are.0,
+  rows_alike problem other front back key o limit sel prices (done ++ r ∷ []) rest results who name accepted surplus two
       (append_assoc done (r ∷ []) rest ∙ whole) are.1 at,
 )
 
@@ -418,21 +369,14 @@ published_with_worse laws book other place order limit welfare periods rows who 
     let published = clearing.published in
     let prices = prices_of periods in
     let i = length (blocks_in front) in
-    let problem = laws.change book other front back key order limit change.rows change.others change.periods in
-    let two : AreAlike book other front back key order p = record {
-      hours = problem.hours;
-      blocks = ap blocks_in change.rows ∙ blocks_split front ((key, BlockVariant order) ∷ back);
-      others = ap blocks_in change.others ∙ blocks_split front ((key, BlockVariant p) ∷ back);
-      net = λ t. refl;
-      bought = λ t. refl;
-    } in
+    let two = laws.change book other front back key order limit change.rows change.others change.periods in
     let old = line_in book front back key order place welfare periods rows clearing change.rows change.place_is in
     let was = same_line who name key.0 key.1 false old.2.accepted surplus old.2.surplus
-    (same_some (BlockResult who name false surplus) (BlockResult key.0 key.1 old.2.accepted old.2.surplus)
+    (same_Some (BlockResult who name false surplus) (BlockResult key.0 key.1 old.2.accepted old.2.surplus)
     (sym at ∙ old.1 ∙ ap (λ (x : RowResult). Some x) old.2.line)) in
-    let after = laws.worse (problem_of book) (problem_of other) i (gone_block key order) limit sel (pos welfare) problem worse
+    let after = laws.worse (problem_of book) (problem_of other) i (gone_block key order) limit sel (pos welfare) two worse
     (laws.result (problem_of book) sel (pos welfare) clearing.best) (sym (was.2 ∙ old.2.accepted_is)) in
-    let lines = rows_alike book other front back key order p sel prices [] front rows who name false surplus two refl
+    let lines = rows_alike (problem_of book) (problem_of other) front back key order limit sel prices [] front rows who name false surplus two refl
     (subst (λ (rs : List Row). AreRowResults (problem_of book) sel prices (rows_after [] rs) rows) change.rows published.rows_are)
     (ap (λ (n : ℕ). slice_get rows n) change.place_is ∙ at) in (
       surplus_of prices p,
@@ -443,9 +387,10 @@ published_with_worse laws book other place order limit welfare periods rows who 
         published = record {
           welfare_is = after.eligible.welfare_is;
           periods_are = subst (λ (hours : List (List Step)). ArePeriodResults (blocks_in other.rows) sel 1 hours periods) (sym two.hours)
-              (periods_alike (blocks_in book.rows) (blocks_in other.rows) sel 1 (problem_of book).hours periods
-              (λ t. sum_of book other front back key order p sel (net_volume_of_block t) two refl)
-              (λ t. sum_of book other front back key order p sel (bought_volume_of_block t) two refl) published.periods_are);
+              (same_periods (blocks_in book.rows) (blocks_in other.rows) sel sel 1 (problem_of book).hours periods
+              (λ t. sum_of (problem_of book) (problem_of other) i (gone_block key order) limit sel (net_volume_of_block t) two refl)
+              (λ t. sum_of (problem_of book) (problem_of other) i (gone_block key order) limit sel (bought_volume_of_block t) two refl)
+              published.periods_are);
           rows_are = subst (λ (rs : List Row). AreRowResults (problem_of other) sel prices (rows_after [] rs)
               (set rows place (BlockResult who name false (surplus_of prices p)))) (sym change.others)
               (subst (λ (n : ℕ). AreRowResults (problem_of other) sel prices (rows_after [] (front ++ (key, BlockVariant p) ∷ back))

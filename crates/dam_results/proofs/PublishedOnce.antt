@@ -1,6 +1,7 @@
 -- A selection is published in one way: the price of a period and its best execution are the only ones, and each order has one place.
 use Rattle.std.proofs.Common.{◌≡◌, ℕ, suc, ℤ, pos, ◌+ℤ◌, Bool, List, [], ◌∷◌, slice_get, ap, ap₂, ◌∙◌, sym, subst, refl, arith}
 use Rattle.std.proofs.lemmas.Int.{ints}
+use Rattle.std.proofs.lemmas.Option.{same_Some}
 use Rattle.dam_book.specs.declared.order.Side.TheVariants.{Buy}
 use Rattle.dam_hour.specs.Best.{IsBest}
 use Rattle.dam_hour.specs.Execution.{executed_volume}
@@ -18,7 +19,7 @@ use Rattle.dam_results.specs.declared.published.RowResult.{RowResult}
 use Rattle.dam_results.specs.declared.published.RowResult.TheVariants.{Hour as HourResult, Block as BlockResult}
 use Rattle.dam_results.specs.Published.{prices_of, IsPeriodResult, ArePeriodResults, IsExecuted, HasSurplus, IsRowResult, AreRowResults}
 use Rattle.dam_results.specs.Published.{ArePublished}
-use Rattle.dam_results.proofs.AddingUp.{same_some, same_hour, same_block}
+use Rattle.dam_results.proofs.Places.{same_hour, same_block}
 
 -- the law of one period
 pub record IsOfOne : Type 0 where
@@ -59,15 +60,15 @@ executed-one : IsOfOne → (problem : ProblemState) (sel : List Bool) (t i x y :
     → IsExecuted problem sel t i y → x ≡ y
 executed-one law problem sel t i x y a b =
     let net = net_volume problem.blocks sel t in
-    let hour : b.hour ≡ a.hour = same_some b.hour a.hour (sym b.stands ∙ a.stands) in
+    let hour : b.hour ≡ a.hour = same_Some b.hour a.hour (sym b.stands ∙ a.stands) in
     let best : a.executed ≡ b.executed = law.best a.hour net a.executed b.executed a.best
     (subst (λ ss. IsBest ss net b.executed) hour b.best) in
-    same_some x y (sym a.volume_is ∙ ap (λ xs. slice_get xs i) best ∙ b.volume_is)
+    same_Some x y (sym a.volume_is ∙ ap (λ xs. slice_get xs i) best ∙ b.volume_is)
 
 surplus-one : (blocks : List Block) (prices : List ℤ) (i : ℕ) (x y : ℤ) → HasSurplus blocks prices i x → HasSurplus blocks prices i y
     → x ≡ y
 surplus-one blocks prices i x y a b =
-    let block : a.block ≡ b.block = same_some a.block b.block (sym a.stands ∙ b.stands) in
+    let block : a.block ≡ b.block = same_Some a.block b.block (sym a.stands ∙ b.stands) in
     a.surplus_is ∙ ap (λ (b : Block). surplus_of prices b.order) block ∙ sym b.surplus_is
 
 apart : {A : Type 0} (t i j : ℕ) (at : Place) → at ≡ AtHour t i → at ≡ AtBlock j → A
@@ -109,7 +110,7 @@ pub published-one : IsOfOne → (problem : ProblemState) (sel : List Bool) (v w 
     → ArePublished problem sel v ps rs → ArePublished problem sel w qs ss → (v ≡ w) × (ps ≡ qs) × (rs ≡ ss)
 published-one law problem sel v w ps qs rs ss a b =
     let periods : ps ≡ qs = periods-one law problem.blocks sel 1 problem.hours ps qs a.periods_are b.periods_are in
-    let welfare : pos v ≡ pos w = same_some (pos v) (pos w) (sym a.welfare_is ∙ b.welfare_is) in (
+    let welfare : pos v ≡ pos w = same_Some (pos v) (pos w) (sym a.welfare_is ∙ b.welfare_is) in (
       omega (arith, ints, welfare),
       periods,
       rows-one law problem sel (prices_of qs) problem.rows rs ss

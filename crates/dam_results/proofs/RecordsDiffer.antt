@@ -1,6 +1,6 @@
 -- Written records: different commands have different records, and each keeps its rules.
-use Rattle.std.proofs.Common.{◌≡◌, ℕ, ℤ, ◌^◌, ◌<◌, true, List, [], ◌∷◌, length, Option, None, Some, IfSome, map, refl, sym, ap, ◌∙◌, arith}
-use Rattle.std.proofs.Common.{codes, decimal}
+use Rattle.std.proofs.Common.{◌≡◌, ℕ, ℤ, ◌^◌, ◌<◌, true, List, [], ◌∷◌, length, get_or, Option, None, Some, IfSome, map, refl, sym, ap, ◌∙◌, arith}
+use Rattle.std.proofs.Common.{decimal}
 use Rattle.std.specs.List.{AllByRecursion}
 use Rattle.std.proofs.lemmas.Fmt.{decimal_injective}
 use Rattle.dam_book.specs.Price.{IsPrice}
@@ -83,35 +83,9 @@ same_order differ (Hour o) (Block r) h k e = absurd cc
 same_order differ (Block o) (Hour r) h k e = absurd cc
 same_order differ (Block o) (Block r) h k e = ap (λ (t : BlockTerms). Block t) (same_block_order differ o r h k e)
 
-less_apart : (m n : ℕ) → m < n → m ≡ n → ⊥
-less_apart m n l e = omega arith
-
--- the kinds differ in a byte
-abbrev first_byte : List ℕ → ℕ
-first_byte [] = 0
-first_byte (b ∷ bs) = b
-
-abbrev second_byte : List ℕ → ℕ
-second_byte [] = 0
-second_byte (b ∷ bs) = first_byte bs
-
-submit-amend : codes "submit" ≡ codes "amend" → ⊥
-submit-amend e = less_apart 97 115 (omega arith) (sym (ap first_byte e))
-
-submit-cancel : codes "submit" ≡ codes "cancel" → ⊥
-submit-cancel e = less_apart 99 115 (omega arith) (sym (ap first_byte e))
-
-submit-close : codes "submit" ≡ codes "close" → ⊥
-submit-close e = less_apart 99 115 (omega arith) (sym (ap first_byte e))
-
-amend-cancel : codes "amend" ≡ codes "cancel" → ⊥
-amend-cancel e = less_apart 97 99 (omega arith) (ap first_byte e)
-
-amend-close : codes "amend" ≡ codes "close" → ⊥
-amend-close e = less_apart 97 99 (omega arith) (ap first_byte e)
-
-cancel-close : codes "cancel" ≡ codes "close" → ⊥
-cancel-close e = less_apart 97 108 (omega arith) (ap second_byte e)
+-- the second letter of its kind, which no other kind has
+abbrev kind_letter : Fields → ℕ
+kind_letter row = get_or (kind_field row) 1 0
 
 row_of-injective : TextsDiffer → (c d : Command) → IsCommand c → IsCommand d → row_of c ≡ row_of d → c ≡ d
 row_of-injective differ (Submit a m o) (Submit b n r) h k e =
@@ -120,10 +94,10 @@ row_of-injective differ (Submit a m o) (Submit b n r) h k e =
     let fields : order_fields o ≡ order_fields r = cc in
     let same : o ≡ r = same_order differ o r h.2 k.2 fields in
     cc
-row_of-injective differ (Submit a m o) (Amend b n p v) h k e = absurd (submit-amend (ap kind_field e))
-row_of-injective differ (Submit a m o) (Cancel b n) h k e = absurd (submit-cancel (ap kind_field e))
-row_of-injective differ (Submit a m o) Close h k e = absurd (submit-close (ap kind_field e))
-row_of-injective differ (Amend a m p v) (Submit b n r) h k e = absurd (submit-amend (ap kind_field (sym e)))
+row_of-injective differ (Submit a m o) (Amend b n p v) h k e = absurd (let same : 117 ≡ 109 = ap kind_letter e in omega (arith, same))
+row_of-injective differ (Submit a m o) (Cancel b n) h k e = absurd (let same : 117 ≡ 97 = ap kind_letter e in omega (arith, same))
+row_of-injective differ (Submit a m o) Close h k e = absurd (let same : 117 ≡ 108 = ap kind_letter e in omega (arith, same))
+row_of-injective differ (Amend a m p v) (Submit b n r) h k e = absurd (let same : 109 ≡ 117 = ap kind_letter e in omega (arith, same))
 row_of-injective differ (Amend a m p v) (Amend b n q w) h k e =
     let who : a ≡ b = cc in
     let name : m ≡ n = cc in
@@ -132,15 +106,15 @@ row_of-injective differ (Amend a m p v) (Amend b n q w) h k e =
     let price : p ≡ q = differ.prices p q h.2 k.2 prices in
     let volumes : v ≡ w = differ.volumes v w h.3 k.3 texts in
     cc
-row_of-injective differ (Amend a m p v) (Cancel b n) h k e = absurd (amend-cancel (ap kind_field e))
-row_of-injective differ (Amend a m p v) Close h k e = absurd (amend-close (ap kind_field e))
-row_of-injective differ (Cancel a m) (Submit b n r) h k e = absurd (submit-cancel (ap kind_field (sym e)))
-row_of-injective differ (Cancel a m) (Amend b n q w) h k e = absurd (amend-cancel (ap kind_field (sym e)))
+row_of-injective differ (Amend a m p v) (Cancel b n) h k e = absurd (let same : 109 ≡ 97 = ap kind_letter e in omega (arith, same))
+row_of-injective differ (Amend a m p v) Close h k e = absurd (let same : 109 ≡ 108 = ap kind_letter e in omega (arith, same))
+row_of-injective differ (Cancel a m) (Submit b n r) h k e = absurd (let same : 97 ≡ 117 = ap kind_letter e in omega (arith, same))
+row_of-injective differ (Cancel a m) (Amend b n q w) h k e = absurd (let same : 97 ≡ 109 = ap kind_letter e in omega (arith, same))
 row_of-injective differ (Cancel a m) (Cancel b n) h k e = cc
-row_of-injective differ (Cancel a m) Close h k e = absurd (cancel-close (ap kind_field e))
-row_of-injective differ Close (Submit b n r) h k e = absurd (submit-close (ap kind_field (sym e)))
-row_of-injective differ Close (Amend b n q w) h k e = absurd (amend-close (ap kind_field (sym e)))
-row_of-injective differ Close (Cancel b n) h k e = absurd (cancel-close (ap kind_field (sym e)))
+row_of-injective differ (Cancel a m) Close h k e = absurd (let same : 97 ≡ 108 = ap kind_letter e in omega (arith, same))
+row_of-injective differ Close (Submit b n r) h k e = absurd (let same : 108 ≡ 117 = ap kind_letter e in omega (arith, same))
+row_of-injective differ Close (Amend b n q w) h k e = absurd (let same : 108 ≡ 109 = ap kind_letter e in omega (arith, same))
+row_of-injective differ Close (Cancel b n) h k e = absurd (let same : 108 ≡ 97 = ap kind_letter e in omega (arith, same))
 row_of-injective differ Close Close h k e = refl
 
 rows-injective : TextsDiffer → (cs ds : List Command) → AllByRecursion IsCommand cs → AllByRecursion IsCommand ds

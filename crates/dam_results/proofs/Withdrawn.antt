@@ -1,9 +1,8 @@
 -- A book without a rejected block is published alike, but for the block's line.
 use Rattle.std.proofs.Common.{◌≡◌, ℕ, zero, suc, ◌-◌, ◌<◌, ◌≤◌, ℤ, pos, ◌+ℤ◌, Bool, true, false, Some, List, [], ◌∷◌, ◌++◌, length}
-use Rattle.std.proofs.Common.{length-append, take, drop, append_assoc, ap, ap₂, ◌∙◌, sym, subst, refl, arith}
+use Rattle.std.proofs.Common.{length-append, append_assoc, ap, ap₂, ◌∙◌, sym, subst, refl, arith}
 use Rattle.std.specs.List.{slice_get, remove}
 use Rattle.std.proofs.lemmas.List.{append-nil}
-use Rattle.std.proofs.lemmas.List.Elements.{filter_map-append}
 use Rattle.dam_book.specs.Limits.{most_blocks}
 use Rattle.dam_book.specs.Terms.{BlockTerms}
 use Rattle.dam_book.specs.Book.{Key, Row, BookState, IsBook}
@@ -16,24 +15,28 @@ use Rattle.dam_hour.specs.Best.{IsBest}
 use Rattle.dam_blocks.specs.declared.problem.Block.{Block}
 use Rattle.dam_blocks.specs.declared.problem.Place.{Place}
 use Rattle.dam_blocks.specs.declared.problem.Place.TheVariants.{Hour as AtHour, Block as AtBlock}
-use Rattle.dam_blocks.specs.Problem.{ProblemState, step_in, steps_in, hours_from, block_under, blocks_in, place_after, rows_after, problem_of}
+use Rattle.dam_blocks.specs.Problem.{ProblemState, steps_in, blocks_in, place_after, rows_after, problem_of}
 use Rattle.dam_blocks.specs.Problem.{IsProblem}
-use Rattle.dam_blocks.specs.Selection.{accepts, over_accepted, net_volume_of_block, net_volume, bought_volume_of_block}
+use Rattle.dam_blocks.specs.Selection.{accepts, over_accepted, net_volume_of_block, net_volume, bought_volume_of_block, bought_volume}
 use Rattle.dam_blocks.specs.Eligible.{IsClearingPrice}
 use Rattle.dam_blocks.specs.Result.{IsResult}
 use Rattle.dam_blocks.specs.Changes.{without_place, IsWithoutBlock}
 use Rattle.dam_results.specs.declared.published.PeriodResult.{PeriodResult}
 use Rattle.dam_results.specs.declared.published.RowResult.{RowResult}
 use Rattle.dam_results.specs.declared.published.RowResult.TheVariants.{Hour as HourResult, Block as BlockResult}
-use Rattle.dam_results.specs.Published.{prices_of, ArePeriodResults, IsExecuted, IsRowResult, AreRowResults}
+use Rattle.dam_results.specs.Published.{prices_of, ArePeriodResults, IsExecuted, HasSurplus, IsRowResult, AreRowResults}
 use Rattle.dam_results.specs.Clearing.{IsBestSelection, IsClearing}
 use Rattle.dam_results.specs.Market.{IsWithoutRow}
+use Rattle.dam_results.proofs.Places.{same_block, gone, blocks_split, steps_split}
 
 -- the laws below
 pub record WithdrawingLaws : Type 0 where
   pub problem : (book : BookState) → IsBook book → book.closed ≡ true → IsProblem (problem_of book)
   pub best : (problem : ProblemState) (sel : List Bool) (w : ℤ) → IsResult problem sel w → IsBestSelection problem sel w
   pub result : (problem : ProblemState) (sel : List Bool) (w : ℤ) → IsBestSelection problem sel w → IsResult problem sel w
+  pub change : (book other : BookState) (front back : List Row) (key : Key) (order : BlockTerms)
+      → book.rows ≡ front ++ (key, BlockVariant order) ∷ back → other.rows ≡ front ++ back → other.periods ≡ book.periods
+      → IsWithoutBlock (problem_of book) (problem_of other) (length (blocks_in front)) (record { who = key.0; name = key.1; order = order })
   pub without : (problem other : ProblemState) (place : ℕ) (block : Block) (sel : List Bool) (w : ℤ) → IsProblem problem → IsProblem other
       → IsWithoutBlock problem other place block → IsResult problem sel w → accepts sel place ≡ false
       → IsResult other (without_place sel place) w
@@ -64,101 +67,49 @@ accepts_after (a ∷ sel) zero j l = accepts_last sel j
 accepts_after (a ∷ sel) (suc i) zero l = absurd (omega (arith, l))
 accepts_after (a ∷ sel) (suc i) (suc j) l = accepts_after sel i j (omega (arith, l))
 
-get_before : {A : Type 0} (xs ys : List A) (y : A) (j : ℕ) → j < length xs → slice_get (xs ++ ys) j ≡ slice_get (xs ++ y ∷ ys) j
-get_before [] ys y j l = absurd (omega (arith, l))
-get_before (x ∷ xs) ys y zero l = refl
-get_before (x ∷ xs) ys y (suc j) l = get_before xs ys y j (omega (arith, l))
+get_before : {A : Type 0} (xs : List A) (i j : ℕ) → j < i → slice_get (remove xs i) j ≡ slice_get xs j
+get_before xs zero j l = absurd (omega (arith, l))
+get_before [] (suc i) j l = refl
+get_before (x ∷ xs) (suc i) zero l = refl
+get_before (x ∷ xs) (suc i) (suc j) l = get_before xs i j (omega (arith, l))
 
-get_after : {A : Type 0} (xs ys : List A) (y : A) (j : ℕ) → length xs ≤ j → slice_get (xs ++ ys) j ≡ slice_get (xs ++ y ∷ ys) (suc j)
-get_after [] ys y j l = refl
-get_after (x ∷ xs) ys y zero l = absurd (omega (arith, l))
-get_after (x ∷ xs) ys y (suc j) l = get_after xs ys y j (omega (arith, l))
+get_after : {A : Type 0} (xs : List A) (i j : ℕ) → i ≤ j → slice_get (remove xs i) j ≡ slice_get xs (suc j)
+get_after [] zero j l = refl
+get_after [] (suc i) j l = refl
+get_after (x ∷ xs) zero j l = refl
+get_after (x ∷ xs) (suc i) zero l = absurd (omega (arith, l))
+get_after (x ∷ xs) (suc i) (suc j) l = get_after xs i j (omega (arith, l))
 
-gone_there : {A : Type 0} (xs ys : List A) (y : A) → slice_get (xs ++ y ∷ ys) (length xs) ≡ Some y
-gone_there [] ys y = refl
-gone_there (x ∷ xs) ys y = gone_there xs ys y
-
-gone : {A : Type 0} (xs ys : List A) (y : A) → remove (xs ++ y ∷ ys) (length xs) ≡ xs ++ ys
-gone [] ys y = refl
-gone {A = A} (x ∷ xs) ys y = ap (λ (zs : List A). x ∷ zs) (gone xs ys y)
-
-pub parted : {A : Type 0} (xs : List A) (n : ℕ) (x : A) → slice_get xs n ≡ Some x → (xs ≡ take n xs ++ x ∷ drop (suc n) xs) × (length (take n xs) ≡ n)
-parted [] n x e = absurd (cc)
-parted {A = A} (y ∷ xs) zero x e = (let same : y ≡ x = cc in ap (λ (z : A). z ∷ xs) same, refl)
-parted {A = A} (y ∷ xs) (suc n) x e =
-    let rest = parted xs n x e in (ap (λ (zs : List A). y ∷ zs) rest.0, ap suc rest.1)
-
--- ---- the common parts of the rows with the block and without it
-pub blocks_split : (front rest : List Row) → blocks_in (front ++ rest) ≡ blocks_in front ++ blocks_in rest
-blocks_split front rest = filter_map-append (λ (r : Row). block_under r.0.0 r.0.1 r.1) front rest
-
-pub steps_split : (t : ℕ) (front rest : List Row) → steps_in t (front ++ rest) ≡ steps_in t front ++ steps_in t rest
-steps_split t front rest = filter_map-append (λ (r : Row). step_in t r.1) front rest
-
-same_steps : (t : ℕ) (front back : List Row) (key : Key) (o : BlockTerms)
-    → steps_in t (front ++ back) ≡ steps_in t (front ++ (key, BlockVariant o) ∷ back)
-same_steps t front back key o = steps_split t front back ∙ sym (steps_split t front ((key, BlockVariant o) ∷ back))
-
-same_hours : (t n : ℕ) (front back : List Row) (key : Key) (o : BlockTerms)
-    → hours_from t n (front ++ back) ≡ hours_from t n (front ++ (key, BlockVariant o) ∷ back)
-same_hours t zero front back key o = refl
-same_hours t (suc n) front back key o =
-    ap₂ (λ (ss : List Step) (hours : List (List Step)). ss ∷ hours) (same_steps t front back key o) (same_hours (suc t) n front back key o)
-
--- a book and the same without a block, and a selection that rejects it
-record AreTwo (book other : BookState) (front back : List Row) (key : Key) (o : BlockTerms) (sel : List Bool) : Type 0 where
-  rows : book.rows ≡ front ++ (key, BlockVariant o) ∷ back
-  fewer : other.rows ≡ front ++ back
-  hours : (problem_of other).hours ≡ (problem_of book).hours
-  sums : (f : BlockTerms → ℤ) → over_accepted f (blocks_in other.rows) (without_place sel (length (blocks_in front)))
-      ≡ over_accepted f (blocks_in book.rows) sel
+-- a problem and the same without the block at place i, and a selection that rejects it
+record AreTwo (problem other : ProblemState) (sel : List Bool) (i : ℕ) : Type 0 where
+  hours : other.hours ≡ problem.hours
+  blocks : other.blocks ≡ remove problem.blocks i
+  sums : (f : BlockTerms → ℤ) → over_accepted f other.blocks (without_place sel i) ≡ over_accepted f problem.blocks sel
 
 abbrev pub gone_block : Key → BlockTerms → Block
 gone_block key o = record { who = key.0; name = key.1; order = o }
 
-stands_before : (book other : BookState) (front back : List Row) (key : Key) (o : BlockTerms) (sel : List Bool) (j : ℕ)
-    → AreTwo book other front back key o sel → j < length (blocks_in front)
-    → slice_get (blocks_in other.rows) j ≡ slice_get (blocks_in book.rows) j
-stands_before book other front back key o sel j two l =
-    ap (λ (rows : List Row). slice_get (blocks_in rows) j) two.fewer
-    ∙ ap (λ (bs : List Block). slice_get bs j) (blocks_split front back)
-    ∙ get_before (blocks_in front) (blocks_in back) (gone_block key o) j l
-    ∙ ap (λ (bs : List Block). slice_get bs j) (sym (blocks_split front ((key, BlockVariant o) ∷ back)))
-    ∙ ap (λ (rows : List Row). slice_get (blocks_in rows) j) (sym two.rows)
-
-stands_after : (book other : BookState) (front back : List Row) (key : Key) (o : BlockTerms) (sel : List Bool) (j : ℕ)
-    → AreTwo book other front back key o sel → length (blocks_in front) ≤ j
-    → slice_get (blocks_in other.rows) j ≡ slice_get (blocks_in book.rows) (suc j)
-stands_after book other front back key o sel j two l =
-    ap (λ (rows : List Row). slice_get (blocks_in rows) j) two.fewer
-    ∙ ap (λ (bs : List Block). slice_get bs j) (blocks_split front back)
-    ∙ get_after (blocks_in front) (blocks_in back) (gone_block key o) j l
-    ∙ ap (λ (bs : List Block). slice_get bs (suc j)) (sym (blocks_split front ((key, BlockVariant o) ∷ back)))
-    ∙ ap (λ (rows : List Row). slice_get (blocks_in rows) (suc j)) (sym two.rows)
-
 -- ---- the lines of the periods
-same_periods : (blocks others : List Block) (sel tel : List Bool) (t : ℕ) (hours : List (List Step)) (periods : List PeriodResult)
-    → ((f : BlockTerms → ℤ) → over_accepted f others tel ≡ over_accepted f blocks sel) → ArePeriodResults blocks sel t hours periods
-    → ArePeriodResults others tel t hours periods
-same_periods blocks others sel tel t [] [] sums are = tt
-same_periods blocks others sel tel t [] (r ∷ periods) sums are = absurd are
-same_periods blocks others sel tel t (ss ∷ hours) [] sums are = absurd are
-same_periods blocks others sel tel t (ss ∷ hours) (r ∷ periods) sums are =
-    let net : net_volume blocks sel t ≡ net_volume others tel t = sym (sums (net_volume_of_block t)) in (
-      record {
-        price = subst (λ (z : ℤ). IsClearingPrice ss z r.price) net are.0.price;
-        executed = are.0.executed;
-        best = subst (λ (z : ℤ). IsBest ss z are.0.executed) net are.0.best;
-        volume = are.0.volume ∙ ap (λ (z : ℤ). pos (executed_volume Buy ss are.0.executed) +ℤ z) (sym (sums (bought_volume_of_block t)));
-      },
-      same_periods blocks others sel tel (suc t) hours periods sums are.1,
-    )
+pub same_periods : (blocks others : List Block) (sel tel : List Bool) (t : ℕ) (hours : List (List Step)) (periods : List PeriodResult)
+    → ((s : ℕ) → net_volume others tel s ≡ net_volume blocks sel s) → ((s : ℕ) → bought_volume others tel s ≡ bought_volume blocks sel s)
+    → ArePeriodResults blocks sel t hours periods → ArePeriodResults others tel t hours periods
+same_periods blocks others sel tel t [] [] net bought are = tt
+same_periods blocks others sel tel t [] (r ∷ periods) net bought are = absurd are
+same_periods blocks others sel tel t (ss ∷ hours) [] net bought are = absurd are
+same_periods blocks others sel tel t (ss ∷ hours) (r ∷ periods) net bought are = (
+  record {
+    price = subst (λ (z : ℤ). IsClearingPrice ss z r.price) (sym (net t)) are.0.price;
+    executed = are.0.executed;
+    best = subst (λ (z : ℤ). IsBest ss z are.0.executed) (sym (net t)) are.0.best;
+    volume = are.0.volume ∙ ap (λ (z : ℤ). pos (executed_volume Buy ss are.0.executed) +ℤ z) (sym (bought t));
+  },
+  same_periods blocks others sel tel (suc t) hours periods net bought are.1,
+)
 
 -- ---- the lines of the orders
-same_executed : (book other : BookState) (front back : List Row) (key : Key) (o : BlockTerms) (sel : List Bool) (t i volume : ℕ)
-    → AreTwo book other front back key o sel → IsExecuted (problem_of book) sel t i volume
-    → IsExecuted (problem_of other) (without_place sel (length (blocks_in front))) t i volume
-same_executed book other front back key o sel t i volume two is = record {
+same_executed : (problem other : ProblemState) (sel : List Bool) (i t k volume : ℕ) → AreTwo problem other sel i
+    → IsExecuted problem sel t k volume → IsExecuted other (without_place sel i) t k volume
+same_executed problem other sel i t k volume two is = record {
   from_one = is.from_one;
   hour = is.hour;
   stands = ap (λ (hours : List (List Step)). slice_get hours (t - 1)) two.hours ∙ is.stands;
@@ -181,47 +132,42 @@ moved_accepts : (sel : List Bool) (i n m : ℕ) → MovesTo i n m → accepts (w
 moved_accepts sel i n _ (Before l) = accepts_before sel i n l
 moved_accepts sel i n _ (After m l e) = accepts_after sel i m l ∙ ap (λ (k : ℕ). accepts sel k) (sym e)
 
-moved_stands : (book other : BookState) (front back : List Row) (key : Key) (o : BlockTerms) (sel : List Bool) (n m : ℕ)
-    → AreTwo book other front back key o sel → MovesTo (length (blocks_in front)) n m
-    → slice_get (blocks_in other.rows) m ≡ slice_get (blocks_in book.rows) n
-moved_stands book other front back key o sel n _ two (Before l) = stands_before book other front back key o sel n two l
-moved_stands book other front back key o sel n _ two (After m l e) =
-    stands_after book other front back key o sel m two l ∙ ap (λ (k : ℕ). slice_get (blocks_in book.rows) k) (sym e)
+moved_stands : (problem other : ProblemState) (sel : List Bool) (i n m : ℕ) → AreTwo problem other sel i → MovesTo i n m
+    → slice_get other.blocks m ≡ slice_get problem.blocks n
+moved_stands problem other sel i n _ two (Before l) =
+    ap (λ (bs : List Block). slice_get bs n) two.blocks ∙ get_before problem.blocks i n l
+moved_stands problem other sel i n _ two (After m l e) =
+    ap (λ (bs : List Block). slice_get bs m) two.blocks ∙ get_after problem.blocks i m l
+    ∙ ap (λ (k : ℕ). slice_get problem.blocks k) (sym e)
 
 -- a row that stands at a place before the block, or after it
-same_row : (book other : BookState) (front back : List Row) (key : Key) (o : BlockTerms) (sel : List Bool) (prices : List ℤ)
-    (who name : List ℕ) (at there : Place) (published : RowResult) → AreTwo book other front back key o sel → IsMoved (length (blocks_in front)) at there
-    → IsRowResult (problem_of book) sel prices (record { who = who; name = name; at = at }) published
-    → IsRowResult (problem_of other) (without_place sel (length (blocks_in front))) prices (record { who = who; name = name; at = there }) published
-same_row book other front back key o sel prices who name (AtHour t i) there (HourResult own named executed) two moved is =
-    (is.0, is.1, (is.2.0, is.2.1, moved ∙ is.2.2, same_executed book other front back key o sel is.2.0 is.2.1 executed two is.2.3))
-same_row book other front back key o sel prices who name (AtHour t i) there (BlockResult own named accepted surplus) two moved is =
+same_row : (problem other : ProblemState) (sel : List Bool) (i : ℕ) (prices : List ℤ) (who name : List ℕ) (at there : Place)
+    (published : RowResult) → AreTwo problem other sel i → IsMoved i at there
+    → IsRowResult problem sel prices (record { who = who; name = name; at = at }) published
+    → IsRowResult other (without_place sel i) prices (record { who = who; name = name; at = there }) published
+same_row problem other sel i prices who name (AtHour t k) there (HourResult own named executed) two moved is =
+    (is.0, is.1, (is.2.0, is.2.1, moved ∙ is.2.2, same_executed problem other sel i is.2.0 is.2.1 executed two is.2.3))
+same_row problem other sel i prices who name (AtHour t k) there (BlockResult own named accepted surplus) two moved is =
     absurd (let no = is.2.1 in cc)
-same_row book other front back key o sel prices who name (AtBlock n) there (HourResult own named executed) two moved is =
+same_row problem other sel i prices who name (AtBlock n) there (HourResult own named executed) two moved is =
     absurd (let no = is.2.2 in cc)
-same_row book other front back key o sel prices who name (AtBlock n) there (BlockResult own named accepted surplus) two moved is =
-    let place : n ≡ is.2.0 = (let e = is.2.1 in cc) in
+same_row problem other sel i prices who name (AtBlock n) there (BlockResult own named accepted surplus) two moved is =
+    let place = same_block n is.2.0 is.2.1 in
     let has = is.2.3 in
-    let m = moved.0 in (
-      is.0,
-      is.1,
-      (
-        m,
-        moved.1,
-        is.2.2 ∙ ap (λ (k : ℕ). accepts sel k) (sym place) ∙ sym (moved_accepts sel (length (blocks_in front)) n m moved.2),
-        record {
-          block = has.block;
-          stands = moved_stands book other front back key o sel n m two moved.2 ∙ ap (λ (k : ℕ). slice_get (blocks_in book.rows) k) place
-              ∙ has.stands;
-          surplus_is = has.surplus_is;
-        },
-      ),
-    )
+    let m = moved.0 in
+    let taken = is.2.2 ∙ ap (λ (k : ℕ). accepts sel k) (sym place) ∙ sym (moved_accepts sel i n m moved.2) in
+    let still : HasSurplus other.blocks prices m surplus = record {
+      block = has.block;
+      stands = moved_stands problem other sel i n m two moved.2 ∙ ap (λ (k : ℕ). slice_get problem.blocks k) place ∙ has.stands;
+      surplus_is = has.surplus_is;
+    } in
+    (is.0, is.1, (m, moved.1, taken, still))
 
 -- the rows after the block
 length_of_steps : (t : ℕ) (front more : List Row) (key : Key) (o : BlockTerms)
     → length (steps_in t (front ++ more)) ≡ length (steps_in t (front ++ (key, BlockVariant o) ∷ more))
-length_of_steps t front more key o = ap (λ (ss : List Step). length ss) (same_steps t front more key o)
+length_of_steps t front more key o =
+    ap (λ (ss : List Step). length ss) (steps_split t front more ∙ sym (steps_split t front ((key, BlockVariant o) ∷ more)))
 
 length_of_blocks : (front more : List Row) (key : Key) (o : BlockTerms)
     → length (blocks_in (front ++ (key, BlockVariant o) ∷ more)) ≡ suc (length (blocks_in (front ++ more)))
@@ -247,21 +193,22 @@ moved_after front more key o (BlockVariant b) = (
   After (length (blocks_in (front ++ more))) (at_least_front front more) (length_of_blocks front more key o),
 )
 
-rows_behind : (book other : BookState) (front back : List Row) (key : Key) (o : BlockTerms) (sel : List Bool) (prices : List ℤ)
-    (more rest : List Row) (results : List RowResult) → AreTwo book other front back key o sel
-    → AreRowResults (problem_of book) sel prices (rows_after (front ++ (key, BlockVariant o) ∷ more) rest) results
-    → AreRowResults (problem_of other) (without_place sel (length (blocks_in front))) prices (rows_after (front ++ more) rest) results
-rows_behind book other front back key o sel prices more [] [] two are = tt
-rows_behind book other front back key o sel prices more [] (x ∷ results) two are = absurd are
-rows_behind book other front back key o sel prices more (r ∷ rest) [] two are = absurd are
-rows_behind book other front back key o sel prices more (r ∷ rest) (x ∷ results) two are =
-    let later = subst (λ (rows : List Row). AreRowResults (problem_of book) sel prices (rows_after rows rest) results)
+rows_behind : (problem other : ProblemState) (front : List Row) (key : Key) (o : BlockTerms) (sel : List Bool) (prices : List ℤ)
+    (more rest : List Row) (results : List RowResult) → AreTwo problem other sel (length (blocks_in front))
+    → AreRowResults problem sel prices (rows_after (front ++ (key, BlockVariant o) ∷ more) rest) results
+    → AreRowResults other (without_place sel (length (blocks_in front))) prices (rows_after (front ++ more) rest) results
+rows_behind problem other front key o sel prices more [] [] two are = tt
+rows_behind problem other front key o sel prices more [] (x ∷ results) two are = absurd are
+rows_behind problem other front key o sel prices more (r ∷ rest) [] two are = absurd are
+rows_behind problem other front key o sel prices more (r ∷ rest) (x ∷ results) two are =
+    let i = length (blocks_in front) in
+    let later = subst (λ (rows : List Row). AreRowResults problem sel prices (rows_after rows rest) results)
     (append_assoc front ((key, BlockVariant o) ∷ more) (r ∷ [])) are.1 in
-    let done = rows_behind book other front back key o sel prices (more ++ r ∷ []) rest results two later in (
-      same_row book other front back key o sel prices r.0.0 r.0.1 (place_after (front ++ (key, BlockVariant o) ∷ more) r.1)
+    let done = rows_behind problem other front key o sel prices (more ++ r ∷ []) rest results two later in (
+      same_row problem other sel i prices r.0.0 r.0.1 (place_after (front ++ (key, BlockVariant o) ∷ more) r.1)
           (place_after (front ++ more) r.1) x two (moved_after front more key o r.1) are.0,
-      subst (λ (rows : List Row). AreRowResults (problem_of other) (without_place sel (length (blocks_in front))) prices (rows_after rows rest)
-          results) (sym (append_assoc front more (r ∷ []))) done,
+      subst (λ (rows : List Row). AreRowResults other (without_place sel i) prices (rows_after rows rest) results)
+          (sym (append_assoc front more (r ∷ []))) done,
     )
 
 -- the rows before it
@@ -274,24 +221,22 @@ moved_before front done rest (k, BlockVariant b) whole =
     let d = length-append (blocks_in done) (gone_block k b ∷ blocks_in rest) in
     (length (blocks_in done), refl, Before (omega (arith, a, c, d)))
 
-rows_without : (book other : BookState) (front back : List Row) (key : Key) (o : BlockTerms) (sel : List Bool) (prices : List ℤ)
-    (done rest : List Row) (results : List RowResult) → AreTwo book other front back key o sel → done ++ rest ≡ front
-    → AreRowResults (problem_of book) sel prices (rows_after done (rest ++ (key, BlockVariant o) ∷ back)) results
-    → AreRowResults (problem_of other) (without_place sel (length (blocks_in front))) prices (rows_after done (rest ++ back))
-    (remove results (length rest))
-rows_without book other front back key o sel prices done [] [] two whole are = absurd are
-rows_without book other front back key o sel prices done [] (x ∷ results) two whole are =
+rows_without : (problem other : ProblemState) (front back : List Row) (key : Key) (o : BlockTerms) (sel : List Bool) (prices : List ℤ)
+    (done rest : List Row) (results : List RowResult) → AreTwo problem other sel (length (blocks_in front)) → done ++ rest ≡ front
+    → AreRowResults problem sel prices (rows_after done (rest ++ (key, BlockVariant o) ∷ back)) results
+    → AreRowResults other (without_place sel (length (blocks_in front))) prices (rows_after done (rest ++ back)) (remove results (length rest))
+rows_without problem other front back key o sel prices done [] [] two whole are = absurd are
+rows_without problem other front back key o sel prices done [] (x ∷ results) two whole are =
     let here : done ≡ front = sym (append-nil done) ∙ whole in
-    let later = subst (λ (rows : List Row). AreRowResults (problem_of book) sel prices (rows_after rows back) results)
+    let later = subst (λ (rows : List Row). AreRowResults problem sel prices (rows_after rows back) results)
     (ap (λ (rows : List Row). rows ++ (key, BlockVariant o) ∷ []) here) are.1 in
-    subst (λ (rows : List Row). AreRowResults (problem_of other) (without_place sel (length (blocks_in front))) prices (rows_after rows back)
-    results) (append-nil front ∙ sym here)
-    (rows_behind book other front back key o sel prices [] back results two later)
-rows_without book other front back key o sel prices done (r ∷ rest) [] two whole are = absurd are
-rows_without book other front back key o sel prices done (r ∷ rest) (x ∷ results) two whole are = (
-  same_row book other front back key o sel prices r.0.0 r.0.1 (place_after done r.1) (place_after done r.1) x two
+    subst (λ (rows : List Row). AreRowResults other (without_place sel (length (blocks_in front))) prices (rows_after rows back) results)
+    (append-nil front ∙ sym here) (rows_behind problem other front key o sel prices [] back results two later)
+rows_without problem other front back key o sel prices done (r ∷ rest) [] two whole are = absurd are
+rows_without problem other front back key o sel prices done (r ∷ rest) (x ∷ results) two whole are = (
+  same_row problem other sel (length (blocks_in front)) prices r.0.0 r.0.1 (place_after done r.1) (place_after done r.1) x two
       (moved_before front done rest r whole) are.0,
-  rows_without book other front back key o sel prices (done ++ r ∷ []) rest results two (append_assoc done (r ∷ []) rest ∙ whole) are.1,
+  rows_without problem other front back key o sel prices (done ++ r ∷ []) rest results two (append_assoc done (r ∷ []) rest ∙ whole) are.1,
 )
 
 -- ---- the row of a rejected block is a block's
@@ -346,35 +291,6 @@ of_block problem sel prices done (r ∷ rest) (x ∷ results) (suc n) who name s
     )
 
 -- ---- all of it
-are_two : WithdrawingLaws → (book other : BookState) (front back : List Row) (key : Key) (o : BlockTerms) (sel : List Bool) → IsBook book
-    → book.closed ≡ true → book.rows ≡ front ++ (key, BlockVariant o) ∷ back → other.rows ≡ front ++ back → other.periods ≡ book.periods
-    → length sel ≡ most_blocks → accepts sel (length (blocks_in front)) ≡ false
-    → AreTwo book other front back key o sel
-    × IsWithoutBlock (problem_of book) (problem_of other) (length (blocks_in front)) (gone_block key o)
-are_two laws book other front back key o sel is closed rows fewer periods long off =
-    let hours : (problem_of other).hours ≡ (problem_of book).hours =
-    ap₂ (λ (n : ℕ) (rs : List Row). hours_from 1 n rs) periods fewer
-    ∙ same_hours 1 book.periods front back key o
-    ∙ ap (λ (rs : List Row). hours_from 1 book.periods rs) (sym rows) in
-    let all : blocks_in book.rows ≡ blocks_in front ++ gone_block key o ∷ blocks_in back =
-    ap blocks_in rows ∙ blocks_split front ((key, BlockVariant o) ∷ back) in
-    let change : IsWithoutBlock (problem_of book) (problem_of other) (length (blocks_in front)) (gone_block key o) = record {
-      stands = ap (λ (bs : List Block). slice_get bs (length (blocks_in front))) all
-          ∙ gone_there (blocks_in front) (blocks_in back) (gone_block key o);
-      hours = hours;
-      blocks = ap blocks_in fewer ∙ blocks_split front back ∙ sym (gone (blocks_in front) (blocks_in back) (gone_block key o))
-          ∙ ap (λ (bs : List Block). remove bs (length (blocks_in front))) (sym all);
-    } in (
-      record {
-        rows = rows;
-        fewer = fewer;
-        hours = hours;
-        sums = λ f. laws.sums (problem_of book) (problem_of other) (length (blocks_in front)) (gone_block key o) sel f
-            (laws.problem book is closed) change long off;
-      },
-      change,
-    )
-
 pub cleared_without : WithdrawingLaws → (book other : BookState) (place welfare : ℕ) (periods : List PeriodResult) (rows : List RowResult)
     (who name : List ℕ) (surplus : ℤ) → IsBook book → IsBook other → IsWithoutRow book other place → IsClearing book welfare periods rows
     → slice_get rows place ≡ Some (BlockResult who name false surplus) → IsClearing other welfare periods (remove rows place)
@@ -386,16 +302,22 @@ cleared_without laws book other place welfare periods rows who name surplus is i
     let of = found.0 in
     let fewer : other.rows ≡ of.front ++ of.back =
     change.rows ∙ ap₂ (λ (rs : List Row) (n : ℕ). remove rs n) of.whole (sym found.1) ∙ gone of.front of.back (of.key, BlockVariant of.order) in
-    let result = laws.result (problem_of book) sel (pos welfare) clearing.best in
-    let both = are_two laws book other of.front of.back of.key of.order sel is clearing.closed of.whole fewer change.periods
-    result.eligible.as_long of.rejected in
-    let two = both.0 in
+    let problem = problem_of book in
+    let fewer_blocks = laws.change book other of.front of.back of.key of.order of.whole fewer change.periods in
+    let result = laws.result problem sel (pos welfare) clearing.best in
     let i = length (blocks_in of.front) in
+    let block = gone_block of.key of.order in
+    let valid = laws.problem book is clearing.closed in
+    let two : AreTwo problem (problem_of other) sel i = record {
+      hours = fewer_blocks.hours;
+      blocks = fewer_blocks.blocks;
+      sums = λ f. laws.sums problem (problem_of other) i block sel f valid fewer_blocks result.eligible.as_long of.rejected;
+    } in
     let closed : other.closed ≡ true = change.closed ∙ clearing.closed in
-    let after = laws.without (problem_of book) (problem_of other) i (gone_block of.key of.order) sel (pos welfare)
-    (laws.problem book is clearing.closed) (laws.problem other is_other closed) both.1 result of.rejected in
-    let lines = rows_without book other of.front of.back of.key of.order sel prices [] of.front rows two refl
-    (subst (λ (rs : List Row). AreRowResults (problem_of book) sel prices (rows_after [] rs) rows) of.whole published.rows_are) in
+    let after = laws.without problem (problem_of other) i block sel (pos welfare) valid (laws.problem other is_other closed) fewer_blocks result
+    of.rejected in
+    let lines = rows_without problem (problem_of other) of.front of.back of.key of.order sel prices [] of.front rows two refl
+    (subst (λ (rs : List Row). AreRowResults problem sel prices (rows_after [] rs) rows) of.whole published.rows_are) in
     record {
       closed = closed;
       selection = without_place sel i;
@@ -404,8 +326,8 @@ cleared_without laws book other place welfare periods rows who name surplus is i
         welfare_is = after.eligible.welfare_is;
         periods_are = subst (λ (hours : List (List Step)). ArePeriodResults (blocks_in other.rows) (without_place sel i) 1 hours periods)
             (sym two.hours)
-            (same_periods (blocks_in book.rows) (blocks_in other.rows) sel (without_place sel i) 1 (problem_of book).hours periods two.sums
-            published.periods_are);
+            (same_periods (blocks_in book.rows) (blocks_in other.rows) sel (without_place sel i) 1 problem.hours periods
+            (λ t. two.sums (net_volume_of_block t)) (λ t. two.sums (bought_volume_of_block t)) published.periods_are);
         rows_are = subst (λ (rs : List Row). AreRowResults (problem_of other) (without_place sel i) prices (rows_after [] rs) (remove rows place))
             (sym fewer)
             (subst (λ (n : ℕ). AreRowResults (problem_of other) (without_place sel i) prices (rows_after [] (of.front ++ of.back))

@@ -1,13 +1,13 @@
 //! The texts that the auction reads and prints, and the published results of a selection of blocks.
 //!
-//! A journal's text is read into its commands (`read_journal`), its book (`book_of_text`), its book and the number of
-//! commands that the book refused (`run_of_text`), the replies to its commands (`replay_text`), or another value made of
-//! its commands one by one (`read_into`). Each returns the first fault if the text isn't a journal. `results` finds the
-//! published results of an eligible selection; `results_text`, `replies_text`, `journal_text` and `JournalWriter` write.
+//! A journal's text is read into its commands (`read_journal`), its book and the number of commands that the book refused
+//! (`run_of_text`), the replies to its commands (`replay_text`), or another value made of its commands one by one
+//! (`read_into`). Each returns the first fault if the text isn't a journal. `results` finds the published results of an
+//! eligible selection; `results_text`, `replies_text`, `journal_text` and `JournalWriter` write.
 //!
 //! ```
-//! let book = book_of_text(alloc, Seed::fixed(), text)?;
-//! let problem = Problem::of_book(alloc, &book)?;
+//! let run = run_of_text(alloc, Seed::fixed(), text)?;
+//! let problem = Problem::of_book(alloc, &run.book)?;
 //! let published = results(alloc, &problem, best_of_all(&problem))?;
 //! let text = results_text(alloc, &published)?;
 //! ```
@@ -48,4 +48,4 @@ pub use published::{PeriodResult, Results, RowResult};
 pub use replay::replay_text;
 pub use replies_writing::{replies_text, write_reply_line};
 pub use results_writing::results_text;
-pub use run::{Run, book_of_text, run_of_text};
+pub use run::{Run, run_of_text};

@@ -76,6 +76,7 @@ pub fn a_rejected_block_withdrawn_changes_nothing()
 {
     crate::publishing_laws::best_selection_is_result();
     dam_blocks::market::a_closed_book_is_a_problem();
+    dam_blocks::market::a_changed_book_is_a_changed_problem();
     dam_blocks::market::a_rejected_block_withdrawn_changes_nothing();
 }
 

@@ -22,18 +22,6 @@ struct Replay {
     text: Vec<u8>,
 }
 
-impl Replay {
-    /// Applies the command of the entry of that number, and writes its reply.
-    fn apply(&mut self, number: u32, command: &Command) -> Result<(), AllocError>
-        ensures book { OnOk result (self.new.book ≡ book_after self.old.book command.now) }
-        ensures text { OnOk result (self.new.text.items
-            ≡ self.old.text.items ++ reply_line number (reply_to self.old.book command.now)) }
-    {
-        let reply = self.book.apply(command)?;
-        write_reply_line(&mut self.text, number, reply)
-    }
-}
-
 impl FromJournal for Replay {
     ghost use Rattle.std.specs.Prelude.{◌≡◌};
     ghost use Rattle.dam_results.specs.Replies.{AreReplies};
@@ -53,7 +41,8 @@ impl FromJournal for Replay {
 
     fn take_command(&mut self, number: u32, command: &Command) -> Result<(), AllocError> {
         runs_grow();
-        self.apply(number, command)
+        let reply = self.book.apply(command)?;
+        write_reply_line(&mut self.text, number, reply)
     }
 }
 

@@ -1,8 +1,8 @@
 //! The run of a journal's commands: its book, and the number of refused commands.
 
-ghost use Rattle.std.specs.Prelude.{◌≡◌, ℕ, List, IfOk, IfErr, MatchResult};
+ghost use Rattle.std.specs.Prelude.{◌≡◌, ◌≤◌, ℕ, List, length, IfOk, IfErr, MatchResult};
 ghost use Rattle.dam_book.specs.declared.command.Command.{Command};
-ghost use Rattle.dam_results.specs.Journal.{IsMadeFrom, ReadsAs};
+ghost use Rattle.dam_results.specs.Journal.{ReadsAs};
 ghost use Rattle.dam_results.specs.Faults.{IsJournalFault};
 ghost use Rattle.dam_results.specs.Run.{HasRefused, IsRun};
 
@@ -52,21 +52,13 @@ pub fn run_of_text(alloc: Global, seed: Seed, text: &[u8]) -> Result<Run, Journa
         × ReadsAs text.now periods commands
         × IsRun periods commands run.book × HasRefused periods commands run.refused) }
     ensures fault { IfErr result (IsJournalFault text.now) }
-{
-    read_into(alloc, seed, text)
-}
-
-/// The book after all commands of the journal in this text, or the first fault of the text.
-///
-/// Each command is applied as it is read, and no list of them is kept. The book hashes names by the seed.
-pub fn book_of_text(alloc: Global, seed: Seed, text: &[u8]) -> Result<Book, JournalFault>
-    ensures ok { IfOk result (IsMadeFrom IsRun text.now) }
-    ensures fault { IfErr result (IsJournalFault text.now) }
 
     // A journal is run, unless memory runs out.
     ensures exact { (periods : ℕ) (commands : List Command) → ReadsAs text.now periods commands
-        → MatchResult result (IsRun periods commands) (λ fault. fault ≡ JournalFault.Memory) }
+        → MatchResult result
+        (λ run. IsRun periods commands run.book × HasRefused periods commands run.refused
+        × (run.refused ≤ length commands))
+        (λ fault. fault ≡ JournalFault.Memory) }
 {
-    let run: Run = read_into(alloc, seed, text)?;
-    Ok(run.book)
+    read_into(alloc, seed, text)
 }

@@ -1,5 +1,5 @@
 -- The periods of a selection, cleared one by one before its results are published.
-use Rattle.std.specs.Prelude.{◌≡◌, ℕ, suc, ◌-◌, ℤ, Bool, Option, Some, List, [], ◌∷◌, slice_get}
+use Rattle.std.specs.Prelude.{◌≡◌, ℕ, ◌-◌, ℤ, Bool, Option, Some, List, slice_get}
 use Rattle.std.specs.Option.{option_and_then}
 use Rattle.dam_hour.specs.Execution.{IsBalanced}
 use Rattle.dam_hour.specs.Best.{IsBest}
@@ -7,6 +7,7 @@ use Rattle.dam_hour.specs.declared.step.Step.{Step}
 use Rattle.dam_blocks.specs.declared.problem.Block.{Block}
 use Rattle.dam_blocks.specs.Problem.{ProblemState}
 use Rattle.dam_blocks.specs.Selection.{net_volume}
+use Rattle.dam_blocks.specs.Market.{AreBestExecutions}
 use Rattle.dam_results.specs.declared.published.PeriodResult.{PeriodResult}
 use Rattle.dam_results.specs.Published.{IsPeriodResult, ArePeriodResults, prices_of}
 
@@ -24,20 +25,12 @@ pub record IsCleared (problem : ProblemState) (sel : List Bool) (t : ℕ) (publi
   pub result : IsPeriodResult problem.blocks sel t hour published
   pub best : IsBest hour (net_volume problem.blocks sel t) executed
 
--- the best execution of each period, from period t on
-abbrev pub AreBest : List Block → List Bool → ℕ → List (List Step) → List (List ℕ) → Type 0
-AreBest blocks sel t [] [] = Unit {0}
-AreBest blocks sel t (ss ∷ hours) (xs ∷ executions) =
-    IsBest ss (net_volume blocks sel t) xs × AreBest blocks sel (suc t) hours executions
-AreBest blocks sel t [] (xs ∷ executions) = ⊥
-AreBest blocks sel t (ss ∷ hours) [] = ⊥
-
 -- the published results of these periods from the first on, their prices and their best executions
 pub record AreCleared (blocks : List Block) (sel : List Bool) (hours : List (List Step))
     (periods : List PeriodResult) (prices : List ℤ) (executions : List (List ℕ)) : Type 0 where
   pub are_periods : ArePeriodResults blocks sel 1 hours periods
   pub are_prices : prices ≡ prices_of periods
-  pub are_best : AreBest blocks sel 1 hours executions
+  pub are_best : AreBestExecutions blocks sel 1 hours executions
 
 -- the volume at place i of the k-th execution
 abbrev pub volume_at : List (List ℕ) → ℕ → ℕ → Option ℕ

@@ -2,7 +2,7 @@
 use Rattle.std.proofs.lemmas.Result.{IfOk-weaker}
 use Rattle.dam_results.specs.Written.{journal_text}
 use Rattle.dam_results.proofs.ReadBack.{reads_journal_text}
-use Rattle.dam_results.proofs.WriterLines.{wrote_more, wrote_all}
+use Rattle.dam_results.proofs.WriterLines.{wrote_all}
 use Rattle.dam_results.proofs.journal_writing.journal_text.Goals as goal
 
 pub returns-clause-text : goal.returns-clause-text

@@ -8,6 +8,7 @@ returns c =
       problem = c.a_closed_book_is_a_problem.ensures.problem;
       best = c.best_selection_is_result.ensures.best;
       result = c.best_selection_is_result.ensures.result;
+      change = c.a_changed_book_is_a_changed_problem.ensures.block;
       without = c.a_rejected_block_withdrawn_changes_nothing.ensures.result;
       sums = c.a_rejected_block_withdrawn_changes_nothing.ensures.sums;
     } in
