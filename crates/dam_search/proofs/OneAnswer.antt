@@ -1,5 +1,5 @@
 -- One answer, about the one piece of an uncut search.
-use Rattle.std.proofs.Common.{◌≡◌, ℕ, ◌≤◌, max, [], ◌∷◌, subst, arith}
+use Rattle.std.proofs.Common.{◌≡◌, ℕ, ◌≤◌, max, [], ◌∷◌, arith}
 use Rattle.std.specs.List.{All}
 use Rattle.std.proofs.lemmas.Bool.Decides.{nat_tests}
 use Rattle.std.proofs.lemmas.List.Elements.{All-push}
@@ -18,16 +18,14 @@ pub one_alone : (a : PieceAnswer) → a.piece ≡ 0 → AreOneEach (a ∷ []) 1
 one_alone a zero piece less = grind (arith, nat_tests, zero, less)
 
 -- the answer about the whole
-pub worked_is : (problem walked : ProblemState) (first nodes : ℕ) (a : PieceAnswer) → walked ≡ problem → IsWalkedPiece walked 0 nodes a
-    → IsReached problem first → a.incumbent_read ≤ max first (welfare_found a.best) → IsWorked problem 0 nodes a
-worked_is problem walked first nodes a same answer reached read =
-    let own = subst (λ (p : ProblemState). IsWalkedPiece p 0 nodes a) same answer in
-    record {
-      in_cutting = own.in_cutting;
-      sound = own.sound;
-      reached = reached_less problem (max first (welfare_found a.best)) a.incumbent_read read
-          (reached_greater problem first (welfare_found a.best) reached
-          (reached_found problem [] a.best (reached_less problem first 0 (omega arith) reached) own.sound.found));
-      spent = own.spent;
-      done = own.done;
-    }
+pub worked_is : (problem : ProblemState) (first nodes : ℕ) (a : PieceAnswer) → IsWalkedPiece problem 0 nodes a → IsReached problem first
+    → a.incumbent_read ≤ max first (welfare_found a.best) → IsWorked problem 0 nodes a
+worked_is problem first nodes a walked reached read = record {
+  in_cutting = walked.in_cutting;
+  sound = walked.sound;
+  reached = reached_less problem (max first (welfare_found a.best)) a.incumbent_read read
+      (reached_greater problem first (welfare_found a.best) reached
+      (reached_found problem [] a.best (reached_less problem first 0 (omega arith) reached) walked.sound.found));
+  spent = walked.spent;
+  done = walked.done;
+}

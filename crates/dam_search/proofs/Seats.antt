@@ -1,5 +1,5 @@
 -- Answers of a seat that draws one piece more, and of two seats that are joined.
-use Rattle.std.proofs.Common.{true, ◌≡◌, ℕ, pos, cond, ◌==◌, ◌+◌, ◌-◌, ◌<◌, ◌≤◌, ◌^◌, max, List, [], ◌∷◌, ◌++◌, map, length, slice_index_or, ◌∙◌}
+use Rattle.std.proofs.Common.{◌≡◌, ℕ, pos, cond, ◌==◌, ◌+◌, ◌<◌, ◌≤◌, ◌^◌, max, List, [], ◌∷◌, ◌++◌, map, length, slice_index_or, ◌∙◌}
 use Rattle.std.proofs.Common.{ap, ap₂, sym, subst, refl, arith, length-append}
 use Rattle.std.specs.List.{All}
 use Rattle.std.proofs.lemmas.Int.{ints}
@@ -10,8 +10,7 @@ use Rattle.std.proofs.lemmas.List.Elements.{All-push, All-append, All-weaker}
 use Rattle.dam_blocks.specs.Problem.{ProblemState}
 use Rattle.dam_search.specs.declared.answer.PieceAnswer.{PieceAnswer}
 use Rattle.dam_search.specs.declared.view.View.{View}
-use Rattle.dam_search.specs.Piece.{node_count, welfare_found, IsSound, IsSpent}
-use Rattle.dam_blocks.specs.Selection.{choice}
+use Rattle.dam_search.specs.Piece.{welfare_found}
 use Rattle.dam_search.specs.Answer.{IsReached, greatest_found}
 use Rattle.dam_search.specs.inside.Collect.{IsWorked, answers_about, AreOneEach}
 use Rattle.dam_blocks.specs.declared.selection.Solution.{Solution}
@@ -19,7 +18,7 @@ use Rattle.dam_blocks.specs.Eligible.{IsEligible}
 use Rattle.dam_search.specs.Words.{times, once_below, first_view, joined_view, standing, AreClosedWords}
 use Rattle.dam_search.specs.inside.Work.{IsWalkedPiece, AreAnswersOf}
 use Rattle.dam_search.specs.inside.Seats.{AreJoined, AreAllAnswers}
-use Rattle.dam_search.proofs.Collecting.{spent_less, reached_less, reached_greater, reached_greatest}
+use Rattle.dam_search.proofs.Collecting.{reached_less, reached_greater, reached_greatest}
 
 pub greatest_append : (xs ys : List PieceAnswer) → greatest_found (xs ++ ys) ≡ max (greatest_found xs) (greatest_found ys)
 greatest_append [] ys = omega arith
@@ -54,29 +53,6 @@ both_answers problem depth nodes besides v w xs ys g h = record {
       (read_more xs v.greatest_read (max v.greatest_read w.greatest_read) (omega arith) g.greatest_read)
       (read_more ys w.greatest_read (max v.greatest_read w.greatest_read) (omega arith) h.greatest_read);
   offered = (let left = g.offered in let right = h.offered in let more = greatest_append xs ys in omega (arith, left, right, more));
-}
-
--- the answer of a walk over a piece that was drawn
-pub walked_is : (problem : ProblemState) (depth nodes piece told : ℕ) (a : PieceAnswer) → a.piece ≡ piece → piece < 2 ^ depth
-    → IsSound problem (choice depth piece) a.best a.incumbent_read a.done
-    → IsSpent problem (choice depth piece) (length problem.blocks - depth) told nodes a.visited a.incumbent_read a.done → IsWalkedPiece problem depth nodes a
-walked_is problem depth nodes piece told a same within sound spent = record {
-  in_cutting = subst (λ (n : ℕ). n < 2 ^ depth) (sym same) within;
-  sound = subst (λ (n : ℕ). IsSound problem (choice depth n) a.best a.incumbent_read a.done) (sym same) sound;
-  spent = λ few. subst (λ (n : ℕ). IsSpent problem (choice depth n) (length problem.blocks - depth) 0 nodes a.visited a.incumbent_read a.done)
-      (sym same) (spent_less problem (choice depth piece) (length problem.blocks - depth) told nodes a.visited a.incumbent_read a.done spent);
-  done = spent.done_by_all;
-}
-
--- the answer of a walk to the end of a piece that was drawn, if the limit can't bind
-pub walked_whole : (problem : ProblemState) (depth nodes piece : ℕ) (a : PieceAnswer) → a.piece ≡ piece → piece < 2 ^ depth
-    → IsSound problem (choice depth piece) a.best a.incumbent_read a.done → a.done ≡ true → node_count (length problem.blocks - depth) ≤ nodes
-    → IsWalkedPiece problem depth nodes a
-walked_whole problem depth nodes piece a same within sound done many = record {
-  in_cutting = subst (λ (n : ℕ). n < 2 ^ depth) (sym same) within;
-  sound = subst (λ (n : ℕ). IsSound problem (choice depth n) a.best a.incumbent_read a.done) (sym same) sound;
-  spent = λ few. absurd (omega (arith, few, many));
-  done = λ h. done;
 }
 
 pub none_yet : (problem : ProblemState) (depth nodes : ℕ) (v : View) → v.drawn ≡ [] → v.greatest_offer ≡ 0

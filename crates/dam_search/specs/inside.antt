@@ -2,6 +2,7 @@
 pub mod PrefixWalk
 pub mod Conflicts
 pub mod PriceWalk
+pub mod Way
 pub mod DecisionOrder
 pub mod Work
 pub mod Seats

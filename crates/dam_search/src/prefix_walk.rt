@@ -7,7 +7,6 @@ ghost use Rattle.dam_search.specs.inside.PrefixWalk.{Finds, Covers, IsGoing, IsW
 use crate::answer::PieceAnswer;
 use crate::incumbent::Incumbent;
 use crate::invariant::use_invariant;
-use crate::piece_walk::PieceWalk;
 use crate::prefix::Prefix;
 use crate::walk_state::{WalkState, bound_equals, bound_reaches, ranks_above_found};
 use dam_blocks::{Problem, Solution, Verdict, score};
@@ -182,24 +181,5 @@ impl<A: Allocator, B: Allocator> PrefixWalk<'_, A, B> {
             visited: found.visited,
             done,
         }
-    }
-}
-
-/// Walks by the relaxed welfare of each prefix, and counts nodes as the limit does.
-impl<A: Allocator, B: Allocator> PieceWalk for PrefixWalk<'_, A, B> {
-    ghost use Rattle.std.specs.Prelude.{true};
-
-    ghost problem = { λ by. by.problem.now };
-
-    ghost suits = { λ _ _ _. true };
-
-    fn walk_piece<I: Incumbent>(
-        &self,
-        piece: u32,
-        depth: usize,
-        nodes: Nodes,
-        incumbent: &mut I,
-    ) -> PieceAnswer {
-        self.walk_by_prefixes(piece, depth, nodes, incumbent)
     }
 }

@@ -17,14 +17,12 @@ use crate::conflicts::Conflicts;
 use crate::incumbent::Incumbent;
 use crate::invariant::use_invariant;
 use crate::node::Node;
-use crate::piece_walk::PieceWalk;
 use crate::priced_problem::PricedProblem;
 use crate::root::{slack_of_piece, write_pricing_of_piece};
 use crate::walk_state::{WalkState, bound_equals, bound_reaches, ranks_above_found};
 use crate::welfare::{signed_welfare, solution_of};
 use dam_blocks::{Problem, Selection, Solution, admissible, ranks_above};
 use dam_bound::{ClassPrices, NetLimits, Pricing, Slack};
-use dam_plan::Nodes;
 use std::alloc::Allocator;
 
 /// The least number of places left for which a node gets prices of its own.
@@ -322,7 +320,7 @@ impl<A: Allocator, P: PricedProblem> PriceWalk<'_, A, P> {
     /// Walks a piece of the cutting, and finds its best eligible selection, apart from those with less welfare than was
     /// read of the incumbent. The answer is always done. A node is visited when the incumbent is read for it, and its bound
     /// is compared with that.
-    fn walk_by_prices<I: Incumbent>(&self, piece: u32, incumbent: &mut I) -> PieceAnswer
+    pub(crate) fn walk_by_prices<I: Incumbent>(&self, piece: u32, incumbent: &mut I) -> PieceAnswer
         requires depth { self.now.depth ≤ length self.now.problem.now.blocks }
         requires piece { piece < 2 ^ self.now.depth }
         ensures piece { result.piece ≡ piece }
@@ -375,27 +373,5 @@ impl<A: Allocator, P: PricedProblem> PriceWalk<'_, A, P> {
             visited: found.visited,
             done: true,
         }
-    }
-}
-
-/// Walks by bounds at prices, to the end of each piece. It doesn't count nodes as the limit does, so it suits only a
-/// limit that can't bind.
-impl<A: Allocator, P: PricedProblem> PieceWalk for PriceWalk<'_, A, P> {
-    ghost use Rattle.std.specs.Prelude.{◌-◌, ◌==◌, ◌&&◌, nat_le, length};
-    ghost use Rattle.dam_search.specs.Piece.{node_count};
-
-    ghost problem = { λ by. by.problem.now };
-
-    ghost suits = { λ by depth nodes. (by.depth == depth)
-        && nat_le (node_count (length by.problem.now.blocks - depth)) nodes };
-
-    fn walk_piece<I: Incumbent>(
-        &self,
-        piece: u32,
-        _depth: usize,
-        _nodes: Nodes,
-        incumbent: &mut I,
-    ) -> PieceAnswer {
-        self.walk_by_prices(piece, incumbent)
     }
 }

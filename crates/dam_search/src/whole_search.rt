@@ -2,39 +2,20 @@
 
 ghost use Rattle.std.specs.Prelude.{◌≡◌, min, length};
 ghost use Rattle.dam_bound.specs.Relaxed.{without_rows};
-ghost use Rattle.dam_search.specs.Answer.{IsReached};
 ghost use Rattle.dam_search.specs.Search.{IsSearched};
 
 use crate::collect::collected;
-use crate::conflicts::Conflicts;
-use crate::decision_order::decision_order;
 use crate::fault::SearchFault;
-use crate::first::first_selection;
-use crate::piece_walk::{PieceWalk, limit_can_bind};
-use crate::prefix_walk::PrefixWalk;
-use crate::price_walk::PriceWalk;
 use crate::priced_problem::PricedProblem;
-use crate::workers::{Task, walk_all_pieces};
+use crate::task::Task;
+use crate::workers::walk_all_pieces;
 use dam_blocks::{Problem, Solution};
-use dam_bound::{ClassCurves, Relaxed};
+use dam_bound::ClassCurves;
 use dam_plan::{Plan, Turnstile};
 use std::alloc::Global;
 use std::thread::Threads;
 
-/// The result of the task's problem.
-fn search_by_walk<R: Threads + Sync, W: PieceWalk + Sync, T: Turnstile + Sync>(
-    rt: &R,
-    task: &Task<W>,
-    turnstile: &T,
-) -> Result<Solution, SearchFault>
-    requires reached { IsReached task.now.problem.now task.now.first_welfare }
-    ensures { IsSearched task.now.problem.now task.now.depth task.now.nodes result }
-{
-    let walked = walk_all_pieces(rt, task, turnstile)?;
-    collected(task.problem, task.depth, task.nodes, &walked.answers)
-}
-
-/// The result of the problem, by the walk that suits the plan.
+/// The result of the problem, by the cutting of the plan.
 fn search_priced<R: Threads + Sync, P: PricedProblem + Sync, T: Turnstile + Sync>(
     rt: &R,
     alloc: Global,
@@ -46,44 +27,11 @@ fn search_priced<R: Threads + Sync, P: PricedProblem + Sync, T: Turnstile + Sync
     requires { P.problem priced.now ≡ without_rows problem.now }
     ensures { IsSearched problem.now (min plan.cut (length problem.now.blocks)) plan.nodes result }
 {
-    let first_welfare = first_selection(problem, priced).welfare;
     let depth = plan.depth(problem.block_count());
-    let (nodes, workers) = (plan.nodes(), plan.workers());
-    if limit_can_bind(problem, depth, nodes) {
-        let relaxed = &Relaxed::build(alloc, problem)?;
-        let prefix_walk = &PrefixWalk::new(problem, relaxed);
-        let task = Task {
-            alloc,
-            problem,
-            walk: prefix_walk,
-            depth,
-            nodes,
-            workers,
-            first_welfare,
-        };
-        return search_by_walk(rt, &task, turnstile);
-    }
-    let conflicts = &Conflicts::of(problem, priced);
-    let limits = &priced.net_limits();
-    let order = &decision_order(alloc, problem, depth)?;
-    let price_walk = &PriceWalk {
-        problem,
-        priced,
-        conflicts,
-        limits,
-        depth,
-        order,
-    };
-    let task = Task {
-        alloc,
-        problem,
-        walk: price_walk,
-        depth,
-        nodes,
-        workers,
-        first_welfare,
-    };
-    search_by_walk(rt, &task, turnstile)
+    let nodes = plan.nodes();
+    let task = Task::of(alloc, problem, priced, depth, nodes)?;
+    let walked = walk_all_pieces(rt, &task, plan.workers(), turnstile)?;
+    collected(problem, depth, nodes, &walked.answers)
 }
 
 /// The result of a problem (`IsResult`): the eligible selection that no eligible one ranks above. Ties go to the one

@@ -1,38 +1,34 @@
-ghost use Rattle.std.specs.Prelude.{◌≡◌, ◌^◌, ◌≤◌, true, length, IfOk, IfErr};
+ghost use Rattle.std.specs.Prelude.{◌≡◌, ◌^◌, IfOk, IfErr};
 ghost use Rattle.dam_search.specs.Answer.{greatest_found};
 ghost use Rattle.dam_search.specs.inside.Work.{IsFresh, AreAnswersOf};
 ghost use Rattle.dam_search.specs.Words.{view_of};
 
 use crate::answer::PieceAnswer;
-use crate::piece_walk::PieceWalk;
+use crate::priced_problem::PricedProblem;
+use crate::task::Task;
 use crate::worker_seat::WorkerSeat;
-use dam_plan::{Nodes, Turnstile};
+use dam_plan::Turnstile;
 use std::alloc::{AllocError, Allocator};
 
 /// A worker's whole part of a search: it walks each piece that it draws, until a draw finds
 /// none left.
 ///
-/// It answers for just the pieces that its seat drew, in the order of the draws, with the limit
-/// `nodes` on each. It takes memory for an answer about every piece from `alloc` before the first
-/// draw: after a refusal nothing was drawn, and it asks for nothing more later.
+/// It answers for just the pieces that its seat drew, in the order of the draws, with the task's limit on
+/// each. It takes memory for an answer about every piece from `alloc` before the first draw: after a refusal
+/// nothing was drawn, and it asks for nothing more later.
 ///
 /// [`search`](crate::search) calls it once for each worker, on a thread of its own, with a fresh seat, made
-/// for the pieces of a cutting of this depth. Every piece is answered only if all seats of the words have
-/// worked and none was refused memory. A worker waits for nothing but the turnstile.
-pub(crate) fn walk_drawn_pieces<A: Allocator, W: PieceWalk, T: Turnstile>(
+/// for the pieces of the cutting. Every piece is answered only if all seats of the words have worked and
+/// none was refused memory. A worker waits for nothing but the turnstile.
+pub(crate) fn walk_drawn_pieces<A: Allocator, P: PricedProblem, T: Turnstile>(
     alloc: A,
-    walk: &W,
-    depth: usize,
-    nodes: Nodes,
+    task: &Task<P>,
     seat: &mut WorkerSeat,
     turnstile: &T,
 ) -> Result<Vec<PieceAnswer, A>, AllocError>
-    requires suits { W.suits walk.now depth nodes ≡ true }
-    requires depth { depth ≤ length (W.problem walk.now).blocks }
-    requires fresh { IsFresh (2 ^ depth) (view_of seat.old.seat) }
-    ensures answers { IfOk result (λ answers.
-        AreAnswersOf (W.problem walk.now) depth nodes 0
-        (view_of seat.new.seat) answers.items) }
+    requires fresh { IsFresh (2 ^ task.now.depth) (view_of seat.old.seat) }
+    ensures answers { IfOk result (λ answers. AreAnswersOf task.now.problem.now task.now.depth
+        task.now.nodes 0 (view_of seat.new.seat) answers.items) }
     ensures offered { IfOk result (λ answers.
         (view_of seat.new.seat).greatest_offer ≡ greatest_found answers.items) }
     ensures stopped { IfOk result (λ _. (view_of seat.new.seat).draws_past_the_end ≡ 1) }
@@ -46,7 +42,7 @@ pub(crate) fn walk_drawn_pieces<A: Allocator, W: PieceWalk, T: Turnstile>(
     let mut answers = Vec::with_capacity(alloc, seat.piece_count() as usize)?;
     while let Some(piece) = seat.draw() {
         turnstile.before(piece);
-        answers.push_reserved(walk.walk_piece(piece, depth, nodes, seat));
+        answers.push_reserved(task.walk_piece(piece, seat));
         turnstile.after(piece);
     }
     Ok(answers)

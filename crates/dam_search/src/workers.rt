@@ -3,19 +3,19 @@
 ghost use Rattle.std.specs.Prelude.{◌≡◌, ◌≤◌, ◌-◌, ◌^◌, true, [], length};
 ghost use Rattle.std.specs.Prelude.{vec_len, All, IfOk};
 ghost use Rattle.atomic_table.specs.Seated.{TableId};
-ghost use Rattle.dam_plan.specs.Limits.{most_workers, most_cut};
+ghost use Rattle.dam_plan.specs.Limits.{most_workers};
 ghost use Rattle.dam_search.specs.Words.{view_of};
 ghost use Rattle.dam_search.specs.inside.Seats.{IsNewSeat, IsWorkedSeat, AreJoined, AreAllAnswers};
 
 use crate::answer::PieceAnswer;
 use crate::collect::piece_count;
 use crate::incumbent::Incumbent;
-use crate::piece_walk::PieceWalk;
+use crate::priced_problem::PricedProblem;
+use crate::task::Task;
 use crate::words::{ClosedWords, close_words, new_words};
 use crate::worker::walk_drawn_pieces;
 use crate::worker_seat::WorkerSeat;
-use dam_blocks::Problem;
-use dam_plan::{Nodes, Turnstile};
+use dam_plan::Turnstile;
 use std::alloc::{AllocError, Global};
 use std::thread;
 use std::thread::Threads;
@@ -25,25 +25,6 @@ use std::thread::Threads;
 pub(crate) struct WorkedSeat<'a> {
     seat: WorkerSeat<'a>,
     answers: Result<Vec<PieceAnswer>, AllocError>,
-}
-
-/// The state that all workers share.
-#[derive(Drop)]
-pub(crate) struct Task<'a, W: PieceWalk> {
-    pub(crate) alloc: Global,
-    pub(crate) problem: &'a Problem,
-    pub(crate) walk: &'a W,
-    pub(crate) depth: usize,
-    pub(crate) nodes: Nodes,
-    pub(crate) workers: u8,
-    /// The welfare that is offered before any worker starts.
-    pub(crate) first_welfare: u64,
-    ghost inside: { depth ≤ length problem.now.blocks },
-    ghost few: { depth ≤ most_cut },
-    ghost some_worker: { 1 ≤ workers },
-    ghost few_workers: { workers ≤ most_workers },
-    ghost same: { W.problem walk.now ≡ problem.now },
-    ghost suits: { W.suits walk.now depth nodes ≡ true },
 }
 
 /// A seat for each worker, split off the first one.
@@ -69,8 +50,8 @@ fn split_seats<'a>(
 }
 
 /// A worker's work at its seat.
-fn work_at_seat<'a, W: PieceWalk, T: Turnstile>(
-    task: &Task<W>,
+fn work_at_seat<'a, P: PricedProblem, T: Turnstile>(
+    task: &Task<P>,
     turnstile: &T,
     seat: WorkerSeat<'a>,
 ) -> WorkedSeat<'a>
@@ -79,16 +60,14 @@ fn work_at_seat<'a, W: PieceWalk, T: Turnstile>(
         seat.entry.seat.table_id result }
 {
     let mut seat = seat;
-    let answers = walk_drawn_pieces(
-        task.alloc, task.walk, task.depth, task.nodes, &mut seat, turnstile,
-    );
+    let answers = walk_drawn_pieces(task.alloc, task, &mut seat, turnstile);
     WorkedSeat { seat, answers }
 }
 
 /// Runs the workers, each on a thread of its own if threads can be made.
-fn work_on_threads<'a, R: Threads + Sync, W: PieceWalk + Sync, T: Turnstile + Sync>(
+fn work_on_threads<'a, R: Threads + Sync, P: PricedProblem + Sync, T: Turnstile + Sync>(
     rt: &R,
-    task: &Task<W>,
+    task: &Task<P>,
     turnstile: &T,
     seats: Vec<WorkerSeat<'a>>,
 ) -> Result<Vec<WorkedSeat<'a>>, AllocError>
@@ -112,8 +91,8 @@ fn work_on_threads<'a, R: Threads + Sync, W: PieceWalk + Sync, T: Turnstile + Sy
 
 /// Joins the workers' seats into the first one, and their answers into one list, which was made with
 /// memory for them before the work.
-fn join_seats<'a, W: PieceWalk>(
-    task: &Task<W>,
+fn join_seats<'a, P: PricedProblem>(
+    task: &Task<P>,
     first: &mut WorkerSeat<'a>,
     mut worked: Vec<WorkedSeat<'a>>,
     mut answers: Vec<PieceAnswer>,
@@ -140,25 +119,26 @@ fn join_seats<'a, W: PieceWalk>(
 
 /// Has the workers share out the pieces among them, at seats that are split off the first one and
 /// joined into it again.
-fn walk_with_workers<'a, R: Threads + Sync, W: PieceWalk + Sync, T: Turnstile + Sync>(
+fn walk_with_workers<'a, R: Threads + Sync, P: PricedProblem + Sync, T: Turnstile + Sync>(
     rt: &R,
-    task: &Task<W>,
+    task: &Task<P>,
+    workers: u8,
     turnstile: &T,
     first: &mut WorkerSeat<'a>,
 ) -> Result<Vec<PieceAnswer>, AllocError>
     requires pieces { (view_of first.old.seat).pieces ≡ 2 ^ task.now.depth }
     requires undrawn { (view_of first.old.seat).drawn ≡ [] }
-    requires left { task.now.workers ≤ (view_of first.old.seat).seats_left }
+    requires left { workers ≤ (view_of first.old.seat).seats_left }
     ensures table { first.new.seat.table_id ≡ first.old.seat.table_id }
     ensures joined { IfOk result (λ answers.
         AreJoined task.now.problem.now task.now.depth task.now.nodes
         (record (view_of first.old.seat) {
-          seats_left = (view_of first.old.seat).seats_left - task.now.workers;
+          seats_left = (view_of first.old.seat).seats_left - workers;
         })
-        task.now.workers (view_of first.new.seat) answers.items) }
+        workers (view_of first.new.seat) answers.items) }
 {
     let answers = Vec::with_capacity(task.alloc, first.piece_count() as usize)?;
-    let seats = split_seats(first, task.alloc, task.workers)?;
+    let seats = split_seats(first, task.alloc, workers)?;
     let worked = work_on_threads(rt, task, turnstile, seats)?;
     join_seats(task, first, worked, answers)
 }
@@ -171,11 +151,14 @@ pub(crate) struct WalkedPieces {
 }
 
 /// Walks every piece, each of them once, beginning with the first welfare as offered.
-pub(crate) fn walk_all_pieces<R: Threads + Sync, W: PieceWalk + Sync, T: Turnstile + Sync>(
+pub(crate) fn walk_all_pieces<R: Threads + Sync, P: PricedProblem + Sync, T: Turnstile + Sync>(
     rt: &R,
-    task: &Task<W>,
+    task: &Task<P>,
+    workers: u8,
     turnstile: &T,
 ) -> Result<WalkedPieces, AllocError>
+    requires some_worker { 1 ≤ workers }
+    requires few_workers { workers ≤ most_workers }
     ensures { IfOk result (λ walked. AreAllAnswers task.now.problem.now task.now.depth
         task.now.nodes task.now.first_welfare walked.answers.items) }
 {
@@ -183,7 +166,7 @@ pub(crate) fn walk_all_pieces<R: Threads + Sync, W: PieceWalk + Sync, T: Turnsti
     let (words, seat) = new_words(task.alloc, count)?;
     let mut first = WorkerSeat::first(&words, seat, count);
     first.offer(task.first_welfare);
-    let answers = walk_with_workers(rt, task, turnstile, &mut first)?;
+    let answers = walk_with_workers(rt, task, workers, turnstile, &mut first)?;
     let seat = first.into_seat();
     let totals = close_words(words, seat);
     Ok(WalkedPieces { answers, totals })

@@ -10,9 +10,9 @@ use Rattle.dam_search.proofs.worker.walk_drawn_pieces.Goals as goal
 
 pub loop-piece-init : goal.loop-piece-init
 loop-piece-init g c = record {
-  answers = subst (λ (xs : List PieceAnswer). AreAnswersOf (g.W.PieceWalk.problem c.args.walk.now) c.args.depth c.args.nodes 0 c.args.seat.now.seat.me.0 xs)
+  answers = subst (λ (xs : List PieceAnswer). AreAnswersOf c.args.task.now.problem.now c.args.task.now.depth c.args.task.now.nodes 0 c.args.seat.now.seat.me.0 xs)
       (sym c.in_ok-answers.ensures.items)
-      (none_yet (g.W.PieceWalk.problem c.args.walk.now) c.args.depth c.args.nodes c.args.seat.now.seat.me.0 c.requires.fresh.undrawn c.requires.fresh.unoffered);
+      (none_yet c.args.task.now.problem.now c.args.task.now.depth c.args.task.now.nodes c.args.seat.now.seat.me.0 c.requires.fresh.undrawn c.requires.fresh.unoffered);
   going = c.requires.fresh.going;
   pieces = c.requires.fresh.pieces_are;
   seats = refl;
@@ -25,14 +25,14 @@ loop-piece-init g c = record {
 pub draw-requires : goal.draw-requires
 draw-requires g c = c.loop-piece.invariant.going
 
-pub walk_piece-requires-clause-piece : goal.walk_piece-requires-clause-piece
-walk_piece-requires-clause-piece g c =
+pub walk_piece-requires : goal.walk_piece-requires
+walk_piece-requires g c =
     let less = c.in-Some.ensures.piece.0 in let pieces = c.loop-piece.invariant.pieces in omega (arith, less, pieces)
 
 pub push_reserved-requires : goal.push_reserved-requires
 push_reserved-requires g c =
     let i = c.loop-piece.invariant in let v = c.loop-piece.seat.seat.me.0 in
-    let many = as_many (g.W.PieceWalk.problem c.args.walk.now) c.args.depth c.args.nodes 0 v c.loop-piece.answers.items i.answers in
+    let many = as_many c.args.task.now.problem.now c.args.task.now.depth c.args.task.now.nodes 0 v c.loop-piece.answers.items i.answers in
     let long = c.loop-piece.answers.ok.0 in let capacity = i.capacity in
     let drawn = one_drawn v c.draw.new.self.seat.me.0 c.in-Some.piece c.in-Some.ensures.piece.1 c.in-Some.ensures.few in
     let pieces = i.pieces in
@@ -57,21 +57,21 @@ loop-piece-preserved g c =
     let told = c.walk_piece.ensures.greatest_read ∙ ap (λ (x : View). max x.greatest_read a.incumbent_read) drawn in
     let top = c.walk_piece.ensures.offered ∙ ap (λ (x : View). max x.greatest_offer (welfare_found a.best)) drawn in
     record {
-      answers = subst (λ (xs : List PieceAnswer). AreAnswersOf (g.W.PieceWalk.problem c.args.walk.now) c.args.depth c.args.nodes 0 u xs)
+      answers = subst (λ (xs : List PieceAnswer). AreAnswersOf c.args.task.now.problem.now c.args.task.now.depth c.args.task.now.nodes 0 u xs)
           (sym c.push_reserved.ensures.items)
-          (one_more (g.W.PieceWalk.problem c.args.walk.now) c.args.depth c.args.nodes 0 v u c.loop-piece.answers.items a i.answers
+          (one_more c.args.task.now.problem.now c.args.task.now.depth c.args.task.now.nodes 0 v u c.loop-piece.answers.items a i.answers
           (next.drawn ∙ ap (λ (n : ℕ). v.drawn ++ n ∷ []) (sym c.walk_piece.ensures.piece)) told top c.walk_piece.ensures.walked);
       going = next.draws_past_the_end ∙ i.going;
       pieces = next.pieces ∙ i.pieces;
       seats = next.seats ∙ i.seats;
       seats_left = next.seats_left ∙ i.seats_left;
       table = ap (λ (k : View × TableId). k.1) kept ∙ c.in-Some.ensures.table ∙ i.table;
-      capacity = subst (λ (n : ℕ). 2 ^ c.args.depth ≤ n) (sym c.push_reserved.ensures.capacity) i.capacity;
+      capacity = subst (λ (n : ℕ). 2 ^ c.args.task.now.depth ≤ n) (sym c.push_reserved.ensures.capacity) i.capacity;
     }
 
 pub returns-clause-answers : goal.returns-clause-answers
 returns-clause-answers g c =
-    past_end (g.W.PieceWalk.problem c.args.walk.now) c.args.depth c.args.nodes 0 1 c.loop-piece.seat.seat.me.0 c.draw.new.self.seat.me.0
+    past_end c.args.task.now.problem.now c.args.task.now.depth c.args.task.now.nodes 0 1 c.loop-piece.seat.seat.me.0 c.draw.new.self.seat.me.0
     c.loop-piece.answers.items (c.in_default.ensures.draws_past_the_end refl) c.loop-piece.invariant.answers
 
 pub returns-clause-offered : goal.returns-clause-offered

@@ -5,14 +5,14 @@ use Rattle.dam_search.proofs.worker.walk_drawn_pieces.Given as goal
 
 abbrev pub invariant-loop-piece : goal.invariant-loop-piece
 invariant-loop-piece g l = record {
-  answers : AreAnswersOf (g.W.PieceWalk.problem l.walk) l.depth l.nodes 0 l.seat.seat.me.0 l.answers.items;
+  answers : AreAnswersOf l.task.problem.now l.task.depth l.task.nodes 0 l.seat.seat.me.0 l.answers.items;
   going : l.seat.seat.me.0.draws_past_the_end ≡ 0;
-  pieces : l.seat.seat.me.0.pieces ≡ 2 ^ l.depth;
+  pieces : l.seat.seat.me.0.pieces ≡ 2 ^ l.task.depth;
   seats : l.seat.seat.me.0.seats ≡ l.fn.seat.seat.me.0.seats;
   seats_left : l.seat.seat.me.0.seats_left ≡ l.fn.seat.seat.me.0.seats_left;
   table : l.seat.seat.table_id ≡ l.fn.seat.seat.table_id;
-  capacity : 2 ^ l.depth ≤ vec_capacity l.answers;
+  capacity : 2 ^ l.task.depth ≤ vec_capacity l.answers;
 }
 
 abbrev pub decreases-loop-piece : goal.decreases-loop-piece
-decreases-loop-piece g l = 2 ^ l.depth - length l.seat.seat.me.0.drawn
+decreases-loop-piece g l = 2 ^ l.task.depth - length l.seat.seat.me.0.drawn

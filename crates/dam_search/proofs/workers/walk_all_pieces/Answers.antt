@@ -29,7 +29,7 @@ walk_with_workers-requires-clause-left g c κs within =
     let first = ap (λ (s : Seat (Unit {0}) View). s.me.0) c.first-first.ensures
     ∙ ap (λ (m : Me (Unit {0}) View). m.0) c.in_ok-words.ensures.seat.1 in
     let left = (begun c.piece_count-count.result c.first-first.result.seat.me.0 c.offer.new.self.seat.me.0 first is).seats_left in
-    let few = c.args.task.now.few_workers in omega (arith, left, few)
+    let few = c.requires.few_workers in omega (arith, left, few)
 
 pub close_words-totals-requires-clause-all : goal.close_words-totals-requires-clause-all
 close_words-totals-requires-clause-all g c =
@@ -41,7 +41,7 @@ close_words-totals-requires-clause-all g c =
     let last = ap (λ (s : Seat (Unit {0}) View). s.me.0) c.into_seat-seat.ensures in
     let seats = ap (λ (x : View). x.seats) last in let left = ap (λ (x : View). x.seats_left) last in
     let joined = c.in_ok-answers.ensures.joined in let all = joined.seats in let rest = joined.seats_left in
-    let few = c.args.task.now.few_workers in
+    let few = c.requires.few_workers in
     omega (arith, one, most, seats, left, all, rest, few)
 
 pub returns : goal.returns
@@ -56,6 +56,6 @@ returns g c =
     let top = c.offer.ensures.greatest_offer in let none = ap (λ (x : View). x.greatest_offer) first in
     let totals = c.close_words-totals.result.draws ∷ c.close_words-totals.result.offered ∷ [] in
     let closed = subst (λ (x : View). AreClosedWords c.in_ok-words.words.shared.key totals x) last c.close_words-totals.ensures in
-    whole task.problem.now task.depth task.nodes task.first_welfare task.workers c.in_ok-words.words.shared.key totals
-    (record v { seats_left = v.seats_left - task.workers }) c.walk_with_workers.new.first.seat.me.0 c.in_ok-answers.answers.items
-    c.in_ok-answers.ensures.joined b.going (omega (arith, top, none)) c.args.task.now.some_worker (key ∙ count) closed
+    whole task.problem.now task.depth task.nodes task.first_welfare c.args.workers c.in_ok-words.words.shared.key totals
+    (record v { seats_left = v.seats_left - c.args.workers }) c.walk_with_workers.new.first.seat.me.0 c.in_ok-answers.answers.items
+    c.in_ok-answers.ensures.joined b.going (omega (arith, top, none)) c.requires.some_worker (key ∙ count) closed

@@ -1,7 +1,7 @@
 -- A power of two isn't 0, and this one fits in 32 bits.
 use Rattle.std.proofs.Common.{◌+◌, ◌^◌, ◌<◌, arith}
 use Rattle.std.proofs.lemmas.Nat.{pow_pos, pow_below}
-use Rattle.dam_search.proofs.piece_walk.node_count.Goals as goal
+use Rattle.dam_search.proofs.task.node_count.Goals as goal
 
 pub overflow_sub-result : goal.overflow_sub-result
 overflow_sub-result c =
