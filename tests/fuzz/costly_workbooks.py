@@ -182,6 +182,8 @@ LARGE = {
     "fractions": ("", lambda: table_workbook(rows_of_small_numbers(299_000), **{STYLES: b"".join(styles_of_formats(1, FRACTION))})),
     "texts of first rows": ("in the first rows of its sheets", lambda: workbook_of_sheets([rows_of_names(16_000)] * 40)),
     "texts like names": (None, lambda: workbook_of_sheets([rows_of_names(16_000, 16_000 * at) for at in range(3)])),
+    "49,000 texts like names in many sheets": (None, lambda: workbook_of_sheets(
+        [[b"<row>", *cells, b"</row>"] for cells in zip(*[iter(rows_of_names(49_000)[1:-1])] * 50)])),
     "fonts, fills and formats": ("", lambda: table_workbook(rows_of_numbers(spelled_style, 150_000), **{STYLES: styles_of_fonts(20_000)})),
     "fractions, and conditions": ("", lambda: workbook_of_sheet(
         OPEN, rows_of_small_numbers(299_000), b"</sheetData>", conditions(400_000), b"</worksheet>",

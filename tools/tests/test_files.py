@@ -433,6 +433,8 @@ class OtherKinds(unittest.TestCase):
             self.archive("auction-day.csv"): ("an archive (.zip)", "unzip FILE unpacks it"),
             self.archive("[Content_Types].xml", "xl/workbook.xml"): (excel, table),
             self.archive("mimetype", "content.xml"): ("an OpenDocument workbook (.ods)", f"save it as .xlsx, from which {table}"),
+            self.archive("xl/workbook.bin"): ("a binary Excel workbook (.xlsb)", f"save it as .xlsx, from which {table}"),
+            self.archive("Index/Document.iwa"): ("a workbook of Apple Numbers (.numbers)", f"save it as .xlsx, from which {table}"),
             OLD + "EncryptedPackage".encode("utf-16-le"): ("an Excel workbook with a password", "save it without the password"),
             OLD + "Workbook".encode("utf-16-le"): ("an old Excel workbook (.xls)", f"save it as .xlsx, from which {table}"),
             AUCTION.read_text().encode("utf-16"): ("", marked),

@@ -127,7 +127,7 @@ class Tables(unittest.TestCase):
         for shape, lines in shapes.items():
             table = (COMMANDS + "".join(f"{line}\n" for line in lines)).encode()
             tracemalloc.start()
-            found, _ = scenarios.parse_table_and_notes("a.csv", table[: table.rindex(b"\n", 0, 5_000_000)], HELD)
+            found, _ = scenarios.parse_table_and_notes("a.csv", table[: table.rindex(b"\n", 0, 5_000_000) + 1], HELD)
             most = tracemalloc.get_traced_memory()[1]
             tracemalloc.stop()
             self.assertLess(most, 32 << 20, shape)

@@ -156,6 +156,11 @@ class Columns(unittest.TestCase):
     def test_headers_of_tables_put_together(self):
         lines, notes = records_and_notes(self.ROW, HEADER, self.ROW.replace("A,", "B,"))
         self.assertEqual((len(lines), notes), (2, ["line 3 names the columns once more"]))
+        said = f"line {', '.join(map(str, range(2, 22)))} and 3,005 more names the columns once more"
+        self.assertEqual(records_and_notes(*[HEADER] * 3_025, self.ROW)[1], [said])
+        commands = order_table.parse_cells(b"what,participant,order\ncancel,A,K\nwhat,participant,order\ncancel,A,L\n")
+        found, notes = command_table.parse_commands_and_notes(commands, 24)
+        self.assertEqual(([command.name for _, command in found], notes), (["K", "L"], ["line 3 names the columns once more"]))
 
     def test_several_files(self):
         with tempfile.TemporaryDirectory() as folder:

@@ -135,16 +135,15 @@ class Orders(unittest.TestCase):
             ("group", ";", "K", [said.format("")]),
             ("group", ";", "KLM", [said.format(", as in 2 other lines")]),
             ("note", ";", "KL", ["the column 'note' isn't used", said.format(", as in 1 other line")]),
-            ("group", ",", "K", []),
             ("group", "\t", "K", []),
             ("offered_mwh", ";", "K", []),
         ):
             lines = [f"{heads},{further}", *(row.format(name) for name in names)]
             with self.subTest(further, separator=separator):
-                data = "\n".join(lines).replace(",", separator).encode()
+                data = "\n".join([*lines, ""]).replace(",", separator).encode()
                 self.assertEqual(order_table.parse_tables([("", data)], 24).notes, notes)
         for volume, group in (("5;25", ""), ("5", "G25"), ("5", ""), ("5;6", "25")):
-            data = f'{heads},group\nA,K,block,sell,64.5,8-9,"{volume}",{group}'.replace(",", ";").encode()
+            data = f'{heads},group\nA,K,block,sell,64.5,8-9,"{volume}",{group}\n'.replace(",", ";").encode()
             self.assertEqual(order_table.parse_tables([("", data)], 24).notes, [], volume)
         cancels = order_table.parse_cells(b"note;what;participant;order\n25;cancel;A;K\n")
         self.assertEqual(command_table.parse_commands_and_notes(cancels, 24)[1], ["the column 'note' isn't used"])
@@ -392,6 +391,56 @@ class CommandLine(unittest.TestCase):
         for header, row in ((heads, "NORD,A,hour,buy,12,8,100"), (f"{heads},,", "NORD,A,hour,buy,12,8,100,"), (heads, ",,,,,,,,,,,")):
             status, out, err = run_tool("table", "--journal", "-", data=f"{header}\n{row}\n".encode())
             self.assertEqual((status, b"NORD" in out), (0, "NORD" in row), err)
+
+    def test_a_decimal_comma_that_makes_a_row_as_wide_as_its_header(self):
+        """Its numbers would be those of the next columns: a row that can be read so is a fault if both readings are orders."""
+        heads, said = "participant,order,kind,side,price_eur_mwh,periods,volume_mw", "'{}' may be one number, or two cells: write {}, or {}"
+        price, volume = f"line 2, column price_eur_mwh: {said}", f"line 2, column volume_mw: {said}"
+        for further, cells, fault in (
+            ("note", "64,5,8,10", price.format("64,5", "64.5", "64.0,5")),
+            ("note", "-0,5,8,10", price.format("-0,5", "-0.5", "-0.0,5")),
+            ("note", "64.5,8,2,50", volume.format("2,50", "2.50", "2.0,50")),
+            ("note", "64.5,8,1,234", volume.format("1,234", "1234", "1.0,234")),
+            ("note", "64.5,8,1,234.50", volume.format("1,234.50", "1234.50", "1.0,234.50")),
+            ("offered_mwh", "64.5,8,2,5", volume.format("2,5", "2.5", "2.0,5")),
+            ("group", "64.5,8,2,5", volume.format("2,5", "2.5", "2.0,5")),
+            ("note,other", "64,5,8,0,5", volume.format("8,0", "8.0", "8.0,0")),
+            ("note", "64.0,5,8,10", volume.format("8,10", "8.10", "8.0,10")), ("note", "64.0,5,8.0,10", None), ("note", "64,5,8.0,10", None), ("note", "64,5,8,x", None), ("note", "64,5,25,", None),
+            ("note", "64.5,8,2.5,7", None), ("note", "64,8,2.0,7", None), ("group", "64,8,2,G1", None),
+        ):  # fmt: skip
+            with self.subTest(cells):
+                row = f"A,K,block,sell,{cells}"
+                self.assertLessEqual(row.count(","), f"{heads},{further}".count(","))
+                status, _, err = run_tool("table", "--journal", "--quiet", "-", data=f"{heads},{further}\n{row}\n".encode())
+                self.assertEqual((status, fault is None or f"table: standard input: {fault}" in err.splitlines()), (3 if fault else 0, True), err)
+        for end, is_fault in (("64,5,8,10", True), ("64.0,5,8.0,10", False)):
+            data = f"what,participant,order,price_eur_mwh,periods,volume_mw,note\namend,A,K,{end}\n".encode()
+            with self.subTest(end):
+                try:
+                    command_table.parse_commands_and_notes(order_table.parse_cells(data), 24)
+                except order_table.BadOrders as wrong:
+                    self.assertIn(price.format("64,5", "64.5", "64.0,5"), str(wrong))
+                    self.assertTrue(is_fault)
+                else:
+                    self.assertFalse(is_fault)
+
+    def test_a_last_line_without_its_end(self):
+        """It may be cut: a short one is a fault, and the last cell of another one is named in a note."""
+        rows = f"{HEADER}\n{HOUR}\n"
+        for last, cells in (("COAL,PEAK,block,sell,80,8-20,90", 7), ("COAL,PEAK,block,sell,80", 5), (BLOCK[:-5], 8), ("C", 1)):
+            words = f"has {cells} cell{'s' * (cells > 1)} and no line end, but the header has 9"
+            said = f"table: standard input: line 3: the last line {words}: get the whole file, or end the line if nothing is lost\n"
+            self.assertEqual(run_tool("table", "--journal", "-", data=f"{rows}{last}".encode()), (command.NO_INPUT, b"", said))
+        for last in ('COAL,PEAK,block,sell,80,8-9,"90', 'COAL,PEAK,block,sell,80,8-9,"', 'COAL,PEAK,block,sell,80,8-9,90,,"FI'):
+            self.assertIn("line 3, column ", run_tool("table", "--journal", "-", data=f"{rows}{last}".encode())[2])
+        for last, cell in ((BLOCK, "FILL"), (BLOCK[:-1], "FIL"), (BLOCK[:-4], ""), (f'{BLOCK[:-4]}"FILL"', None)):
+            note = f"table: standard input: line 3: the last line has no line end: its last cell, '{cell}', may be cut\n"
+            for code in ("utf-8", "utf-16"):
+                status, _, err = run_tool("table", "--journal", "-", data=f"{rows}{last}".encode(code))
+                self.assertEqual((status, err), (0, "" if cell is None else note))
+        for end in ("\n", "\r\n", "\r"):
+            self.assertEqual(run_tool("table", "--journal", "-", data=f"{rows}COAL,PEAK,block,sell,80,8-20,90{end}".encode())[::2], (0, ""))
+        self.assertEqual(order_table.parse_tables([("", HEADER.encode())], 24).notes, [])
 
     def test_the_value_of_an_option_like_the_end_of_options(self):
         texts = [AUCTION, AUCTION_RESULTS]

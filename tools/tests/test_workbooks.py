@@ -1,7 +1,9 @@
 """Excel workbooks of strangers: nothing in them is lost, and each fault has its place."""
 
 import csv
+import difflib
 import io
+import random
 import re
 import tempfile
 import time
@@ -395,6 +397,33 @@ class Unlike(unittest.TestCase):
         for attributes in ("", 'calcCompleted="1"', 'fullCalcOnLoad="0"'):
             found, _ = self.read(self.computed(attributes), I="<c t='str'><f>A1</f><v>G</v></c>", H="<c t='str'><f>A1</f><v></v></c>")
             self.assertEqual((found.order.group, found.order.parent), ("G", ""))
+
+    def test_an_array_formula_without_the_values_of_its_other_cells(self):
+        """A program that doesn't compute formulas writes its first cell alone: groups, or whole orders, would be lost."""
+        cell = lambda place, formula="", value="<v>G1</v>": (f'<c r="{place}" t="str">{formula}{value}</c>').encode()
+        line = lambda number, name, *cells: order(number, name).replace(b"</row>", b"".join(cells) + b"</row>")
+        formula = '<f t="{}" ref="{}">X2:X4</f>'.format
+        said = "the formula that fills it was saved without its value here: open the workbook in Excel, and save it"
+        whole = [cell("I3"), cell("I4", value="<v></v>")]
+        for kind in ("array", "dataTable"):
+            for ref, others, place in (
+                ("I2:I4", [b"", b""], "I3"), ("I2:I4", [cell("I3"), b""], "I4"), ("I2:I4", [cell("I3", value=""), cell("I4")], "I3"),
+                ("I2:I5", whole, "I5"), ("I2:J2", whole, "J2"), ("I2:J2", [], "J2"), ("I2:I4", [], "I3"), ("$I$2:$I$1048576", whole, "I5"),
+            ):  # fmt: skip
+                rows = [line(2, "K2", cell("I2", formula(kind, ref))), *(line(at, f"K{at}", each) for at, each in enumerate(others, 3))]
+                with self.subTest(ref, kind=kind), self.assertRaises(order_table.BadOrders) as caught:
+                    order_table.parse_tables([("", book(*rows))], 24)
+                self.assertEqual(str(caught.exception), f"sheet 'orders', cell {place}: {said}")
+            for ref in ("I2:I4", "$I$2:$I$4", "I2", "I2:I2"):
+                rows = [line(2, "K2", cell("I2", formula(kind, ref))), *(line(at, f"K{at}", each) for at, each in enumerate(whole, 3))]
+                found = order_table.parse_tables([("", book(*rows))], 24).submits
+                self.assertEqual([submit.order.group for _, submit in found], ["G1", "G1", ""])
+            for ref, words in (("I3:I4", "its formula has the range 'I3:I4', which should begin at this cell"), ("x", "its formula has the range 'x'")):
+                with self.assertRaisesRegex(order_table.BadOrders, f"cell I2: {words}"):
+                    order_table.parse_tables([("", book(line(2, "K2", cell("I2", formula(kind, ref)))))], 24)
+            rows = [line(2, "K2", cell("I2", formula(kind, "I2:I4"))), line(3, "K3", cell("I3", formula(kind, "I3:I4"))), line(4, "K4", cell("I4"))]
+            with self.assertRaisesRegex(order_table.BadOrders, "cell I3: two formulas have it in their ranges"):
+                order_table.parse_tables([("", book(*rows))], 24)
 
     def test_values_of_formulas_as_saved(self):
         """Excel computes all formulas again if an older one saved their values, or a program that it doesn't know: a note says so."""
@@ -1087,6 +1116,19 @@ class Unlike(unittest.TestCase):
                     named = {**parts, **self.parts_of_two("first", state, "Orders", "")}
                     data = made.workbook_of_sheet(made.ROOT, b"<sheetData>", first, made.CLOSE, **named)
                     self.assertEqual(order_table.parse_tables([("", data)], 24).notes, ["of 2 sheets, 'Orders' was read, but not 'first'"])
+
+    def test_many_texts_like_headings(self):
+        """difflib takes long: it compares only the texts that have enough letters of a name in their order, and finds the same ones."""
+        rng, names = random.Random("headings"), first_rows.Names(order_table.NEEDED)
+        texts = {"".join(rng.sample(name, len(name))) for name in order_table.NEEDED[4:] for _ in range(700)}
+        texts |= {f"{name[:at]}x{name[at + skipped:]}" for name in order_table.NEEDED for at in range(len(name)) for skipped in (0, 1, 2)}
+        close = {each: bool(difflib.get_close_matches(each, order_table.NEEDED, 1, first_rows.ALIKE)) for each in texts}
+        with mock.patch("difflib.get_close_matches", side_effect=difflib.get_close_matches) as compared:
+            found = {each: names.is_like_one(each) for each in texts}
+        self.assertEqual((found, sum(close.values()) > 20), (close, True))
+        self.assertLess(compared.call_count, len(texts) / 4)
+        for name in order_table.NEEDED:
+            self.assertEqual([names.is_like_one(each) for each in (name, f"{name}s", name[1:], name[::-1], "")], [False, True, len(name) > 3, False, False])
 
     def test_a_sheet_is_empty_only_if_it_was_read_to_its_end(self):
         """A cell with a shared string of spaces counts among the first rows, but can't be seen."""

@@ -19,7 +19,7 @@ class Columns:
     def __init__(self, table_cells, needed):
         names = sheets.column_names(table_cells.line_and_header()[1])
         self.places = order_table.Places({name: at for at, name in reversed(list(enumerate(names)))})  # the first of each name
-        self.table = order_table.require_order_table("", table_cells, self.needed_columns(table_cells.rows_below()), (*needed, WHAT))
+        self.table = order_table.require_order_table("", table_cells, self.needed_columns(order_table.Below(table_cells)), (*needed, WHAT))
         for name in needed:
             if name not in self.places:
                 raise order_table.BadOrders(f"line {table_cells.line_and_header()[0]}: there is no column {name}")
@@ -45,7 +45,9 @@ class Columns:
         except order_table.BadOrders as fault:
             row.faults.append(f"column {WHAT}: {fault}")
         add_other_faults(row, what)
-        return None if self.is_empty(cells) else parse_command_or_note_faults(row, what), row.faults
+        if self.is_empty(cells):
+            return None, row.faults
+        return row.parse_unsplit_or_note_faults(lambda each: parse_command_or_note_faults(each, what)), row.faults
 
 
 def is_command_table(table_cells):

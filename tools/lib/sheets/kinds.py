@@ -9,6 +9,7 @@ from ..workbooks import limits, package
 
 JOURNAL, RESULTS, REPLIES, DAY, ORDERS = "a journal", "results", "replies", "the text of a day", "a table of orders"
 EXCEL, OLD_EXCEL, OPEN = "an Excel workbook (.xlsx)", "an old Excel workbook (.xls)", "an OpenDocument workbook (.ods)"
+BINARY, NUMBERS = "a binary Excel workbook (.xlsb)", "a workbook of Apple Numbers (.numbers)"
 LOCKED, ENCRYPTED = "an Excel workbook with a password", "EncryptedPackage".encode("utf-16-le")  # in a container as old ones have
 PDF, COMPRESSED, ZIP = "a PDF", "a compressed file (.gz)", "an archive (.zip)"
 SIGNATURES = {
@@ -19,14 +20,14 @@ SIGNATURES = {
 }
 PAGE = re.compile(rb"\s*<(?:!doctype html|html)\b", re.IGNORECASE)
 WEB_PAGE = "a web page (HTML)"
-FILES = {*SIGNATURES.values(), LOCKED, OPEN, ZIP, WEB_PAGE}  # the kinds of whole files
+FILES = {*SIGNATURES.values(), LOCKED, OPEN, BINARY, NUMBERS, ZIP, WEB_PAGE}  # the kinds of whole files
 PACKED = {COMPRESSED, ZIP}
+SAVE = place.with_commands_of_here("save it as .xlsx, from which tools/table --journal FILE makes a journal, or as plain CSV")
 # The command that reads or converts a file of a kind that is given in place of a text.
 ADVICE = {
     EXCEL: place.with_commands_of_here("tools/table --journal FILE makes a journal of it, if it is a table of orders"),
-    OLD_EXCEL: place.with_commands_of_here("save it as .xlsx, from which tools/table --journal FILE makes a journal, or as plain CSV"),
     LOCKED: "save it without the password",
-    OPEN: place.with_commands_of_here("save it as .xlsx, from which tools/table --journal FILE makes a journal, or as plain CSV"),
+    **dict.fromkeys((OLD_EXCEL, BINARY, OPEN, NUMBERS), SAVE),
     PDF: "pdftotext -layout FILE shows its text",
     COMPRESSED: "gunzip FILE unpacks it",
     ZIP: "unzip FILE unpacks it",
@@ -49,6 +50,10 @@ def kind_of_archive(data):
         return EXCEL
     if "content.xml" in names and "mimetype" in names:
         return OPEN
+    if "xl/workbook.bin" in names:
+        return BINARY
+    if "Index.zip" in names or any(name.endswith(".iwa") for name in names):
+        return NUMBERS
     return EXCEL if any(name.startswith("xl/") for name in names) else ZIP
 
 

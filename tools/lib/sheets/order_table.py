@@ -36,6 +36,7 @@ DAYS = [str(periods) for periods in rules.DAYS]
 # Parts of an order or a command that are no heading: words, and cells with a digit and no letter.
 KINDS, SIDES, LETTER, DIGIT = ("hour", "block"), ("buy", "sell"), re.compile(r"[^\W\d]"), re.compile(r"\d")
 COMMAND_AT_END = re.compile("(?:submit|amend|cancel)$")  # of a cell
+SPLIT = re.compile(r"(-?[0-9]+),([0-9]+|[0-9]{3}\.[0-9]+)")  # two cells that may be a number with a comma
 
 
 class Places(dict):
@@ -151,6 +152,23 @@ class Row:
             self.faults.append(f"column periods: an hourly order has one period, not {len(numbers)}")
         of_volumes = lambda cell: cell_values.parse_volumes(cell, numbers or self.assumed_periods(cell), self.decimal_comma)
         return price, self.parse_cell_or_note_fault("volume_mw", of_volumes)
+
+    def parse_unsplit_or_note_faults(self, parse):
+        """The command that `parse` makes of the row. In a text with commas, a comma after the price or the volume may be of that number: if
+        the row could be read so too, that is a fault."""
+        command = parse(self)
+        for name in () if self.faults or self.table.decimal_comma else ("price_eur_mwh", "volume_mw"):
+            at = self.table.places.get(name, len(self.cells))
+            found = SPLIT.fullmatch(",".join(map(str.strip, self.cells[at : at + 2])))
+            if not found:
+                continue
+            other = Row([*self.cells[:at], found[1], *self.cells[at + 2 :]], self.table, self.periods, self.raises)
+            parse(other)
+            if not other.faults:
+                number = found[0].replace(",", "" if len(found[2].partition(".")[0]) == 3 else ".")
+                words = f"may be one number, or two cells: write {number}, or {found[1]}.0,{found[2]}"
+                self.faults.append(f"column {name}: {text.quoted(found[0])} {words}")
+        return command
 
     def parse_submit_or_note_faults(self):
         """The submit that the row is; of no use if something is wrong."""
@@ -292,7 +310,8 @@ def require_order_table(name, table_cells, needed=NEEDED, further=()):
     notes = [*read, *unused_notes(unused)]
     again = [number for number, cells in table_cells.rows_below() if cells == header]
     if again:
-        notes.append(f"line {', '.join(map(str, again))} names the columns once more")
+        more = f" and {len(again) - MOST_ERRORS:,} more" if len(again) > MOST_ERRORS else ""
+        notes.append(f"line {', '.join(map(str, again[:MOST_ERRORS]))}{more} names the columns once more")
     if table_cells.separator == ";" and "volume_mw" in places:
         notes += unquoted_list_notes(places, unused, table_cells.rows_below())
     return Table(name, Below(table_cells), places, len(header), table_cells.separator != ",", notes, read)
@@ -426,7 +445,7 @@ def parse_tables(sources, periods, who=None, raises=False, held=None):
                 row.parse_cell_or_note_fault("participant", cell_values.parse_participant)
                 others += 1
             else:
-                command = row.parse_submit_or_note_faults()
+                command = row.parse_unsplit_or_note_faults(Row.parse_submit_or_note_faults)
                 entered.enter_or_note_faults(table.line_words(line), row, command)
                 submits += [] if row.faults else [(number, command)]
                 raised.update(row.raised)

@@ -161,7 +161,7 @@ class Text:
 
     def __init__(self, data, notes, most, times):
         """`times`: how many times the cells and the text of a workbook it may have."""
-        self.data, self.most, self.times = data, most, times
+        self.data, self.notes, self.most, self.times = data, notes, most, times
         self.encoding = require_encoding_and_add_note(data, notes)
         self.separator = max(",;\t", key=self.first_line().count)
         self.is_counted = False  # once it was read to its end, it keeps to the limits
@@ -186,6 +186,8 @@ class Text:
                     if not self.is_counted:
                         refuse_other_ends(lines.number, lines.line, cells)
                         count.add_or_refuse(lines.number, cells)
+                        if found and not lines.line.endswith(("\n", "\r")):
+                            self.add_note_or_refuse_cut(lines.number, whole, width, lines.line.endswith('"'))
                     found += 1
                     yield lines.number, cells
                 lines.line = ""
@@ -194,6 +196,15 @@ class Text:
         except csv.Error as fault:
             raise BadTable(f"line {lines.number}: the table can't be read: {fault}") from None
         self.is_counted = True
+
+    def add_note_or_refuse_cut(self, line, cells, width, is_closed):
+        """Refuses a last line without its end that has fewer cells than the header: the others may be lost. A whole one is common: a note
+        says that its last cell may be cut, unless a quote closes it."""
+        if len(cells) < width:
+            words = f"has {text.counted(len(cells), 'cell')} and no line end, but the header has {width}"
+            raise BadTable(f"line {line}: the last line {words}: get the whole file, or end the line if nothing is lost")
+        if not is_closed:
+            self.notes.append(f"line {line}: the last line has no line end: its last cell, {text.quoted(cells[-1])}, may be cut")
 
 
 def parse_text_rows_and_add_note(data, notes):

@@ -46,18 +46,6 @@ def order_cells(row):
     return [row.who, row.name, order.kind, order.side, text.eur_per_mwh(order.price), numbers, each, order.parent, order.group]
 
 
-def outcomes(day):
-    """The outcome of each row of the book, and the surplus of a block."""
-    found = iter(zip(decisions.decisions(day.problem, day.published.accepted, day.outcome), day.published.surpluses))
-    executed = iter(day.published.executed)
-    for row in day.problem.rows:
-        if row.order.kind == "hour":
-            yield trades.execution_words(row.order, next(executed)), ""
-        else:
-            decision, surplus = next(found)
-            yield decision.kind, amount_text(day, surplus)
-
-
 def amount_of(row_trades):
     """The payment for an order's trades: to a participant for a sell, and by it, below 0, for a buy."""
     return sum(trade.amount() if trade.side == "sell" else -trade.amount() for trade in row_trades)
@@ -65,10 +53,10 @@ def amount_of(row_trades):
 
 def order_rows(day):
     yield ORDER + RESULT
-    for (row, row_trades), outcome in zip(trades.rows_and_trades(day), outcomes(day)):
-        offered = energy_text(day, sum(tenths for _, tenths in row.order.volumes))
-        executed = energy_text(day, sum(trade.volume for trade in row_trades))
-        yield [*order_cells(row), offered, executed, *outcome, amount_text(day, amount_of(row_trades))]
+    found = results_by_row(day)
+    for row in day.problem.rows:
+        offered, result = energy_text(day, sum(tenths for _, tenths in row.order.volumes)), found[row.who, row.name]
+        yield [*order_cells(row), offered, result.executed, result.outcome, result.surplus, result.amount]
 
 
 def block_rows(day):

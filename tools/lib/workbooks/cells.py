@@ -135,30 +135,6 @@ class Truth(Unlike):
     kind = "a truth value"
 
 
-class StyledString(int):
-    """The number of a shared string whose cell shows it in another way."""
-
-    __slots__ = ()
-
-
-class StruckString(int):
-    """The number of a shared string whose cell is struck out."""
-
-    __slots__ = ()
-
-
-class UnseenString(int):
-    """The number of a shared string whose cell hides it by its font."""
-
-    __slots__ = ()
-
-
-class ReversedString(int):
-    """The number of a shared string whose cell is shown from right to left."""
-
-    __slots__ = ()
-
-
 class Uncomputed(Unlike):
     """The formula of a cell that was saved without its value."""
 
@@ -213,7 +189,10 @@ class Kept:
 # The kinds of cells: before each cell of a packed row stands a half of a character, which no text has, and says its kind.
 NUMBERS_CHANGED = Changed, Currency, Repeated, Struck, Unseen, Reversed, Hidden, Rounded, Worded
 NUMBERS_SHOWN = Formatted, Price, Power, Percentage, *NUMBERS_CHANGED, Shortened
-CELLS = str, int, StyledString, StruckString, UnseenString, ReversedString, Uncomputed, Volatile, Date, *NUMBERS_SHOWN, Styled, Truth
+# The number of a shared string, which a cell has until the strings are read: a class for each kind of the cell's text.
+STRINGS = {str: int, **{kind: type(f"{kind.__name__}String", (int,), {}) for kind in (Styled, Struck, Unseen, Reversed)}}
+KINDS_OF_STRINGS = {number: kind for kind, number in STRINGS.items()}
+CELLS = str, *KINDS_OF_STRINGS, Uncomputed, Volatile, Date, *NUMBERS_SHOWN, Styled, Truth
 HALVES = {kind: chr(0xD800 + at) for at, kind in enumerate(CELLS)}
 PACKED = re.compile("([\ud800-\udfff])([^\ud800-\udfff]*)")
 
@@ -239,6 +218,11 @@ class Rows(Kept):
 def changes_from_right(words):
     """Whether parts of a text change places if it is shown from right to left."""
     return not EITHER_WAY.fullmatch(words.strip())
+
+
+def text_of_kind(kind, words):
+    """The text of a cell of a kind; a plain one if it is the same from right to left."""
+    return words if kind is str or kind is Reversed and not changes_from_right(words) else kind(words)
 
 
 def trimmed(cells):

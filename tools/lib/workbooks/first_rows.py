@@ -19,6 +19,7 @@ class Names:
 
     def __init__(self, names):
         self.names, self.alike = set(names), {}
+        self.letters = {name: {letter: sum(1 << at for at, each in enumerate(name) if each == letter) for letter in name} for name in names}
         self.fewest = min(2, len(self.names))  # how many of them are a row of headings
         self.longest = max(map(len, names), default=0) * (2 / ALIKE - 1)  # the length of a text like the longest one
 
@@ -29,8 +30,20 @@ class Names:
     def is_like_one(self, words):
         """Whether a text isn't a name, but like one."""
         if words not in self.alike:
-            self.alike[words] = words not in self.names and bool(difflib.get_close_matches(words, self.names, 1, ALIKE))
+            near = [name for name in self.names if words not in self.names and self.may_be_like(words, name)]
+            self.alike[words] = bool(near and difflib.get_close_matches(words, near, 1, ALIKE))
         return self.alike[words]
+
+    def may_be_like(self, words, name):
+        """Whether a text may be like a name: enough of the name's letters stand in it in their order. It takes less time than difflib."""
+        fewest = ALIKE / 2 * (len(words) + len(name))
+        if min(len(words), len(name)) < fewest:
+            return False
+        letters, rest = self.letters[name], 2 ** len(name) - 1  # a bit for each letter that the longest such part lacks
+        for letter in words:
+            found = rest & letters.get(letter, 0)
+            rest = rest + found | rest - found
+        return len(name) - (rest % 2 ** len(name)).bit_count() >= fewest
 
 
 class Headings(NamedTuple):

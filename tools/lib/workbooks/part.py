@@ -35,6 +35,7 @@ def truth_word_or_none(attributes, name):
 class Place(NamedTuple):
     """The place of an element in another one."""
 
+    name: str
     rank: int  # among those that may stand there
     repeats: bool  # whether several may
 
@@ -52,7 +53,7 @@ class Part:
         self.prefix = ""  # of the known names: the namespace
         self.within, self.ranks = [""], [-1]  # the elements around this place, and the rank of the last one in each
         self.left_out, self.outside = 0, ""  # how deep it is in an element that is left out, and the name of that
-        self.places, self.known = places_and_known_elements(type(self))
+        self.places, self.known = {}, places_and_known_elements(type(self), "")[1]  # the places once the namespace is known
         self.opening, self.closing = ({name: getattr(self, f"{when}_{name}", None) for name in self.known} for when in ("open", "close"))
         self.kept = {f"{space} {name}" for space in self.NAMESPACES for name in self.known - self.ELSEWHERE}
         self.taken, self.length = [], 0
@@ -104,21 +105,28 @@ class Part:
             return
         if not self.prefix:
             self.begin_root_or_refuse(name)
-        within, is_own = self.within[-1], name.startswith(self.prefix)
-        local = name[len(self.prefix) :] if is_own else name
-        place = self.places[within].get(local) if is_own else None
+        within, ranks = self.within, self.ranks
+        place = self.places[within[-1]].get(name)
         if place is None:
-            self.refuse_stranger(within, local if is_own else ANY_OTHERS, local)
-        else:
-            self.note_place_or_refuse(within, local, place)
-        if place is None or local in LEFT_OUT:
-            self.left_out, self.outside = 1, local
-            self.parser.CharacterDataHandler = None
+            self.refuse_stranger(within[-1], name)
+            self.leave_out(name.removeprefix(self.prefix))
             return
-        self.within.append(local)
-        self.ranks.append(-1)
+        local, rank, repeats = place
+        if rank < ranks[-1] or rank == ranks[-1] and not repeats:
+            raise self.place_error(within[-1], place)
+        ranks[-1] = rank
+        if local in LEFT_OUT:
+            self.leave_out(local)
+            return
+        within.append(local)
+        ranks.append(-1)
         if call := self.opening[local]:
             call(attributes)
+
+    def leave_out(self, name):
+        """Leaves out an element that has begun, with everything in it."""
+        self.left_out, self.outside = 1, name
+        self.parser.CharacterDataHandler = None
 
     def pass_left_out_or_refuse(self, name, attributes):
         """Passes an element in one that is left out."""
@@ -132,21 +140,21 @@ class Part:
     def refuse_in_left_out(self, name, attributes):
         """Refuses an element of any namespace, in one that is left out, that changes what the part shows."""
 
-    def refuse_stranger(self, within, kind, name):
+    def refuse_stranger(self, within, name):
         """Refuses an element that isn't a known one, unless it may stand here."""
-        if kind not in self.BETWEEN.get(within, ()):
-            raise self.error_of(f"an element {text.quoted(name)} stands in {text.quoted(within)}")
-        if EXTENSIONS in self.places[within] and self.ranks[-1] == self.places[within][EXTENSIONS].rank:
-            raise self.error_of(f"an element {text.quoted(name)} stands after the extensions of {text.quoted(within)}")
+        local, places = name.removeprefix(self.prefix), self.places[within]
+        if (ANY_OTHERS if local == name else local) not in self.BETWEEN.get(within, ()):
+            raise self.error_of(f"an element {text.quoted(local)} stands in {text.quoted(within)}")
+        last = places.get(self.prefix + EXTENSIONS)
+        if last and self.ranks[-1] == last.rank:
+            raise self.error_of(f"an element {text.quoted(local)} stands after the extensions of {text.quoted(within)}")
 
-    def note_place_or_refuse(self, within, name, place):
-        """Notes the place of an element, or refuses it: one that should stand once, or before the one that it follows."""
-        if place.rank < self.ranks[-1]:
-            last = next(other for other, each in self.places[within].items() if each.rank == self.ranks[-1])
-            raise self.error_of(f"an element {name!r} of {within!r} stands after {last!r}, but should stand before it")
-        if place.rank == self.ranks[-1] and not place.repeats:
-            raise self.error_of(f"two elements {name!r} stand in {within!r}")
-        self.ranks[-1] = place.rank
+    def place_error(self, within, place):
+        """The fault of an element that should stand once, or before the one that it follows."""
+        if place.rank == self.ranks[-1]:
+            return self.error_of(f"two elements {place.name!r} stand in {within!r}")
+        last = next(each.name for each in self.places[within].values() if each.rank == self.ranks[-1])
+        return self.error_of(f"an element {place.name!r} of {within!r} stands after {last!r}, but should stand before it")
 
     def close_element(self, name):
         if self.left_out:
@@ -168,6 +176,7 @@ class Part:
         if namespace not in self.NAMESPACES or name != self.ROOT:
             raise broken_error(f"a part has {text.quoted(name)} instead of {self.ROOT!r} as its first element")
         self.prefix = f"{namespace} "
+        self.places = places_and_known_elements(type(self), self.prefix)[0]
 
     def error_of(self, words):
         return broken_error(words)
@@ -198,13 +207,14 @@ class Part:
 
 
 @functools.lru_cache(None)
-def places_and_known_elements(kind):
-    """The places of a kind of parts, and its known elements."""
+def places_and_known_elements(kind, prefix):
+    """The places of a kind of parts, in each element by the names with the namespace; and its known elements."""
     places, known = {}, set()
     for within, names in kind.PLACES.items():
         ranked = [(rank, each) for rank, alike in enumerate(names.split()) for each in alike.split("|")]
-        places[within] = {name.rstrip("*"): Place(rank, name.endswith("*")) for rank, name in ranked}
-        known.update(places[within])
+        found = [Place(each.rstrip("*"), rank, each.endswith("*")) for rank, each in ranked]
+        places[within] = {prefix + place.name: place for place in found}
+        known.update(place.name for place in found)
     return {**{name: {} for name in known}, **places}, known - LEFT_OUT
 
 

@@ -5,8 +5,8 @@ import math
 import re
 
 from ..base import text
-from .cells import Date, Hidden, Kept, Numbers, Reversed, ReversedString, Rows, Struck, StruckString, Styled, StyledString, Truth
-from .cells import Uncomputed, Unseen, UnseenString, Volatile, changes_from_right, column_name, column_number, trimmed, unescaped
+from .cells import KINDS_OF_STRINGS, STRINGS, Date, Hidden, Kept, Numbers, Reversed, Rows, Struck, Styled, Truth, Uncomputed, Unseen
+from .cells import Volatile, column_name, column_number, text_of_kind, trimmed, unescaped
 from .formulas import has_name, has_volatile_function
 from .limits import LAST_COLUMN, LAST_ROW, MOST_CELLS, MOST_ELEMENTS, MOST_OF_FORMULAS, MOST_TEXT, BadWorkbook
 from .limits import broken_error, memory_size, too_many_error
@@ -107,6 +107,7 @@ class Sheet(Texts):
         self.first_formula = None  # its row and its column
         self.shared_volatile = Numbers()  # of the formulas that cells share, those that are volatile
         self.has_data = self.hides_zeros = False
+        self.unfilled = {}  # of each column in the range of a formula of many cells, the next row that needs a value, and the last one
 
     def error_of(self, words):
         column = column_name(self.column) if self.column else ""
@@ -128,6 +129,7 @@ class Sheet(Texts):
         number = int(found) if PLACE.fullmatch(found) else 0
         if not 1 <= number <= LAST_ROW:
             raise self.error_of(f"a row has the number {text.quoted(found)}: they go from 1 to {LAST_ROW}")
+        self.refuse_unfilled(number)
         last, self.row, self.column, self.cells = self.row, number, 0, []
         if number <= last:
             raise self.error_of("it occurs twice" if number == last else f"it stands after row {last}, but the rows should increase")
@@ -177,7 +179,32 @@ class Sheet(Texts):
     def open_f(self, attributes):
         self.is_volatile = truth_word_or_none(attributes, "ca") == "TRUE"
         self.shared = attributes.get("si")
+        if attributes.get("t") in ("array", "dataTable") and "ref" in attributes:
+            self.note_range_or_refuse(attributes.get("ref", ""))
         self.keep_text()
+
+    def note_range_or_refuse(self, ref):
+        """Notes the cells that a formula fills: each needs its value, which a program that doesn't compute formulas leaves out."""
+        found = RANGE.fullmatch(ref)
+        if not found or (column_number(found[1]), int(found[2])) != (self.column, self.row):
+            raise self.error_of(f"its formula has the range {text.quoted(ref)}, which should begin at this cell")
+        last, bottom = column_number(found[3] or found[1]), int(found[4] or found[2])
+        for column in range(self.column, last + 1) if (last, bottom) != (self.column, self.row) else ():
+            if column in self.unfilled:
+                raise self.error_of("two formulas have it in their ranges")
+            self.unfilled[column] = [self.row, bottom]
+
+    def refuse_unfilled(self, end):
+        """Refuses the rows before this one if a cell in the range of a formula has no value there."""
+        for column, (row, bottom) in list(self.unfilled.items()):
+            if row < min(end, bottom + 1):
+                self.row, self.column, self.cells = row, column, []
+                raise self.error_of("the formula that fills it was saved without its value here: open the workbook in Excel, and save it")
+            if row > bottom:
+                del self.unfilled[column]
+
+    def close_sheetData(self):
+        self.refuse_unfilled(LAST_ROW + 1)
 
     def close_v(self):
         self.allow_no_text()
@@ -206,6 +233,8 @@ class Sheet(Texts):
 
     def close_c(self):
         words = self.content_or_refuse()
+        if self.column in self.unfilled and (self.value or self.value is not None and self.kind == "str"):
+            self.unfilled[self.column][0] = self.row + 1
         if words == "":
             return
         self.count_of_cells += self.column - len(self.cells)
@@ -238,10 +267,9 @@ class Sheet(Texts):
         if kind == "s":
             if not WHOLE.fullmatch(value) or not 0 <= int(value) < MOST_ELEMENTS:
                 raise self.error_of(f"it has no string {text.quoted(value)}")
-            return self.text_kind_or_refuse(int, StyledString, StruckString, UnseenString, ReversedString)(value)
+            return STRINGS[self.text_kind_or_refuse()](value)
         if kind in ("str", "inlineStr"):
-            words, of_text = unescaped(value), self.text_kind_or_refuse(str, Styled, Struck, Unseen, Reversed)
-            return words if of_text is Reversed and not changes_from_right(words) else of_text(words)
+            return text_of_kind(self.text_kind_or_refuse(), unescaped(value))
         if kind == "e" and value:
             return value
         if kind == "b" and value in TRUTHS:
@@ -250,16 +278,16 @@ class Sheet(Texts):
             return Date(found[1])
         raise self.error_of(f"{text.quoted(value)} isn't of its type, {text.quoted(kind)}")
 
-    def text_kind_or_refuse(self, plain, styled, struck, unseen, from_right):
-        """Of the kinds of a text, the one that the cell is: shown as it is, in another way, struck out, unseen, or from right to left."""
+    def text_kind_or_refuse(self):
+        """The kind of the cell's text."""
         number = self.style_number_or_refuse()
         if number in self.book.struck:
-            return struck
+            return Struck
         if number in self.book.unseen:
-            return unseen
+            return Unseen
         if self.is_marked or number in self.book.styled:
-            return styled
-        return from_right if number in self.book.from_right else plain
+            return Styled
+        return Reversed if number in self.book.from_right else str
 
     def number_text_or_refuse(self, value):
         """A number with the digits that Excel shows, or the date that it stands for."""
@@ -374,19 +402,10 @@ class Sheet(Texts):
                     words = shared.texts.get(cell)
                     if words is None:
                         raise self.error_of(f"it has no string '{cell}'")
-                    self.cells[at] = shared_text(cell, words, cell in shared.styled)
+                    kind = KINDS_OF_STRINGS[type(cell)]
+                    is_marked = kind in (str, Reversed) and cell in shared.styled
+                    self.cells[at] = text_of_kind(Styled if is_marked else kind, words)
                     self.count_text_or_refuse(words)
             if cells := trimmed(self.cells):
                 rows.add(self.row, cells)
         return rows
-
-
-def shared_text(cell, words, is_marked):
-    """The text of a cell with a shared string."""
-    if isinstance(cell, StruckString):
-        return Struck(words)
-    if isinstance(cell, UnseenString):
-        return Unseen(words)
-    if is_marked or isinstance(cell, StyledString):
-        return Styled(words)
-    return Reversed(words) if isinstance(cell, ReversedString) and changes_from_right(words) else words
