@@ -167,20 +167,6 @@ all_reached problem answers value r all =
     All-weaker (λ (a : PieceAnswer). a.incumbent_read ≤ value) (λ (a : PieceAnswer). IsReached problem a.incumbent_read)
     (λ (a : PieceAnswer) (h : a.incumbent_read ≤ value). reached_less problem value a.incumbent_read h r) answers all
 
--- ---- a worker's answer
-
-pub spent_less : (problem : ProblemState) (prefix : List Bool) (left told nodes visited read : ℕ) (done : Bool)
-    → IsSpent problem prefix left told nodes visited read done → IsSpent problem prefix left 0 nodes visited read done
-spent_less problem prefix left told nodes visited read done s = record {
-  within = s.within;
-  all = s.all;
-  live = λ v h. s.live v (omega (arith, h));
-  unfinished = s.unfinished;
-  done_by_all = s.done_by_all;
-  done_by_live = λ v h. s.done_by_live v (omega (arith, h));
-  needed = s.needed;
-}
-
 -- ---- the limit on nodes
 
 -- a value that is reached is no greater than the result's welfare
