@@ -31,7 +31,7 @@ use std::thread::Threads;
 use std::time::Clock;
 
 /// The status of a command line that is refused.
-const REFUSED_LINE: u8 = 2;
+const REFUSED_STATUS: u8 = 2;
 
 fn main(rt: HostRuntime) -> ExitCode {
     let words = match read_program_words(&rt) {
@@ -180,5 +180,5 @@ fn print_refusal(rt: &HostRuntime, text: &str, words: &[String]) -> ExitCode
             );
         }
     }
-    ExitCode::from(REFUSED_LINE)
+    ExitCode::from(REFUSED_STATUS)
 }

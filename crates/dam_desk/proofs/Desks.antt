@@ -6,7 +6,6 @@ use Rattle.sqlite_disk.specs.declared.Disk.{Ghosts}
 use Rattle.dam_store.specs.FileLines.{HaveNoNewline, StandsForEither, has_byte, text_of}
 use Rattle.dam_store.specs.Store.{IsSafe, disk_of, held_lines}
 use Rattle.dam_store.specs.declared.fault.StoreFault.{StoreFault}
-use Rattle.dam_store.specs.declared.fault.StoreFault.TheVariants as store
 use Rattle.dam_store.specs.declared.store.Store.{Store}
 use Rattle.dam_desk.specs.DeskJournal.{Journal, State, AreLines, OpensTo, ReadsBack, desk_journal_text, next}
 use Rattle.dam_desk.specs.Desk.{DeskHasAnswered, Finishes, IsDesk, IsEnding, LinesAreAnswered, MayLeave, OpensAfter, Served, end_answer}
@@ -16,6 +15,7 @@ use Rattle.dam_desk.specs.declared.fault.DeskFault.{DeskFault}
 use Rattle.dam_desk.specs.declared.fault.DeskFault.TheVariants.{File, OwnOutput, Store as Stores, NotAJournal, Respelled, Read, Write, Memory}
 use Rattle.dam_desk.specs.inside.Intake.{HasRead}
 use Rattle.dam_desk.specs.declared.intake.Intake.{Intake}
+use Rattle.dam_desk.proofs.Cases.{by_store, by_writing}
 use Rattle.dam_desk.proofs.Runs.{answers_both}
 use Rattle.dam_desk.proofs.Texts.{all_both, text_more}
 
@@ -26,14 +26,7 @@ after_count before part printed written one other small =
     omega (arith, one, other, small)
 
 pub store_says : (count : ℕ) (fault : StoreFault) → SaysCount count (of_store fault)
-store_says count store.Memory = tt
-store_says count store.NotAStore = tt
-store_says count store.TooLong = tt
-store_says count store.Full = tt
-store_says count store.Broken = tt
-store_says count (store.Read error) = tt
-store_says count (store.Write error) = tt
-store_says count (store.Sync error) = tt
+store_says count fault = by_store (λ why told. SaysCount count told) tt (λ why other. tt) fault
 
 -- the fault of a part says how much of the whole was taken
 pub says_after : (before part printed : ℕ) (fault : DeskFault) → (before < 2 ^ 64 → printed ≡ before) → SaysCount part fault
@@ -372,14 +365,9 @@ finishes desk state given first old mid new taken written =
 -- a fault of the writer comes after some of the text, and says after how much
 pub written_fault : (old new : Option (List ℕ)) (text : List ℕ) (fault : DeskFault) → IsWritingFault old new text fault
     → (count : ℕ) × Appends old new (take count text) × SaysCount count fault
-written_fault old new text (Write written) fault = (written, fault.1, λ small. refl)
-written_fault old new text (File why) fault = absurd fault
-written_fault old new text OwnOutput fault = absurd fault
-written_fault old new text (Stores why) fault = absurd fault
-written_fault old new text (NotAJournal why) fault = absurd fault
-written_fault old new text Respelled fault = absurd fault
-written_fault old new text Read fault = absurd fault
-written_fault old new text Memory fault = absurd fault
+written_fault old new text fault is =
+    by_writing old new text (λ told. (count : ℕ) × Appends old new (take count text) × SaysCount count told) (λ written front. (written, front.1, λ small. refl))
+    fault is
 
 pub written_part : {X : Type 0} (old new : Option (List ℕ)) (text : List ℕ) (r : Result X DeskFault) → IfErr r (IsWritingFault old new text)
     → IfErr r (λ fault. (count : ℕ) × Appends old new (take count text) × SaysCount count fault)
@@ -438,21 +426,7 @@ all_given old mid new given buffer count before last none ended =
     Consumes-whole old new given (λ (bytes : List ℕ). bytes ≡ given) (nothing_more old mid new given buffer count before last none) ended refl
 
 pub writing_no_read : (old new : Option (List ℕ)) (text : List ℕ) (fault : DeskFault) → IsWritingFault old new text fault → is_read fault ≡ false
-writing_no_read old new text (File why) is = absurd is
-writing_no_read old new text OwnOutput is = absurd is
-writing_no_read old new text (Stores fault) is = absurd is
-writing_no_read old new text (NotAJournal fault) is = absurd is
-writing_no_read old new text Respelled is = absurd is
-writing_no_read old new text Read is = absurd is
-writing_no_read old new text (Write written) is = refl
-writing_no_read old new text Memory is = absurd is
+writing_no_read old new text fault is = by_writing old new text (λ told. is_read told ≡ false) (λ written front. refl) fault is
 
 pub store_no_read : (fault : StoreFault) → is_read (of_store fault) ≡ false
-store_no_read store.Memory = refl
-store_no_read store.NotAStore = refl
-store_no_read store.TooLong = refl
-store_no_read store.Full = refl
-store_no_read store.Broken = refl
-store_no_read (store.Read error) = refl
-store_no_read (store.Write error) = refl
-store_no_read (store.Sync error) = refl
+store_no_read fault = by_store (λ why told. is_read told ≡ false) refl (λ why other. refl) fault

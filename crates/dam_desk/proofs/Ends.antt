@@ -7,7 +7,7 @@ use Rattle.dam_store.specs.declared.fault.StoreFault.{StoreFault}
 use Rattle.dam_store.specs.declared.fault.StoreFault.TheVariants as store
 use Rattle.dam_desk.specs.Faults.{IsEndFault, IsWritingFault, fault_after, is_failed_sync as desk_failed_sync, is_read, is_write, of_store}
 use Rattle.dam_desk.specs.declared.fault.DeskFault.{DeskFault}
-use Rattle.dam_desk.specs.declared.fault.DeskFault.TheVariants.{File, OwnOutput, Store, NotAJournal, Respelled, Read, Write, Memory}
+use Rattle.dam_desk.proofs.Cases.{by_after, by_writing}
 
 -- a write or a sync failed, or the lines have no room
 abbrev IsAppendFault : Bool → ℕ → ℕ → StoreFault → Type 0
@@ -54,14 +54,7 @@ end_store is_clean before after fault broken ready kinds more full =
 -- the writer failed
 pub end_writing : (is_clean : Bool) (before after : ℕ) (old new : Option (List ℕ)) (text : List ℕ) (fault : DeskFault) → after ≡ before
     → IsWritingFault old new text fault → IsEndFault is_clean before after fault
-end_writing is_clean before after old new text (File why) same is = absurd is
-end_writing is_clean before after old new text OwnOutput same is = absurd is
-end_writing is_clean before after old new text (Store why) same is = absurd is
-end_writing is_clean before after old new text (NotAJournal why) same is = absurd is
-end_writing is_clean before after old new text Respelled same is = absurd is
-end_writing is_clean before after old new text Read same is = absurd is
-end_writing is_clean before after old new text (Write written) same is = same
-end_writing is_clean before after old new text Memory same is = absurd is
+end_writing is_clean before after old new text fault same is = by_writing old new text (IsEndFault is_clean before after) (λ written front. same) fault is
 
 pub end_counts : {is_clean was_clean : Bool} {before after was is : ℕ} (fault : DeskFault) → is_clean ≡ was_clean → before ≡ was → after ≡ is
     → IsEndFault is_clean before after fault → IsEndFault was_clean was is fault
@@ -78,41 +71,13 @@ err_is (Err why) P fault same p = subst P (sym same) p
 -- a fault of a longer text is of the same kind
 pub end_after : (is_clean : Bool) (before after printed : ℕ) (fault : DeskFault) → IsEndFault is_clean before after fault
     → IsEndFault is_clean before after (fault_after printed fault)
-end_after is_clean before after printed (File why) is = absurd is
-end_after is_clean before after printed OwnOutput is = absurd is
-end_after is_clean before after printed (Store why) is = is
-end_after is_clean before after printed (NotAJournal why) is = absurd is
-end_after is_clean before after printed Respelled is = absurd is
-end_after is_clean before after printed Read is = is
-end_after is_clean before after printed (Write written) is = is
-end_after is_clean before after printed Memory is = is
+end_after is_clean before after printed fault is = by_after (IsEndFault is_clean before after) printed (λ written same. same) fault is
 
 pub sync_after : (printed : ℕ) (fault : DeskFault) → desk_failed_sync (fault_after printed fault) ≡ desk_failed_sync fault
-sync_after printed (File why) = refl
-sync_after printed OwnOutput = refl
-sync_after printed (Store why) = refl
-sync_after printed (NotAJournal why) = refl
-sync_after printed Respelled = refl
-sync_after printed Read = refl
-sync_after printed (Write written) = refl
-sync_after printed Memory = refl
+sync_after printed fault = by_after (λ told. desk_failed_sync told ≡ desk_failed_sync fault) printed (λ written same. same) fault refl
 
 pub read_after : (printed : ℕ) (fault : DeskFault) → is_read (fault_after printed fault) ≡ is_read fault
-read_after printed (File why) = refl
-read_after printed OwnOutput = refl
-read_after printed (Store why) = refl
-read_after printed (NotAJournal why) = refl
-read_after printed Respelled = refl
-read_after printed Read = refl
-read_after printed (Write written) = refl
-read_after printed Memory = refl
+read_after printed fault = by_after (λ told. is_read told ≡ is_read fault) printed (λ written same. same) fault refl
 
 pub write_after : (printed : ℕ) (fault : DeskFault) → is_write (fault_after printed fault) ≡ is_write fault
-write_after printed (File why) = refl
-write_after printed OwnOutput = refl
-write_after printed (Store why) = refl
-write_after printed (NotAJournal why) = refl
-write_after printed Respelled = refl
-write_after printed Read = refl
-write_after printed (Write written) = refl
-write_after printed Memory = refl
+write_after printed fault = by_after (λ told. is_write told ≡ is_write fault) printed (λ written same. same) fault refl

@@ -1,4 +1,5 @@
 mod Lists
+mod Cases
 mod AfterDay
 mod Readings
 mod Crashes

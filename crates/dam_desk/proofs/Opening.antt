@@ -13,8 +13,8 @@ use Rattle.dam_desk.specs.Faults.{IsFileFault, IsOpenFault, IsWrittenJournalFaul
 use Rattle.dam_desk.specs.declared.desk_day.Day.{Day}
 use Rattle.dam_desk.specs.declared.desk.Desk.{Desk}
 use Rattle.dam_desk.specs.declared.fault.DeskFault.{DeskFault}
-use Rattle.dam_desk.specs.declared.fault.DeskFault.TheVariants.{File, OwnOutput, Store, NotAJournal, Respelled, Read, Write, Memory}
 use Rattle.dam_desk.specs.inside.Intake.{HasJournal, IsReopened}
+use Rattle.dam_desk.proofs.Cases.{by_store, by_text}
 
 same_lines : (lines other : List (List ℕ)) (file : List ℕ) → StandsFor lines file → StandsFor other file → lines ≡ other
 same_lines lines other file a b = let is = sym a ∙ b in cc
@@ -55,25 +55,13 @@ kind file why other (inr (inl refused)) = inr refused
 kind file why other (inr (inr memory)) = absurd (other memory)
 
 pub store_cause : (file : List ℕ) (why : StoreFault) → IsKind file why → IsOpenFault file (of_store why)
-store_cause file store.Memory is = inr tt
-store_cause file store.NotAStore is = kind file store.NotAStore (λ same. cc) is
-store_cause file store.TooLong is = kind file store.TooLong (λ same. cc) is
-store_cause file store.Full is = kind file store.Full (λ same. cc) is
-store_cause file store.Broken is = kind file store.Broken (λ same. cc) is
-store_cause file (store.Read error) is = kind file (store.Read error) (λ same. cc) is
-store_cause file (store.Write error) is = kind file (store.Write error) (λ same. cc) is
-store_cause file (store.Sync error) is = kind file (store.Sync error) (λ same. cc) is
+store_cause file why is =
+    by_store (λ fault told. IsKind file fault → IsOpenFault file told) (λ memory. inr tt) (kind file) why is
 
 pub text_cause : (file : List ℕ) (lines : List (List ℕ)) → StandsFor lines file → (why : DeskFault) → IsWrittenJournalFault (text_of lines) why
     → IsFileFault file why
-text_cause file lines stands Memory is = tt
-text_cause file lines stands (Store fault) is = absurd is
-text_cause file lines stands (File why) is = absurd is
-text_cause file lines stands OwnOutput is = absurd is
-text_cause file lines stands (NotAJournal fault) is = (lines, stands, is)
-text_cause file lines stands Respelled is = (lines, stands, is)
-text_cause file lines stands Read is = absurd is
-text_cause file lines stands (Write written) is = absurd is
+text_cause file lines stands why is =
+    by_text (IsFileFault file) tt (λ fault reads. (lines, stands, reads)) (λ spelt. (lines, stands, spelt)) why is
 
 -- a write that failed is a call that failed
 pub write_failure : (why : StoreFault) → store_failed_write why ≡ true → is_failure why ≡ true
@@ -109,69 +97,30 @@ sync_failure (store.Write error) failed = refl
 sync_failure (store.Sync error) failed = refl
 
 pub write_of : (why : StoreFault) → store_failed_write why ≡ true → is_failed_write (of_store why) ≡ true
-write_of store.Memory failed = failed
-write_of store.NotAStore failed = failed
-write_of store.TooLong failed = failed
-write_of store.Full failed = failed
-write_of store.Broken failed = failed
-write_of (store.Read error) failed = failed
-write_of (store.Write error) failed = refl
-write_of (store.Sync error) failed = refl
+write_of why failed =
+    by_store (λ fault told. store_failed_write fault ≡ true → is_failed_write told ≡ true) (λ is. is) (λ fault other is. is) why failed
 
 pub call_of : (why : StoreFault) → is_failed_call (of_store why) ≡ is_failure why
-call_of store.Memory = refl
-call_of store.NotAStore = refl
-call_of store.TooLong = refl
-call_of store.Full = refl
-call_of store.Broken = refl
-call_of (store.Read error) = refl
-call_of (store.Write error) = refl
-call_of (store.Sync error) = refl
+call_of why = by_store (λ fault told. is_failed_call told ≡ is_failure fault) refl (λ fault other. refl) why
 
 pub sync_of : (why : StoreFault) → desk_failed_sync (of_store why) ≡ is_failed_sync why
-sync_of store.Memory = refl
-sync_of store.NotAStore = refl
-sync_of store.TooLong = refl
-sync_of store.Full = refl
-sync_of store.Broken = refl
-sync_of (store.Read error) = refl
-sync_of (store.Write error) = refl
-sync_of (store.Sync error) = refl
+sync_of why = by_store (λ fault told. desk_failed_sync told ≡ is_failed_sync fault) refl (λ fault other. refl) why
 
 -- a text's fault is no failed sync
 pub text_no_sync : (text : List ℕ) (why : DeskFault) → IsWrittenJournalFault text why → desk_failed_sync why ≡ false
-text_no_sync text Memory is = refl
-text_no_sync text (Store fault) is = absurd is
-text_no_sync text (File why) is = absurd is
-text_no_sync text OwnOutput is = absurd is
-text_no_sync text (NotAJournal fault) is = refl
-text_no_sync text Respelled is = refl
-text_no_sync text Read is = absurd is
-text_no_sync text (Write written) is = absurd is
+text_no_sync text why is = by_text (λ told. desk_failed_sync told ≡ false) refl (λ fault reads. refl) (λ spelt. refl) why is
 
 abbrev IsNoStream : DeskFault → Type 0
 IsNoStream why = (is_read why ≡ false) × (is_write why ≡ false)
 
 store_no_stream : (why : StoreFault) → IsNoStream (of_store why)
-store_no_stream store.Memory = (refl, refl)
-store_no_stream store.NotAStore = (refl, refl)
-store_no_stream store.TooLong = (refl, refl)
-store_no_stream store.Full = (refl, refl)
-store_no_stream store.Broken = (refl, refl)
-store_no_stream (store.Read error) = (refl, refl)
-store_no_stream (store.Write error) = (refl, refl)
-store_no_stream (store.Sync error) = (refl, refl)
+store_no_stream why = by_store (λ fault told. IsNoStream told) (refl, refl) (λ fault other. (refl, refl)) why
 
 -- a text's fault is no failed call, neither of the disk nor of a stream
 text_no_call : (text : List ℕ) (why : DeskFault) → IsWrittenJournalFault text why → (is_failed_call why ≡ false) × IsNoStream why
-text_no_call text Memory is = (refl, (refl, refl))
-text_no_call text (Store fault) is = absurd is
-text_no_call text (File why) is = absurd is
-text_no_call text OwnOutput is = absurd is
-text_no_call text (NotAJournal fault) is = (refl, (refl, refl))
-text_no_call text Respelled is = (refl, (refl, refl))
-text_no_call text Read is = absurd is
-text_no_call text (Write written) is = absurd is
+text_no_call text why is =
+    by_text (λ told. (is_failed_call told ≡ false) × IsNoStream told) (refl, (refl, refl)) (λ fault reads. (refl, (refl, refl)))
+    (λ spelt. (refl, (refl, refl))) why is
 
 early_kind : (file : List ℕ) (why : StoreFault) → (is_refused_file why ≡ true → IsRefused file why)
     → (is_failed_read why ≡ true) ⊎ ((is_failed_sync why ≡ true) ⊎ ((is_refused_file why ≡ true) ⊎ (why ≡ store.Memory))) → IsKind file why

@@ -1,5 +1,6 @@
 -- The reader and the writer of a desk.
-use Rattle.std.specs.Prelude.{◌≡◌, ◌⊎◌, true, false, Result, Ok, Err}
+use Rattle.std.specs.Prelude.{◌≡◌, ◌⊎◌, ◌≤◌, ◌+◌, ℕ, List, length, true, false, Result, Ok, Err}
+use Rattle.std.specs.Io.KnownBytes.{Consumes}
 use Rattle.dam_device.specs.Device.{SourceState, SinkState, most_counted}
 use Rattle.dam_desk.specs.Faults.{is_write}
 use Rattle.dam_desk.specs.declared.fault.DeskFault.{DeskFault}
@@ -18,3 +19,10 @@ IsReaderAfter reader fault = reader.failed ≡ false
 abbrev pub AreDevicesAfter : {R W : Type 0} → SourceState R → SinkState W → Result (Unit {0}) DeskFault → Type 0
 AreDevicesAfter reader writer (Ok done) = (reader.failed ≡ false) × (writer.failed ≡ false)
 AreDevicesAfter reader writer (Err fault) = IsReaderAfter reader fault × (writer.failed ≡ is_write fault)
+
+-- The reader gave these bytes, and was asked at most once for each of them, and this often more. Of a reader that doesn't show its bytes it
+-- says nothing.
+pub record HasFewReads {R : Type 0} (more : ℕ) (old new : SourceState R) : Type 0 where
+  pub given : List ℕ
+  pub taken : Consumes old.unread new.unread given
+  pub few : new.asked ≤ old.asked + (length given + more)

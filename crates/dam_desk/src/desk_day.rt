@@ -22,11 +22,11 @@ pub(crate) struct Day {
     entered: u32,
     /// The record of the day, with its line feed.
     day_record: Vec<u8>,
-    /// The line of the day, which `dam replay` prints first.
-    line: Vec<u8>,
+    /// The line of the day, which answers its record. `dam replay` prints it first.
+    day_answer: Vec<u8>,
     ghost valid: { is_day periods ≡ true },
     ghost day_record_is: { day_record.items ≡ row_line (day_row periods) },
-    ghost line_is: { line.items ≡ day_line periods },
+    ghost day_answer_is: { day_answer.items ≡ day_line periods },
 }
 
 impl Day {
@@ -44,7 +44,7 @@ impl Day {
             book: Book::for_day(alloc, periods, seed),
             entered: 0,
             day_record: journal_text(alloc, periods, &[])?,
-            line: replies_text(alloc, periods, &[])?,
+            day_answer: replies_text(alloc, periods, &[])?,
         })
     }
 
@@ -63,7 +63,7 @@ impl Day {
     pub(crate) fn day_line(&self) -> &[u8]
         ensures { result.now ≡ day_line self.now.periods }
     {
-        self.line.as_slice()
+        self.day_answer.as_slice()
     }
 
     pub(crate) fn entered(&self) -> u32

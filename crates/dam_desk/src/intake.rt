@@ -84,7 +84,7 @@ impl Intake {
             self.finish_line(line)?;
             rest = after;
         }
-        self.extend_line(rest)
+        self.line.extend(rest)
     }
 
     /// Answers the line that ends with these bytes.
@@ -97,15 +97,6 @@ impl Intake {
         self.enter_line()?;
         self.line.clear();
         Ok(())
-    }
-
-    /// Adds bytes to the line that has begun.
-    fn extend_line(&mut self, piece: &[u8]) -> Result<(), AllocError>
-        ensures { (state : State) (given : List ℕ) → has_byte 10 piece.now ≡ false
-            → HasRead self.old state given piece.now
-            → OnOk result (HasRead self.new state given []) }
-    {
-        self.line.extend(piece)
     }
 
     /// Enters the record of the line that has come, if it is one, and adds the answer to it.

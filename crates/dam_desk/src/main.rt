@@ -1,7 +1,7 @@
 //! `dam-desk`, which keeps the journal of a day in a file, and answers each command once it is safe there.
 #![tactic(auto)]
 
-ghost use Rattle.std.specs.Prelude.{◌≡◌, ◌↔◌, ℕ, true, false, List, Option, Some, IfOk, OnOk};
+ghost use Rattle.std.specs.Prelude.{◌≡◌, ◌↔◌, ℕ, true, false, List, Option, Some, IfSome, OnOk};
 ghost use Rattle.std.specs.Io.KnownBytes.{Appends};
 ghost use Rattle.std.specs.Process.{exit_status};
 ghost use Rattle.dam_desk.specs.DeskJournal.{Journal, OpensTo, desk_journal_text};
@@ -33,13 +33,13 @@ use output::write_text;
 use run::serve_file;
 use sqlite_std_file::Wary;
 use std::fs;
-use std::io::Write;
+use std::io::{Read, Write};
 use std::os::unix::fs::MetadataExt;
 use std::process::ExitCode;
-use stored_journal::{read_file_bytes, stored_journal_text};
+use stored_journal::{open_to_read, read_file_bytes, stored_journal_text};
 
 /// The status of a command line that is refused.
-const REFUSED_LINE: u8 = 2;
+const REFUSED_STATUS: u8 = 2;
 
 fn main(rt: HostRuntime) -> ExitCode {
     let words = match read_program_words(&rt) {
@@ -49,7 +49,7 @@ fn main(rt: HostRuntime) -> ExitCode {
     };
     let done = match job_of(words.as_slice()) {
         Some(Job::Serve(path)) => serve_standard(&rt, path),
-        Some(Job::Journal(path)) => print_journal(&rt, path, &mut Sink::new(rt.stdout())),
+        Some(Job::Journal(path)) => print_stored_journal(&rt, path),
         Some(Job::Help) => write_text(&mut Sink::new(rt.stdout()), USAGE.as_bytes()),
         None => return print_refusal(&rt),
     };
@@ -102,20 +102,26 @@ fn is_this_file(output: FileNumbers, found: Option<FileNumbers>) -> bool
     found == Some(output)
 }
 
-/// Writes the journal that a file holds. It doesn't lock the file or change it. A file that a desk refuses has the same fault
-/// here.
-fn print_journal<W: Write>(
+/// Prints the journal in a file. It doesn't lock the file or change it.
+fn print_stored_journal(rt: &HostRuntime, path: &str) -> Result<(), DeskFault> {
+    let mut file = open_to_read(rt, path)?;
+    print_journal(rt, &mut file, &mut Sink::new(rt.stdout()))
+}
+
+/// Writes the journal that a file holds, which is read to its end. A file that a desk refuses has the same fault here.
+fn print_journal<R: Read, W: Write>(
     rt: &HostRuntime,
-    path: &str,
+    file: &mut R,
     writer: &mut Sink<W>,
 ) -> Result<(), DeskFault>
     requires { writer.old.failed ≡ false }
-    ensures printed { IfOk result (λ _. (file : List ℕ) × (journal : Option Journal)
-        × OpensTo journal file
+    ensures printed { OnOk result ((bytes : List ℕ) × (journal : Option Journal)
+        × IfSome (R.remaining file.old) (λ left. bytes ≡ left)
+        × OpensTo journal bytes
         × Appends writer.old.taken writer.new.taken (desk_journal_text journal)) }
     ensures cause { OnOk result (writer.new.failed ≡ false) }
 {
-    let bytes = read_file_bytes(rt, path)?;
+    let bytes = read_file_bytes(rt.alloc(), file)?;
     let text = stored_journal_text(rt.alloc(), Seed::drawn(rt), bytes.as_slice())?;
     write_text(writer, text.as_slice())
 }
@@ -133,5 +139,5 @@ fn print_refusal(rt: &HostRuntime) -> ExitCode
     ensures { exit_status result ≡ 2 }
 {
     let _ = eprint!(rt; "command line\n{USAGE}");
-    ExitCode::from(REFUSED_LINE)
+    ExitCode::from(REFUSED_STATUS)
 }

@@ -1,7 +1,7 @@
 //! The run of a desk, from its disk before to its disk after.
 ghost use Rattle.std.specs.Prelude.{◌≡◌, ◌⊎◌, true, false, not, IsTrue, IfOk, IfErr, OnOk, OnErr};
 ghost use Rattle.dam_desk.specs.Desk.{IsUnopened};
-ghost use Rattle.dam_desk.specs.Device.{AreDevicesAfter, IsFlushed};
+ghost use Rattle.dam_desk.specs.Device.{AreDevicesAfter, HasFewReads, IsFlushed};
 ghost use Rattle.dam_desk.specs.Faults.{IsEndFault, is_failed_sync, is_read, of_file};
 ghost use Rattle.dam_store.specs.declared.fault.FileFault.{FileFault};
 ghost use Rattle.dam_desk.specs.DeskRun.{EndsAnswered, EndsSafe, EndsServed, EndsUnopened};
@@ -47,6 +47,7 @@ pub(crate) fn run_desk<D: Disk + Drop, R: Read, W: Write>(
         writer.old.taken writer.new.taken) }
     // Neither device failed, but for the one that the fault names.
     ensures devices { AreDevicesAfter reader.new writer.new result.done }
+    ensures asked { HasFewReads 1 reader.old reader.new }
     ensures flushed { IsFlushed writer.old writer.new }
     // A sync failed exactly if the disk can't be used any more.
     ensures usable { IfErr result.done (λ why.
@@ -107,6 +108,7 @@ pub(crate) fn serve_file<S: Start, R: Read, W: Write>(
     ensures usable { IfOk result (λ ended. IfErr ended.done (λ why.
         ⟦<FileFrom<S> as Disk>⟧.is_usable ended.disk ≡ not (is_failed_sync why))) }
     ensures devices { IfOk result (λ ended. AreDevicesAfter reader.new writer.new ended.done) }
+    ensures asked { HasFewReads 1 reader.old reader.new }
     ensures flushed { IsFlushed writer.old writer.new }
     ensures unopened { OnErr result (writer.new ≡ writer.old) }
     ensures cause { IfErr result (λ why. (fault : FileFault) × (why ≡ of_file fault)) }

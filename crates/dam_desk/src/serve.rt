@@ -2,7 +2,7 @@ ghost use Rattle.std.specs.Prelude.{◌≡◌, ◌++◌, ℕ, List, true, false,
 ghost use Rattle.std.specs.Io.KnownBytes.{Consumes};
 ghost use Rattle.dam_store.specs.Store.{disk_of, held_lines, is_broken};
 ghost use Rattle.dam_desk.specs.Desk.{DeskHasAnswered, Finishes, IsDesk, KeepsLines, MayLeave, Served};
-ghost use Rattle.dam_desk.specs.Device.{AreDevicesAfter, IsFlushed};
+ghost use Rattle.dam_desk.specs.Device.{AreDevicesAfter, HasFewReads, IsFlushed};
 ghost use Rattle.dam_desk.specs.Faults.{IsEndFault, is_failed_sync, is_read};
 ghost use Rattle.dam_desk.specs.DeskJournal.{State};
 
@@ -52,6 +52,8 @@ pub(crate) fn serve<D: Disk, R: Read, W: Write>(
         (D.Disk.faults (disk_of desk.old.store)) (D.Disk.faults (disk_of desk.new.store))) }
     // Neither device failed, but for the one that the fault names.
     ensures devices { AreDevicesAfter reader.new writer.new result }
+    // A read gives a byte or more, or it is the last: it fails, or shows the end of the input.
+    ensures asked { HasFewReads 1 reader.old reader.new }
     ensures flushed { IsFlushed writer.old writer.new }
     // A sync failed exactly if the disk can't be used any more.
     ensures usable { IfErr result (λ fault.

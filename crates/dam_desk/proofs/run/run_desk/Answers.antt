@@ -4,7 +4,7 @@ use Rattle.std.proofs.lemmas.Bool.{both_ways}
 use Rattle.std.proofs.lemmas.Result.{on_ok_weaker}
 use Rattle.dam_desk.specs.Desk.{at_first}
 use Rattle.dam_desk.specs.Faults.{is_read}
-use Rattle.dam_desk.proofs.Devices.{devices_of}
+use Rattle.dam_desk.proofs.Devices.{devices_of, not_asked}
 use Rattle.dam_desk.proofs.Ends.{end_counts}
 use Rattle.dam_desk.proofs.Served.{answered_still, err_both, err_then, is_served, served_still}
 use Rattle.dam_desk.proofs.run.run_desk.Goals as goal
@@ -66,3 +66,6 @@ pub returns-in-Err-clause-devices : goal.returns-in-Err-clause-devices
 returns-in-Err-clause-devices g c =
     let stream = c.in-Err.ensures.refused.no_stream in
     devices_of c.args.reader.now c.args.writer.now c.in-Err.refused.why stream.0 c.requires.reader (c.requires.writer ∙ sym stream.1)
+
+pub returns-in-Err-clause-asked : goal.returns-in-Err-clause-asked
+returns-in-Err-clause-asked g c = not_asked c.args.reader.now 1

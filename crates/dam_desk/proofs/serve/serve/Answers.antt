@@ -1,6 +1,7 @@
 -- What the desk held at first is kept by each batch.
 use Rattle.std.proofs.Common.{rules, ◌<◌, ◌++◌, [], List, ℕ, inl, inr, not, length, take, refl, sym, ap, ◌∙◌, subst, arith, append_assoc, append-nil}
 use Rattle.std.proofs.KnownBytes.{Appends-nil, Consumes-kept, Consumes-nil, Consumes-trans}
+use Rattle.std.proofs.lemmas.List.{length-take}
 use Rattle.std.specs.Io.KnownBytes.{Appends}
 use Rattle.dam_store.specs.Store.{disk_of, held_lines}
 use Rattle.dam_desk.specs.Desk.{MayLeave, Served, end_answer}
@@ -10,7 +11,7 @@ use Rattle.dam_desk.specs.declared.fault.DeskFault.{DeskFault}
 use Rattle.dam_desk.specs.declared.fault.DeskFault.TheVariants.{Read}
 use Rattle.dam_desk.proofs.Crashes.{keeps_first, grown_more}
 use Rattle.dam_desk.proofs.Desks.{TakesAll, all_given, all_more, all_start, finishes, nothing_more, served_first, served_more, served_so_far, says_after, written_fault}
-use Rattle.dam_desk.proofs.Devices.{devices_after, devices_writing, flushed_by_both}
+use Rattle.dam_desk.proofs.Devices.{devices_after, devices_writing, flushed_by_both, not_asked, read_more}
 use Rattle.dam_desk.proofs.Ends.{end_after, end_counts, err_is, sync_after}
 use Rattle.dam_desk.proofs.serve.serve.Goals as goal
 
@@ -38,6 +39,9 @@ loop-chunk-preserved g c = record {
       (c.serve_batch.ensures.crash c.loop-chunk.invariant.ready clean);
   reader = c.in-Ok.ensures.cause;
   writer = c.in-Ok-serve_batch.ensures.device;
+  asked = read_more c.args.reader.now c.loop-chunk.reader c.read.new.self (take c.in-Ok.count c.read.new.buf) 0 c.loop-chunk.invariant.asked
+      c.in-Ok.ensures.bytes.0 c.read.ensures.asked
+      (omega (arith, length-take c.in-Ok.count c.read.new.buf, c.in-Ok.ensures.bound, c.if-count-eq0.false));
   flushed = flushed_by_both c.args.writer.now c.loop-chunk.writer c.serve_batch.new.writer c.loop-chunk.invariant.flushed c.serve_batch.ensures.flushed;
   chunk = omega (arith, c.read.auto.buf, c.loop-chunk.invariant.chunk);
   taken = λ state begun is.
@@ -67,6 +71,7 @@ loop-chunk-init g c = record {
   kept = λ clean. c.is_safe-safe.ensures.keeps c.requires.safe clean;
   reader = c.requires.reader;
   writer = c.in_ok-write_text.ensures.cause;
+  asked = not_asked c.args.reader.now 0;
   flushed = c.write_text.ensures.flushed;
   chunk = search rules;
   taken = λ state begun is. (
@@ -241,3 +246,29 @@ returns-in-Err-write_end_answer-clause-flushed g c =
 pub returns-in-Err-serve_batch-clause-flushed : goal.returns-in-Err-serve_batch-clause-flushed
 returns-in-Err-serve_batch-clause-flushed g c =
     flushed_by_both c.args.writer.now c.loop-chunk.writer c.serve_batch.new.writer c.loop-chunk.invariant.flushed c.serve_batch.ensures.flushed
+
+pub returns-in_err-write_text-clause-asked : goal.returns-in_err-write_text-clause-asked
+returns-in_err-write_text-clause-asked g c = not_asked c.args.reader.now 1
+
+pub returns-in-Err-clause-asked : goal.returns-in-Err-clause-asked
+returns-in-Err-clause-asked g c =
+    let unread = c.loop-chunk.reader.unread in
+    read_more c.args.reader.now c.loop-chunk.reader c.read.new.self [] 1 c.loop-chunk.invariant.asked
+    (Consumes-kept unread unread c.read.new.self.unread [] (Consumes-nil unread) c.in-Err.ensures.bytes) c.read.ensures.asked (omega arith)
+
+pub returns-in-Ok-write_end_answer-clause-asked : goal.returns-in-Ok-write_end_answer-clause-asked
+returns-in-Ok-write_end_answer-clause-asked g c = read_more c.args.reader.now c.loop-chunk.reader c.read.new.self (take c.in-Ok.count c.read.new.buf) 1 c.loop-chunk.invariant.asked
+    c.in-Ok.ensures.bytes.0 c.read.ensures.asked (omega arith)
+
+pub returns-in-Err-write_end_answer-clause-asked : goal.returns-in-Err-write_end_answer-clause-asked
+returns-in-Err-write_end_answer-clause-asked g c = read_more c.args.reader.now c.loop-chunk.reader c.read.new.self (take c.in-Ok.count c.read.new.buf) 1 c.loop-chunk.invariant.asked
+    c.in-Ok.ensures.bytes.0 c.read.ensures.asked (omega arith)
+
+pub returns-in-Err-serve_batch-clause-asked : goal.returns-in-Err-serve_batch-clause-asked
+returns-in-Err-serve_batch-clause-asked g c = read_more c.args.reader.now c.loop-chunk.reader c.read.new.self (take c.in-Ok.count c.read.new.buf) 1 c.loop-chunk.invariant.asked
+    c.in-Ok.ensures.bytes.0 c.read.ensures.asked (omega arith)
+
+pub returns-clause-asked : goal.returns-clause-asked
+returns-clause-asked g c =
+    let asked = c.loop-chunk.invariant.asked in
+    record { given = asked.given; taken = asked.taken; few = omega (arith, asked.few) }

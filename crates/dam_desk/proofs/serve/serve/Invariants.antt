@@ -4,7 +4,7 @@ use Rattle.std.specs.Io.KnownBytes.{Consumes}
 use Rattle.dam_device.specs.Device.{most_counted}
 use Rattle.dam_store.specs.Store.{disk_of, held_lines, is_broken}
 use Rattle.dam_desk.specs.Desk.{IsDesk, KeepsLines}
-use Rattle.dam_desk.specs.Device.{IsFlushed}
+use Rattle.dam_desk.specs.Device.{HasFewReads, IsFlushed}
 use Rattle.dam_desk.specs.DeskJournal.{State}
 use Rattle.dam_desk.specs.declared.serve.TheConstants.{CHUNK}
 use Rattle.dam_desk.proofs.Desks.{TakesAll}
@@ -20,6 +20,7 @@ invariant-loop-chunk g l = record {
   kept : IsTrue (g.D.Disk.is_clean (disk_of l.desk.store)) → KeepsLines (g.D.Disk.may_leave (disk_of l.desk.store)) (held_lines l.initial.desk.store);
   reader : l.reader.failed ≡ false;
   writer : l.writer.failed ≡ false;
+  asked : HasFewReads 0 l.initial.reader l.reader;
   flushed : IsFlushed l.fn.writer l.writer;
   chunk : length l.chunk ≡ CHUNK;
   taken : (state : State) (begun : List ℕ) → IsDesk l.initial.desk state begun → (given : List ℕ)
