@@ -1,5 +1,5 @@
 -- What a desk wrote, and what its file opens to.
-use Rattle.std.proofs.Common.{◌≡◌, ◌⊎◌, inl, inr, List, ℕ, suc, ◌+◌, ◌-◌, ◌^◌, ◌<◌, min, [], ◌∷◌, ◌++◌, Option, Result, Ok, Err, IfErr, IfSome, IsTrue, false, length, take, refl, sym, ap, ◌∙◌, subst, append_assoc, append-nil, length-append, arith}
+use Rattle.std.proofs.Common.{◌≡◌, ◌⊎◌, inl, inr, List, ℕ, suc, ◌+◌, ◌-◌, ◌^◌, ◌<◌, min, [], ◌∷◌, ◌++◌, Option, IfSome, IsTrue, false, length, take, refl, sym, ap, ◌∙◌, subst, append_assoc, append-nil, length-append, arith}
 use Rattle.std.specs.Io.KnownBytes.{Appends, Consumes, IsAtEnd}
 use Rattle.std.proofs.KnownBytes.{Appends-nil, Appends-trans, Consumes-trans, Consumes-whole}
 use Rattle.sqlite_disk.specs.declared.Disk.{Ghosts}
@@ -368,11 +368,6 @@ pub written_fault : (old new : Option (List ℕ)) (text : List ℕ) (fault : Des
 written_fault old new text fault is =
     by_writing old new text (λ told. (count : ℕ) × Appends old new (take count text) × SaysCount count told) (λ written front. (written, front.1, λ small. refl))
     fault is
-
-pub written_part : {X : Type 0} (old new : Option (List ℕ)) (text : List ℕ) (r : Result X DeskFault) → IfErr r (IsWritingFault old new text)
-    → IfErr r (λ fault. (count : ℕ) × Appends old new (take count text) × SaysCount count fault)
-written_part old new text (Ok x) fault = tt
-written_part old new text (Err why) fault = written_fault old new text why fault
 
 -- every file that a crash leaves stands for the store's lines, which are the journal's text
 pub opens_store : {D : Type 0} {g : Ghosts D} (store : Store D g) (journal : Option Journal) → ReadsBack journal

@@ -11,10 +11,6 @@ use Rattle.dam_desk.specs.declared.desk.Desk.{Desk}
 use Rattle.dam_desk.specs.declared.fault.DeskFault.{DeskFault}
 use Rattle.dam_desk.proofs.Desks.{answered_so_far}
 
-pub err_then : {X Y : Type 0} (r : Result X Y) (P Q : Y → Type 0) → ((y : Y) → P y → Q y) → IfErr r P → IfErr r Q
-err_then (Ok x) P Q then p = tt
-err_then (Err y) P Q then p = then y p
-
 pub err_both : {X Y : Type 0} (r : Result X Y) (P Q R : Y → Type 0) → ((y : Y) → P y → Q y → R y) → IfErr r P → IfErr r Q → IfErr r R
 err_both (Ok x) P Q R then p q = tt
 err_both (Err y) P Q R then p q = then y p q

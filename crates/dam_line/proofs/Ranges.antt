@@ -145,8 +145,7 @@ plan_rules_are = record {
     own = refl;
     name = refl;
     parser = refl;
-    has_default =
-        omega arith;
+    has_default = omega arith;
   };
   has_cut = record {
     rule = filled (rule_for cut);
@@ -154,8 +153,7 @@ plan_rules_are = record {
     own = refl;
     name = refl;
     parser = refl;
-    has_default =
-        omega arith;
+    has_default = omega arith;
   };
   has_nodes = record {
     rule = filled (rule_for nodes);
@@ -163,8 +161,7 @@ plan_rules_are = record {
     own = refl;
     name = refl;
     parser = refl;
-    has_default =
-        omega arith;
+    has_default = omega arith;
   };
 }
 

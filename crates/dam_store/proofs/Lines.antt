@@ -14,9 +14,6 @@ rest_of_line (b ∷ line) rest before whole =
     cond-false (b == 10) _ _ both.0 ∙ rest_of_line line rest (before ++ b ∷ []) both.1
     ∙ ap (λ (l : List ℕ). l ∷ marked_lines rest) (append_assoc before (b ∷ []) line)
 
-pub length-marked : (lines : List (List ℕ)) (rest : List ℕ) → length (marked lines ++ rest) ≡ length (marked lines) + length rest
-length-marked lines rest = length-append (marked lines) rest
-
 pub marked_split : (line : List ℕ) (lines : List (List ℕ)) (rest : List ℕ)
     → marked (line ∷ lines) ++ rest ≡ 43 ∷ line ++ 10 ∷ (marked lines ++ rest)
 marked_split line lines rest = ap (λ (l : List ℕ). 43 ∷ l) (append_assoc line (10 ∷ marked lines) rest)

@@ -1,5 +1,5 @@
 -- A torn write changes its range alone, and a whole one leaves its bytes there.
-use Rattle.std.proofs.Common.{◌≡◌, inl, inr, ℕ, zero, suc, ◌+◌, ◌<◌, ◌≤◌, max, List, [], ◌∷◌, ◌++◌, length, take, drop, slice_index, refl, sym, ap, ◌∙◌, arith, length-append, length-drop, take-append-drop, get_or-drop}
+use Rattle.std.proofs.Common.{◌≡◌, inl, inr, ℕ, zero, suc, ◌+◌, ◌<◌, ◌≤◌, List, [], ◌∷◌, ◌++◌, length, take, drop, slice_index, refl, sym, ap, ◌∙◌, arith, length-append, length-drop, take-append-drop, get_or-drop}
 use Rattle.std.proofs.lemmas.Bool.{cases_lt}
 use Rattle.std.proofs.lemmas.List.{take_at, drop_at, drop_all, drop-drop, length-take, get_or-take, ext_get_or}
 use Rattle.sqlite_disk.specs.Disk.{Torn, Holds}
@@ -55,9 +55,6 @@ module _ (front rest : List ℕ) (at n : ℕ) (c : List ℕ) (at_is : at ≡ len
 
   pub middle_whole : n ≤ length rest → length middle ≡ n
   middle_whole within = omega (arith, length-take n (drop at c), length-drop at c, torn.no_shorter, length_old)
-
-  pub torn_length : length c ≤ max (length (front ++ rest)) (at + n)
-  torn_length = torn.no_longer
 
   pub written_is : (bytes : List ℕ) → n ≡ length bytes → Holds c at bytes → c ≡ front ++ (bytes ++ drop n rest)
   written_is bytes n_is holds =

@@ -1,12 +1,12 @@
 -- What was served from the file that was opened.
 use Rattle.std.proofs.Common.{[], inr, sym, ap, ◌∙◌}
 use Rattle.std.proofs.lemmas.Bool.{both_ways}
-use Rattle.std.proofs.lemmas.Result.{on_ok_weaker}
+use Rattle.std.proofs.lemmas.Result.{IfErr-weaker, on_ok_weaker}
 use Rattle.dam_desk.specs.Desk.{at_first}
 use Rattle.dam_desk.specs.Faults.{is_read}
 use Rattle.dam_desk.proofs.Devices.{devices_of, not_asked}
 use Rattle.dam_desk.proofs.Ends.{end_counts}
-use Rattle.dam_desk.proofs.Served.{answered_still, err_both, err_then, is_served, served_still}
+use Rattle.dam_desk.proofs.Served.{answered_still, err_both, is_served, served_still}
 use Rattle.dam_desk.proofs.run.run_desk.Goals as goal
 
 pub returns-in-Ok-clause-served : goal.returns-in-Ok-clause-served
@@ -29,7 +29,7 @@ returns-in-Ok-clause-answered g c =
     let is = c.in-Ok.ensures.desk in
     let disk = c.into_disk.result in
     let first = c.as_slice.ensures.value ∙ is.same_replies in
-    err_then c.serve-done.result _ _ (λ why all read.
+    IfErr-weaker c.serve-done.result _ _ (λ why all read.
     let part = all read in
     record {
       journal = is.journal;

@@ -1,6 +1,7 @@
 -- A line that has begun is answered.
 use Rattle.std.proofs.Common.{◌≡◌, ◌++◌, List, ℕ, IfErr, OnOk, length, take, sym, ap, ◌∙◌, subst}
 use Rattle.std.proofs.lemmas.Bool.{eqb-true, eqb-false}
+use Rattle.std.proofs.lemmas.Result.{IfErr-weaker}
 use Rattle.std.specs.Io.KnownBytes.{Appends}
 use Rattle.std.proofs.KnownBytes.{Appends-nil}
 use Rattle.dam_desk.specs.Answers.{fault_line}
@@ -9,7 +10,7 @@ use Rattle.dam_desk.specs.DeskJournal.{next}
 use Rattle.dam_desk.specs.InputLines.{kept_bytes}
 use Rattle.dam_desk.specs.declared.fault.InputLineFault.TheVariants.{CutShort}
 use Rattle.dam_desk.specs.declared.fault.DeskFault.TheVariants.{Memory}
-use Rattle.dam_desk.proofs.Desks.{written_part}
+use Rattle.dam_desk.proofs.Desks.{written_fault}
 use Rattle.dam_desk.proofs.Ends.{err_is}
 use Rattle.dam_desk.proofs.Lists.{end_of_none, end_of_some}
 use Rattle.dam_desk.proofs.desk.Desk.write_end_answer.Goals as goal
@@ -42,7 +43,7 @@ returns-clause-err g c begun line =
     let old = c.args.writer.now.taken in
     let new = c.write_text.new.writer.taken in
     subst (λ (t : List ℕ). IfErr c.write_text.result (λ fault. (count : ℕ) × Appends old new (take count t) × SaysCount count fault)) text
-    (written_part old new c.as_slice.result.now c.write_text.result c.write_text.ensures.fault)
+    (IfErr-weaker c.write_text.result _ _ (written_fault old new c.as_slice.result.now) c.write_text.ensures.fault)
 
 pub returns-in_err-append_fault_line-clause-err : goal.returns-in_err-append_fault_line-clause-err
 returns-in_err-append_fault_line-clause-err g c begun line =
