@@ -1,9 +1,7 @@
 -- What a journal's file stands for while lines are written after the mark `-`, the mark is opened, or the end is repaired.
-use Rattle.std.proofs.Common.{◌≡◌, inl, inr, ℕ, zero, suc, ◌+◌, ◌-◌, ◌<◌, ◌≤◌, ◌==◌, nat_lt, replicate, true, false, not, List, [], ◌∷◌, ◌++◌, Some, None, length, take, drop, slice_index, refl, sym, ap, ◌∙◌, subst, arith, append_assoc, length-append, length-drop, append-nil, take-append-drop}
+use Rattle.std.proofs.Common.{◌≡◌, inl, inr, ℕ, zero, suc, ◌+◌, ◌-◌, ◌<◌, ◌≤◌, ◌==◌, nat_lt, replicate, true, false, not, List, [], ◌∷◌, ◌++◌, Some, None, length, take, drop, slice_index, refl, sym, ap, ◌∙◌, subst, arith, append_assoc, length-append, length-drop, append-nil}
 use Rattle.std.proofs.lemmas.Bool.{or_parts, or_from, or_cases, not-true, or_left, or_right, both_ways, cases_lt, cases_Bool, cond-true, cond-false, eqb-true, lt-ltb, le-ltb}
 use Rattle.std.proofs.lemmas.List.{length-replicate, drop_at, drop_all, take_at, drop-drop, drop_more, take_rest, length-take-le}
-use Rattle.std.proofs.lemmas.Slice.Eq.{bytes_eq-Decides}
-use Rattle.std.specs.Str.{bytes_eq}
 use Rattle.sqlite_disk.specs.Disk.{Torn, Holds}
 use Rattle.dam_store.specs.Limits.{most_file_bytes}
 use Rattle.dam_store.specs.FileLines.{HaveNoNewline, marked, bytes_on_disk, lines_in, with_room, head_line, stands_for, StandsFor, StandsForEither}
@@ -296,11 +294,6 @@ journal_from bytes end lines head short ends =
       short = short;
     }
 
-pub head_is : (bytes : List ℕ) → bytes_eq (take (length head_line) bytes) head_line ≡ true
-    → bytes ≡ head_line ++ drop (length head_line) bytes
-head_is bytes same = sym (take-append-drop (length head_line) bytes)
-    ∙ ap (λ (l : List ℕ). l ++ drop (length head_line) bytes) ((bytes_eq-Decides (take (length head_line) bytes) head_line).0 same)
-
 -- no room for one more byte
 pub no_room : (bytes : List ℕ) (end : ℕ) (lines : List (List ℕ)) → FileLinesEndAt bytes end lines → most_file_bytes ≤ end → stands_for bytes ≡ None
 no_room bytes end lines r full =
@@ -329,10 +322,6 @@ closed_from file end lines rest =
       last = rest.last;
       short = rest.short;
     }
-
--- a file that is closed stands for the lines that it holds
-pub closed_stands : (file : List ℕ) (end : ℕ) → IsFileAtRest file end → StandsFor (lines_in file) file
-closed_stands file end closed = rest_stands file end (lines_in file) (rest_from file end closed)
 
 -- lines for which a file has no room with the mark after them
 pub no_room_after : (file : List ℕ) (end : ℕ) → IsFileAtRest file end → (batch : List (List ℕ))
