@@ -419,9 +419,3 @@ pub all_given : (old mid new : Option (List ℕ)) (given buffer : List ℕ) (cou
     → count ≡ 0 → IsAtEnd new → IfSome old (λ bytes. bytes ≡ given)
 all_given old mid new given buffer count before last none ended =
     Consumes-whole old new given (λ (bytes : List ℕ). bytes ≡ given) (nothing_more old mid new given buffer count before last none) ended refl
-
-pub writing_no_read : (old new : Option (List ℕ)) (text : List ℕ) (fault : DeskFault) → IsWritingFault old new text fault → is_read fault ≡ false
-writing_no_read old new text fault is = by_writing old new text (λ told. is_read told ≡ false) (λ written front. refl) fault is
-
-pub store_no_read : (fault : StoreFault) → is_read (of_store fault) ≡ false
-store_no_read fault = by_store (λ why told. is_read told ≡ false) refl (λ why other. refl) fault

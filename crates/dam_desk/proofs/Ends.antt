@@ -51,11 +51,6 @@ pub end_store : (is_clean : Bool) (before after : ℕ) (fault : StoreFault) (bro
 end_store is_clean before after fault broken ready kinds more full =
     end_append is_clean before after fault (append_fault is_clean before after fault broken ready kinds more full)
 
--- the writer failed
-pub end_writing : (is_clean : Bool) (before after : ℕ) (old new : Option (List ℕ)) (text : List ℕ) (fault : DeskFault) → after ≡ before
-    → IsWritingFault old new text fault → IsEndFault is_clean before after fault
-end_writing is_clean before after old new text fault same is = by_writing old new text (IsEndFault is_clean before after) (λ written front. same) fault is
-
 pub end_counts : {is_clean was_clean : Bool} {before after was is : ℕ} (fault : DeskFault) → is_clean ≡ was_clean → before ≡ was → after ≡ is
     → IsEndFault is_clean before after fault → IsEndFault was_clean was is fault
 end_counts {is_clean} {was_clean} {before} {after} {was} {is} fault same first then ends =

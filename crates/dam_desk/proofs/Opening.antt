@@ -106,10 +106,6 @@ call_of why = by_store (λ fault told. is_failed_call told ≡ is_failure fault)
 pub sync_of : (why : StoreFault) → desk_failed_sync (of_store why) ≡ is_failed_sync why
 sync_of why = by_store (λ fault told. desk_failed_sync told ≡ is_failed_sync fault) refl (λ fault other. refl) why
 
--- a text's fault is no failed sync
-pub text_no_sync : (text : List ℕ) (why : DeskFault) → IsWrittenJournalFault text why → desk_failed_sync why ≡ false
-text_no_sync text why is = by_text (λ told. desk_failed_sync told ≡ false) refl (λ fault reads. refl) (λ spelt. refl) why is
-
 abbrev IsNoStream : DeskFault → Type 0
 IsNoStream why = (is_read why ≡ false) × (is_write why ≡ false)
 

@@ -41,10 +41,6 @@ pub some_journal : (day : Day) (journal : Option Journal) → HasJournal (Some d
 some_journal day None has = absurd has
 some_journal day (Some j) has = record { of = j; is = refl; has = has }
 
-pub fault_answer : (number : ℕ) (journal : Option Journal) (fault : InputLineFault) → answer_to number journal (Fault fault) ≡ fault_line number fault
-fault_answer number None fault = refl
-fault_answer number (Some j) fault = refl
-
 pub fault_after : (journal : Option Journal) (fault : InputLineFault) → journal_after_line journal (Fault fault) ≡ journal
 fault_after None fault = refl
 fault_after (Some j) fault = refl
@@ -69,21 +65,6 @@ nothing_entered old new before journal said answer at day begins entries text is
     text = ap (λ (t : List ℕ). before ++ t) (entered_same old new day begins entries) ∙ at.text;
   });
 }
-
--- the day again, or another day
-pub same_day_answer : (number : ℕ) (journal : Option Journal) (day : Day) (periods : ℕ) → IsOf day journal → day.periods ≡ periods
-    → answer_to number journal (Days periods) ≡ day_line day.periods
-same_day_answer number journal day periods of same =
-    ap (λ (j : Option Journal). answer_to number j (Days periods)) of.is
-    ∙ cond-true (periods == of.of.periods) _ _ (eq-eqb periods of.of.periods (sym same ∙ of.has.same_day))
-    ∙ ap day_line (sym same)
-
-pub other_day_answer : (number : ℕ) (journal : Option Journal) (day : Day) (periods : ℕ) → IsOf day journal → ¬ (day.periods ≡ periods)
-    → answer_to number journal (Days periods) ≡ fault_line number OtherDay
-other_day_answer number journal day periods of other =
-    ap (λ (j : Option Journal). answer_to number j (Days periods)) of.is
-    ∙ cond-false (periods == of.of.periods) _ _
-    (false_from_ne_true _ (λ same. other (of.has.same_day ∙ sym (eqb-true periods of.of.periods same))))
 
 pub day_after : (journal : Option Journal) (day : Day) (periods : ℕ) → IsOf day journal → journal_after_line journal (Days periods) ≡ journal
 day_after journal day periods of = ap (λ (j : Option Journal). journal_after_line j (Days periods)) of.is ∙ sym of.is
