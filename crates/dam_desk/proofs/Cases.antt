@@ -3,9 +3,7 @@ use Rattle.std.proofs.Common.{◌≡◌, ◌+◌, ◌-◌, ◌^◌, ℕ, min, Li
 use Rattle.dam_device.specs.Device.{TakesFront}
 use Rattle.dam_store.specs.declared.fault.StoreFault.{StoreFault}
 use Rattle.dam_store.specs.declared.fault.StoreFault.TheVariants as store
-use Rattle.dam_results.specs.Faults.{IsJournalFault}
-use Rattle.dam_results.specs.declared.journal_reading.JournalFault.{JournalFault}
-use Rattle.dam_desk.specs.Faults.{IsWritingFault, IsWrittenJournalFault, fault_after, of_store}
+use Rattle.dam_desk.specs.Faults.{IsWritingFault, fault_after, of_store}
 use Rattle.dam_desk.specs.declared.fault.DeskFault.{DeskFault}
 use Rattle.dam_desk.specs.declared.fault.DeskFault.TheVariants.{File, OwnOutput, Store, NotAJournal, Respelled, Read, Write, Memory}
 
@@ -44,15 +42,3 @@ by_writing old new text P writes Respelled is = absurd is
 by_writing old new text P writes Read is = absurd is
 by_writing old new text P writes (Write written) is = writes written is
 by_writing old new text P writes Memory is = absurd is
-
--- a fault of the text of a journal
-pub by_text : {text : List ℕ} (P : DeskFault → Type 0) → P Memory → ((fault : JournalFault) → IsJournalFault text fault → P (NotAJournal fault))
-    → (IsWrittenJournalFault text Respelled → P Respelled) → (why : DeskFault) → IsWrittenJournalFault text why → P why
-by_text P memory reads spelt Memory is = memory
-by_text P memory reads spelt (Store fault) is = absurd is
-by_text P memory reads spelt (File fault) is = absurd is
-by_text P memory reads spelt OwnOutput is = absurd is
-by_text P memory reads spelt (NotAJournal fault) is = reads fault is
-by_text P memory reads spelt Respelled is = spelt is
-by_text P memory reads spelt Read is = absurd is
-by_text P memory reads spelt (Write written) is = absurd is

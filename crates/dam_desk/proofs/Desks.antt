@@ -9,7 +9,7 @@ use Rattle.dam_store.specs.declared.fault.StoreFault.{StoreFault}
 use Rattle.dam_store.specs.declared.store.Store.{Store}
 use Rattle.dam_desk.specs.DeskJournal.{Journal, State, AreLines, OpensTo, ReadsBack, desk_journal_text, next}
 use Rattle.dam_desk.specs.Desk.{DeskHasAnswered, Finishes, IsDesk, IsEnding, LinesAreAnswered, MayLeave, OpensAfter, Served, end_answer}
-use Rattle.dam_desk.specs.Faults.{IsWritingFault, SaysCount, fault_after, is_read, of_store}
+use Rattle.dam_desk.specs.Faults.{IsWritingFault, SaysCount, fault_after, of_store}
 use Rattle.dam_desk.specs.declared.desk.Desk.{Desk}
 use Rattle.dam_desk.specs.declared.fault.DeskFault.{DeskFault}
 use Rattle.dam_desk.specs.declared.fault.DeskFault.TheVariants.{File, OwnOutput, Store as Stores, NotAJournal, Respelled, Read, Write, Memory}

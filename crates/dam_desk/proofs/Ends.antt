@@ -1,13 +1,13 @@
 -- Why an open desk ends.
-use Rattle.std.proofs.Common.{◌≡◌, ◌⊎◌, inl, inr, ℕ, Bool, List, Option, Result, Ok, Err, IfErr, IsErrAnd, true, false, refl, sym, subst}
+use Rattle.std.proofs.Common.{◌≡◌, ◌⊎◌, inl, inr, ℕ, Bool, Result, Ok, Err, IfErr, IsErrAnd, true, false, refl, sym, subst}
 use Rattle.std.proofs.lemmas.Bool.{both_ways, cases_Bool}
 use Rattle.sqlite_disk.specs.Disk.{MoreFaults}
 use Rattle.dam_store.specs.Faults.{is_failed_write}
 use Rattle.dam_store.specs.declared.fault.StoreFault.{StoreFault}
 use Rattle.dam_store.specs.declared.fault.StoreFault.TheVariants as store
-use Rattle.dam_desk.specs.Faults.{IsEndFault, IsWritingFault, fault_after, is_failed_sync as desk_failed_sync, is_read, is_write, of_store}
+use Rattle.dam_desk.specs.Faults.{IsEndFault, fault_after, is_failed_sync as desk_failed_sync, is_read, is_write, of_store}
 use Rattle.dam_desk.specs.declared.fault.DeskFault.{DeskFault}
-use Rattle.dam_desk.proofs.Cases.{by_after, by_writing}
+use Rattle.dam_desk.proofs.Cases.{by_after}
 
 -- a write or a sync failed, or the lines have no room
 abbrev IsAppendFault : Bool → ℕ → ℕ → StoreFault → Type 0

@@ -9,12 +9,12 @@ use Rattle.dam_store.specs.Store.{IsUntouched, disk_of, held_lines}
 use Rattle.dam_store.specs.declared.fault.StoreFault.{StoreFault}
 use Rattle.dam_store.specs.declared.fault.StoreFault.TheVariants as store
 use Rattle.dam_desk.specs.Desk.{IsOpened, IsUnopened}
-use Rattle.dam_desk.specs.Faults.{IsFileFault, IsOpenFault, IsWrittenJournalFault, is_failed_call, is_failed_sync as desk_failed_sync, is_failed_write, is_read, is_write, of_store}
+use Rattle.dam_desk.specs.Faults.{IsOpenFault, is_failed_call, is_failed_sync as desk_failed_sync, is_failed_write, is_read, is_write, of_store}
 use Rattle.dam_desk.specs.declared.desk_day.Day.{Day}
 use Rattle.dam_desk.specs.declared.desk.Desk.{Desk}
 use Rattle.dam_desk.specs.declared.fault.DeskFault.{DeskFault}
 use Rattle.dam_desk.specs.inside.Intake.{HasJournal, IsReopened}
-use Rattle.dam_desk.proofs.Cases.{by_store, by_text}
+use Rattle.dam_desk.proofs.Cases.{by_store}
 
 same_lines : (lines other : List (List ℕ)) (file : List ℕ) → StandsFor lines file → StandsFor other file → lines ≡ other
 same_lines lines other file a b = let is = sym a ∙ b in cc
@@ -57,11 +57,6 @@ kind file why other (inr (inr memory)) = absurd (other memory)
 pub store_cause : (file : List ℕ) (why : StoreFault) → IsKind file why → IsOpenFault file (of_store why)
 store_cause file why is =
     by_store (λ fault told. IsKind file fault → IsOpenFault file told) (λ memory. inr tt) (kind file) why is
-
-pub text_cause : (file : List ℕ) (lines : List (List ℕ)) → StandsFor lines file → (why : DeskFault) → IsWrittenJournalFault (text_of lines) why
-    → IsFileFault file why
-text_cause file lines stands why is =
-    by_text (IsFileFault file) tt (λ fault reads. (lines, stands, reads)) (λ spelt. (lines, stands, spelt)) why is
 
 -- a write that failed is a call that failed
 pub write_failure : (why : StoreFault) → store_failed_write why ≡ true → is_failure why ≡ true
@@ -112,12 +107,6 @@ IsNoStream why = (is_read why ≡ false) × (is_write why ≡ false)
 store_no_stream : (why : StoreFault) → IsNoStream (of_store why)
 store_no_stream why = by_store (λ fault told. IsNoStream told) (refl, refl) (λ fault other. (refl, refl)) why
 
--- a text's fault is no failed call, neither of the disk nor of a stream
-text_no_call : (text : List ℕ) (why : DeskFault) → IsWrittenJournalFault text why → (is_failed_call why ≡ false) × IsNoStream why
-text_no_call text why is =
-    by_text (λ told. (is_failed_call told ≡ false) × IsNoStream told) (refl, (refl, refl)) (λ fault reads. (refl, (refl, refl)))
-    (λ spelt. (refl, (refl, refl))) why is
-
 early_kind : (file : List ℕ) (why : StoreFault) → (is_refused_file why ≡ true → IsRefused file why)
     → (is_failed_read why ≡ true) ⊎ ((is_failed_sync why ≡ true) ⊎ ((is_refused_file why ≡ true) ⊎ (why ≡ store.Memory))) → IsKind file why
 early_kind file why refusal (inl failed) = inl (read_failure why failed)
@@ -142,22 +131,6 @@ unopened_early g old new why untouched more same refusal kinds = record {
 
 module _ {D : Type 0} (g : Ghosts D) (old mid : D) (text : List ℕ) (untouched : IsUntouched g old mid) (same : g.faults mid ≡ g.faults old)
     (read : IsTrue (g.is_clean mid) → (lines : List (List ℕ)) × StandsFor lines (g.seen old) × (text ≡ text_of lines)) where
-  -- the lines that were found aren't a written journal
-  pub unopened_text : (why : DeskFault) → IsWrittenJournalFault text why → IsUnopened g old mid why
-  unopened_text why fault =
-      let no_call = text_no_call text why fault in
-      record {
-        cause = λ honest.
-            let lines = read honest in
-            inr (text_cause (g.seen old) lines.0 lines.1 why (subst (λ (t : List ℕ). IsWrittenJournalFault t why) lines.2 fault));
-        failed = λ failed. absurd (both_ways (is_failed_call why) no_call.0 failed);
-        none_failed = λ none. same;
-        no_stream = no_call.1;
-        untouched = λ unwritten. untouched;
-        no_journal = λ honest none. untouched;
-        crash = λ honest file left. inl (untouched.crash file left);
-      }
-
   -- the end of the file wasn't repaired
   pub unopened_late : (new : D) (why : StoreFault) (day : Option Day) (replies : List ℕ) → IsReopened text day replies
       → g.is_clean new ≡ g.is_clean mid → (is_failure why ≡ true → MoreFaults (g.faults mid) (g.faults new))

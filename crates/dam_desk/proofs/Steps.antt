@@ -1,29 +1,21 @@
 -- One line of the input, answered.
-use Rattle.std.proofs.Common.{◌≡◌, ◌==◌, ◌≤◌, ◌+◌, ℕ, Bool, true, false, List, [], ◌∷◌, ◌++◌, Option, Some, None, length, refl, sym, ap, ◌∙◌, subst, arith, append_assoc, append-nil, length-append}
-use Rattle.std.proofs.lemmas.Bool.{cond-true, cond-false, eq-eqb, false_from_ne_true, eqb-true}
+use Rattle.std.proofs.Common.{◌≡◌, ◌+◌, ℕ, Bool, true, false, List, [], ◌∷◌, ◌++◌, Option, Some, None, length, refl, sym, ap, ◌∙◌, subst, arith, append_assoc, length-append}
+use Rattle.std.proofs.lemmas.Bool.{cond-false}
 use Rattle.std.specs.List.{flat_map}
-use Rattle.dam_book.specs.Book.{run, commands_of, empty_book, reply_to}
+use Rattle.dam_book.specs.Book.{run, commands_of, reply_to}
 use Rattle.dam_book.specs.declared.command.Command.{Command}
 use Rattle.dam_book.specs.declared.command.Entry.{Entry}
 use Rattle.dam_results.specs.Records.{day_row}
-use Rattle.dam_results.specs.Replies.{day_line, reply_line}
+use Rattle.dam_results.specs.Replies.{reply_line}
 use Rattle.dam_results.specs.Written.{command_line, row_line, written}
-use Rattle.dam_desk.specs.Answers.{fault_line}
 use Rattle.dam_desk.specs.DeskJournal.{Journal, answer_to, day_of, desk_journal_text, journal_after_line}
 use Rattle.dam_book.specs.Command.{is_journal_full}
 use Rattle.dam_desk.specs.inside.DeskDay.{IsDayWith}
 use Rattle.dam_desk.specs.inside.Intake.{Answered, HasJournal, IsAt, entered_text, periods_of, records_text}
 use Rattle.dam_desk.specs.declared.desk_day.Day.{Day}
-use Rattle.dam_desk.specs.declared.fault.InputLineFault.{InputLineFault}
-use Rattle.dam_desk.specs.declared.fault.InputLineFault.TheVariants.{OtherDay}
-use Rattle.dam_desk.specs.declared.reading.Said.{Said}
-use Rattle.dam_desk.specs.declared.reading.Said.TheVariants.{Day as Days, Command as Commands, Fault}
+use Rattle.dam_desk.specs.declared.reading.Said.TheVariants.{Command as Commands}
 use Rattle.dam_desk.specs.declared.intake.Intake.{Intake}
 use Rattle.dam_desk.proofs.Texts.{commands_more}
-
-pub none_journal : (journal : Option Journal) → HasJournal None journal → journal ≡ None
-none_journal None has = refl
-none_journal (Some j) has = absurd has
 
 pub periods_same : (day : Option Day) (journal : Option Journal) → HasJournal day journal → periods_of day ≡ day_of journal
 periods_same None None has = refl
@@ -40,63 +32,6 @@ pub record IsOf (day : Day) (journal : Option Journal) : Type 0 where
 pub some_journal : (day : Day) (journal : Option Journal) → HasJournal (Some day) journal → IsOf day journal
 some_journal day None has = absurd has
 some_journal day (Some j) has = record { of = j; is = refl; has = has }
-
-pub fault_after : (journal : Option Journal) (fault : InputLineFault) → journal_after_line journal (Fault fault) ≡ journal
-fault_after None fault = refl
-fault_after (Some j) fault = refl
-
--- the same day, and the same records
-entered_same : (old new : Intake) → new.day ≡ old.day → new.begins ≡ old.begins → new.entries.items ≡ old.entries.items
-    → entered_text new ≡ entered_text old
-entered_same old new day begins entries =
-    ap (λ (d : Option Day). records_text d new.begins (commands_of new.entries.items)) day
-    ∙ ap (λ (b : Bool). records_text old.day b (commands_of new.entries.items)) begins
-    ∙ ap (λ (es : List Entry). records_text old.day old.begins (commands_of es)) entries
-
--- a line that enters nothing, and its answer
-pub nothing_entered : (old new : Intake) (before : List ℕ) (journal : Option Journal) (said : Said) (answer : List ℕ)
-    → IsAt old before journal → new.day ≡ old.day → new.begins ≡ old.begins → new.entries.items ≡ old.entries.items
-    → new.answers.items ≡ old.answers.items ++ answer → answer_to old.answered journal said ≡ answer → journal_after_line journal said ≡ journal
-    → Answered old new before journal said
-nothing_entered old new before journal said answer at day begins entries text is after = record {
-  answer = text ∙ ap (λ (t : List ℕ). old.answers.items ++ t) (sym is);
-  at = subst (IsAt new before) (sym after) (record {
-    day = subst (λ (d : Option Day). HasJournal d journal) (sym day) at.day;
-    text = ap (λ (t : List ℕ). before ++ t) (entered_same old new day begins entries) ∙ at.text;
-  });
-}
-
-pub day_after : (journal : Option Journal) (day : Day) (periods : ℕ) → IsOf day journal → journal_after_line journal (Days periods) ≡ journal
-day_after journal day periods of = ap (λ (j : Option Journal). journal_after_line j (Days periods)) of.is ∙ sym of.is
-
-no_entries : (es : List Entry) → length es ≤ 0 → commands_of es ≡ []
-no_entries [] few = refl
-no_entries (e ∷ es) few = absurd (omega (arith, few))
-
--- a new journal, with the record of its day
-pub day_begun : (old new : Intake) (before : List ℕ) (journal : Option Journal) (day : Day) → IsAt old before journal → old.day ≡ None
-    → length old.entries.items ≤ 0 → day.book ≡ empty_book day.periods → day.entered ≡ 0 → new.day ≡ Some day → new.begins ≡ true
-    → new.entries.items ≡ old.entries.items → new.answers.items ≡ old.answers.items ++ day_line day.periods
-    → Answered old new before journal (Days day.periods)
-day_begun old new before journal day at none few book entered now begins entries text =
-    let is : journal ≡ None = none_journal journal (subst (λ (d : Option Day). HasJournal d journal) none at.day) in
-    let empty : before ≡ [] = sym (append-nil before)
-    ∙ ap (λ (d : Option Day). before ++ records_text d old.begins (commands_of old.entries.items)) (sym none) ∙ at.text
-    ∙ ap desk_journal_text is in
-    let records : entered_text new ≡ written day.periods [] =
-    ap (λ (d : Option Day). records_text d new.begins (commands_of new.entries.items)) now
-    ∙ ap (λ (b : Bool). records_text (Some day) b (commands_of new.entries.items)) begins
-    ∙ ap (written day.periods) (ap commands_of entries ∙ no_entries old.entries.items few) in
-    let after : journal_after_line journal (Days day.periods) ≡ Some (record { periods = day.periods; commands = [] }) = ap (λ (j : Option Journal). journal_after_line j (Days day.periods)) is in
-    record {
-      answer = text
-          ∙ ap (λ (j : Option Journal). old.answers.items ++ answer_to old.answered j (Days day.periods)) (sym is);
-      at = subst (IsAt new before) (sym after) (record {
-        day = subst (λ (d : Option Day). HasJournal d (Some (record { periods = day.periods; commands = [] }))) (sym now)
-            (record { same_day = refl; book = book; entered = entered });
-        text = ap (λ (t : List ℕ). t ++ entered_text new) empty ∙ records;
-      });
-    }
 
 pub written_more : (periods : ℕ) (commands more : List Command)
     → written periods (commands ++ more) ≡ written periods commands ++ flat_map command_line more
