@@ -22,7 +22,7 @@ use Rattle.dam_blocks.proofs.Families.{accepts_descendant}
 use Rattle.dam_blocks.proofs.Descending.{descends_is}
 use Rattle.dam_blocks.proofs.Participants.{over_accepted-agree}
 use Rattle.dam_blocks.proofs.Transfer.{prices_transfer, welfare_transfer}
-use Rattle.dam_hour.proofs.Exchanges.{Reordered, Same, Kept, Exchanged, Then, reordered}
+use Rattle.dam_blocks.proofs.Exchanges.{Reordered, Same, Kept, Exchanged, Then, reordered}
 
 -- ---- lists of acceptances
 -- the block stands in the other list too, where it is decided as here

@@ -100,7 +100,7 @@ with_itself a b same =
     ap₂ (λ (w : List ℕ) (o : Option (List ℕ)). same_text a.who w && same_group a.order.group o) (same_participant a b same) (group_is a b same)
     ∙ same
 
-pub not_true : (x : Bool) → (x ≡ true → ⊥) → x ≡ false
+not_true : (x : Bool) → (x ≡ true → ⊥) → x ≡ false
 not_true true never = absurd (never refl)
 not_true false never = refl
 

@@ -107,7 +107,7 @@ of_child problem i j p is at =
     let l = long.1 in
     of_parent problem i j p long.0 is (place_of_child problem p j is at) long.1 (omega (arith, inside, l))
 
-pub or_true : (x : Bool) → (x || true) ≡ true
+or_true : (x : Bool) → (x || true) ≡ true
 or_true true = refl
 or_true false = refl
 

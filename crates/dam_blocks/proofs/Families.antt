@@ -189,7 +189,7 @@ root_is_top blocks sel (suc n) j (Some p) chains e acc l =
     let least = deeper.1 in
     (deeper.0, omega (arith, least, below))
 
-pub or_false : (x : Bool) → (x || false) ≡ x
+or_false : (x : Bool) → (x || false) ≡ x
 or_false true = refl
 or_false false = refl
 

@@ -23,7 +23,6 @@ use Rattle.dam_blocks.specs.declared.problem.ProblemRow.{ProblemRow}
 use Rattle.dam_blocks.specs.Problem.{ProblemState, step_in, steps_in, hours_from, block_under, blocks_in, place_after, rows_after}
 use Rattle.dam_blocks.specs.Problem.{problem_of, hourly_orders, AreHoursInRange, AreBlocks, HasParentBefore, StandsAt, IsProblem}
 use Rattle.dam_blocks.specs.inside.Making.{hourly_step}
-use Rattle.dam_book.proofs.Keys.{both_true}
 use Rattle.dam_blocks.proofs.WelfareAtLeastZero.{same_block}
 
 -- the block of a row
@@ -148,6 +147,9 @@ few_blocks (r ∷ rs) = let here = block_more r.0 r.1 (blocks_in rs) in let rest
     omega (arith, here, rest, sum)
 
 -- ---- names
+both_true : (a b : Bool) → (a && b) ≡ true → (a ≡ true) × (b ≡ true)
+both_true true b e = (refl, e)
+both_true false b e = (e, absurd (cc))
 
 same_key-equal : (k l : Key) → same_key k l ≡ true → (k.0 ≡ l.0) × (k.1 ≡ l.1)
 same_key-equal k l e =
@@ -214,7 +216,7 @@ blocks_apart (r ∷ rs) u =
     apart_option r.0 r.1 rs (not_none (lookup (same_key r.0) rs) both.0) (blocks_apart rs both.1)
 
 -- ---- parents
-pub true_not : (b : Bool) → not b ≡ true → b ≡ false
+true_not : (b : Bool) → not b ≡ true → b ≡ false
 true_not true e = absurd (cc)
 true_not false e = refl
 

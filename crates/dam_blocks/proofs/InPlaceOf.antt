@@ -29,8 +29,7 @@ use Rattle.dam_blocks.proofs.WelfareAtLeastZero.{added_some, raised_some, same_b
 use Rattle.dam_blocks.proofs.Sums.{over_accepted-nil}
 use Rattle.dam_blocks.proofs.Participants.{over_accepted-agree}
 use Rattle.dam_blocks.proofs.Transfer.{prices_transfer}
-use Rattle.dam_blocks.proofs.Repricing.{value_raised, surplus_raised}
-use Rattle.dam_hour.proofs.Numbers.{minus_times}
+use Rattle.dam_blocks.proofs.Repricing.{minus_times, value_raised, surplus_raised}
 
 -- ---- one place decided otherwise
 decided_there : (xs : List Bool) (i : ℕ) (d : Bool) → i < length xs → accepts (set xs i d) i ≡ d

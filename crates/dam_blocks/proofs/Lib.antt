@@ -32,6 +32,7 @@ pub mod Repricing
 pub mod InPlaceOf
 pub mod HourlyOrder
 pub mod WorstLimit
+pub mod Exchanges
 pub mod BlockOrder
 pub mod Orders
 pub mod Roots

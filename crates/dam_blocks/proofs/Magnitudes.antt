@@ -53,7 +53,7 @@ welfare_within (s ∷ ss) (x ∷ xs) r e =
     (omega (arith, ints, here.0, rest.0), omega (arith, ints, here.1, rest.1))
 
 -- ---- the blocks
-pub volume_small : (ps : List Pair) (t : ℕ) → ArePairs ps → volume_in ps t ≤ greatest_volume
+volume_small : (ps : List Pair) (t : ℕ) → ArePairs ps → volume_in ps t ≤ greatest_volume
 volume_small [] t are = omega arith
 volume_small (p ∷ ps) t are =
     elim (p.0 == t) as (λ b. cond b p.1 (volume_in ps t) ≤ greatest_volume) [ true ↦ are.1.at_most | false ↦ volume_small ps t are.2 ]

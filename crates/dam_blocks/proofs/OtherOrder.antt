@@ -8,7 +8,7 @@ use Rattle.dam_book.specs.Order.{is_hour, is_block}
 use Rattle.dam_book.specs.Book.{Key, Row, BookState, same_key, is_day, AreRows, are_unique, are_linked, IsBook}
 use Rattle.dam_book.specs.declared.order.Order.{Order}
 use Rattle.dam_book.proofs.Keys.{same_key-flipped}
-use Rattle.dam_hour.proofs.Exchanges.{Reordered, Same, Kept, Exchanged, Then, reordered}
+use Rattle.dam_blocks.proofs.Exchanges.{Reordered, Same, Kept, Exchanged, Then, reordered}
 
 rows_too : (n : ℕ) (rows others : List Row) → Reordered rows others → AreRows n rows → AreRows n others
 rows_too n _ _ (Same rows) are = are

@@ -62,7 +62,7 @@ pub record IsClearedSoFar (blocks : List Block) (sel : List Bool) (hours : List 
   pub each : (k : ℕ) (ss : List Step) → k < place → slice_get hours k ≡ Some ss
       → IsClearingPrice ss (net_volume blocks sel (k + 1)) (get_or prices k (pos 0))
 
-pub added_assoc : (w v : ℤ) (x : Option ℤ) → added (Some w) (added (Some v) x) ≡ added (Some (w +ℤ v)) x
+added_assoc : (w v : ℤ) (x : Option ℤ) → added (Some w) (added (Some v) x) ≡ added (Some (w +ℤ v)) x
 added_assoc w v None = refl
 added_assoc w v (Some r) = let e : w +ℤ (v +ℤ r) ≡ (w +ℤ v) +ℤ r = omega (arith, ints) in ap (λ (z : ℤ). Some z) e
 

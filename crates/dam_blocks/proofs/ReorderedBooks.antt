@@ -6,7 +6,7 @@ use Rattle.std.proofs.lemmas.List.Sorted.{IsPermutation-refl, IsPermutation-cons
 use Rattle.dam_book.specs.Book.{Row, BookState}
 use Rattle.dam_blocks.specs.Problem.{step_in, hours_from, block_under, problem_of}
 use Rattle.dam_blocks.specs.Changes.{AreReordered, IsReordered, HasBlocksReordered}
-use Rattle.dam_hour.proofs.Exchanges.{Reordered, Same, Kept, Exchanged, Then, reordered}
+use Rattle.dam_blocks.proofs.Exchanges.{Reordered, Same, Kept, Exchanged, Then, reordered}
 
 one_more : {Y : Type 0} (o : Option Y) (xs ys : List Y) → IsPermutation xs ys → IsPermutation (cons_option o xs) (cons_option o ys)
 one_more None xs ys is = is

@@ -1,11 +1,12 @@
 -- A block with another limit: no price reads it, and a better one raises the gain of the block and its ancestors, and
 -- the welfare of the selections that accept it.
-use Rattle.std.proofs.Common.{◌≡◌, ◌⊎◌, inl, inr, ℕ, zero, suc, ◌+◌, ◌<◌, ◌≤◌, ℤ, pos, negsuc, ◌+ℤ◌, ◌-ℤ◌, ◌*ℤ◌, ◌≤ℤ◌, Bool, true, false}
+use Rattle.std.proofs.Common.{◌≡◌, ◌⊎◌, inl, inr, ℕ, zero, suc, ◌+◌, ◌*◌, ◌<◌, ◌≤◌, ℤ, pos, negsuc, ◌+ℤ◌, ◌-ℤ◌, ◌*ℤ◌, ◌≤ℤ◌, Bool, true, false}
 use Rattle.std.proofs.Common.{◌&&◌, ◌||◌, ◌==◌, cond, not, nat_lt, Option, Some, None, List, [], ◌∷◌, length, slice_set, ap, ap₂, ◌∙◌, sym, subst, refl, arith}
 use Rattle.std.specs.List.{slice_get, position_or_len}
 use Rattle.std.specs.Option.{option_map, unwrap_or}
 use Rattle.std.proofs.lemmas.Int.{ints}
 use Rattle.std.proofs.lemmas.Bool.{cases_eq}
+use borrow.Author.Differences.{up, down}
 use Rattle.dam_book.specs.Limits.{most_of_group}
 use Rattle.dam_book.specs.Terms.{BlockTerms}
 use Rattle.dam_book.specs.declared.order.Side.{Side}
@@ -29,7 +30,6 @@ use Rattle.dam_blocks.proofs.WelfareAtLeastZero.{added_some, raised_some}
 use Rattle.dam_blocks.proofs.Participants.{over_accepted-agree}
 use Rattle.dam_blocks.proofs.Ranks.{same_rank}
 use Rattle.dam_blocks.proofs.Transfer.{prices_transfer, executions_transfer, welfare_transfer}
-use Rattle.dam_hour.proofs.Numbers.{minus_times}
 
 -- ---- the block and its fellows
 -- the blocks with that limit for the one at a place
@@ -260,6 +260,12 @@ sum_raised f bs sel i b limit at less =
 times_at_least : (z : ℤ) (x : ℕ) → pos 0 ≤ℤ z → pos 0 ≤ℤ (z *ℤ pos x)
 times_at_least (pos n) x h = omega (arith, ints)
 times_at_least (negsuc n) x h = absurd (let no : 0 < 0 = omega (arith, ints, h) in omega (arith, no))
+
+pub minus_times : (a b : ℤ) (x : ℕ) → (a -ℤ b) *ℤ pos x +ℤ b *ℤ pos x ≡ a *ℤ pos x
+minus_times a b x =
+    let e : up (a -ℤ b) + down a + up b ≡ down (a -ℤ b) + up a + down b = omega (arith, ints) in
+    let m = ap (λ (n : ℕ). n * x) e in
+    omega (arith, ints, m)
 
 times_grows : (a b : ℤ) (x : ℕ) → a ≤ℤ b → (a *ℤ pos x) ≤ℤ (b *ℤ pos x)
 times_grows a b x h =

@@ -11,7 +11,6 @@ use Rattle.dam_hour.specs.Best.{signed}
 use Rattle.dam_blocks.specs.declared.problem.Block.{Block}
 use Rattle.dam_blocks.specs.Selection.{padded, over_accepted, volume_in, net_volume_of_block, value_in, net_volume, accepted_value}
 use Rattle.dam_blocks.specs.Eligible.{surplus_in}
-use Rattle.dam_hour.proofs.Numbers.{minus_times}
 
 pub over_accepted-plus : (f g : BlockTerms → ℤ) (bs : List Block) (sel : List Bool)
     → over_accepted (λ o. f o +ℤ g o) bs sel ≡ over_accepted f bs sel +ℤ over_accepted g bs sel
@@ -27,7 +26,7 @@ times_plus p a b c e =
     let n = ap (λ (n : ℕ). down p * n) k in
     omega (arith, ints, m, n)
 
-pub times_zero : (p : ℤ) → p *ℤ pos 0 ≡ pos 0
+times_zero : (p : ℤ) → p *ℤ pos 0 ≡ pos 0
 times_zero p = omega (arith, ints)
 
 pub over_accepted-times : (p : ℤ) (f : BlockTerms → ℤ) (bs : List Block) (sel : List Bool)
@@ -75,6 +74,11 @@ over_accepted-zero (b ∷ bs) (true ∷ sel) = let rest = over_accepted-zero bs 
 over_accepted-zero (b ∷ bs) (false ∷ sel) = over_accepted-zero bs sel
 
 -- ---- the gain of a block is its value and the price of its net volume
+minus_times : (a b : ℤ) (x : ℕ) → (a -ℤ b) *ℤ pos x +ℤ b *ℤ pos x ≡ a *ℤ pos x
+minus_times a b x =
+    let e : up (a -ℤ b) + down a + up b ≡ down (a -ℤ b) + up a + down b = omega (arith, ints) in
+    let m = ap (λ (n : ℕ). n * x) e in
+    omega (arith, ints, m)
 
 times_neg : (p z : ℤ) (x : ℕ) → z ≡ neg_ℤ (pos x) → p *ℤ z +ℤ p *ℤ pos x ≡ pos 0
 times_neg p z x e = let s = times_plus p z (pos x) (pos 0) (omega (arith, ints)) in let n = times_zero p in omega (arith, ints, s, n)

@@ -1,9 +1,10 @@
 -- Numbers of the blocks at their places: how they are read, how large they are, and how they change.
-use Rattle.std.proofs.Common.{◌≡◌, ℕ, zero, suc, ◌*◌, ◌<◌, ◌≤◌, ℤ, pos, neg_ℤ, ◌+ℤ◌, ◌*ℤ◌, Some, List, []}
+use Rattle.std.proofs.Common.{◌≡◌, ℕ, zero, suc, ◌*◌, ◌<◌, ◌≤◌, ◌==◌, cond, true, false, ℤ, pos, neg_ℤ, ◌+ℤ◌, ◌*ℤ◌, Some, List, []}
 use Rattle.std.proofs.Common.{◌∷◌, length, take, get_or, slice_set, ap, ap₂, ◌∙◌, sym, subst, refl, arith}
 use Rattle.std.specs.List.{slice_get}
 use Rattle.std.proofs.lemmas.Int.{ints}
 use Rattle.dam_book.specs.Terms.{BlockTerms, IsBlockOrder}
+use Rattle.dam_book.specs.Volumes.{Pair, ArePairs}
 use Rattle.dam_book.specs.Limits.{most_blocks, last_period, greatest_volume}
 use Rattle.dam_book.specs.declared.order.Side.{Side}
 use Rattle.dam_book.specs.declared.order.Side.TheVariants.{Buy, Sell}
@@ -13,7 +14,7 @@ use Rattle.dam_blocks.specs.declared.problem.Block.{Block}
 use Rattle.dam_blocks.specs.Problem.{AreBlocks}
 use Rattle.dam_blocks.specs.Magnitude.{IsWithin}
 use Rattle.dam_blocks.specs.Selection.{volume_in, net_volume_of_block, value_in}
-use Rattle.dam_blocks.proofs.Magnitudes.{value_within, volume_small}
+use Rattle.dam_blocks.proofs.Magnitudes.{value_within}
 use Rattle.dam_bound.specs.Sums.{over_periods, at_places}
 use Rattle.dam_bound.specs.inside.BlockNumbers.{AreNumbersWithin, AreRaised}
 use Rattle.dam_bound.proofs.ClassPlaces.{periods_within}
@@ -85,6 +86,10 @@ at_next (suc n) f (x ∷ bs) zero b at l =
 at_next (suc n) f (x ∷ bs) (suc i) b at l = ap (λ (xs : List ℤ). f x.order ∷ xs) (at_next n f bs i b at (omega (arith, l)))
 
 -- ---- how large the numbers of a block are
+volume_small : (ps : List Pair) (t : ℕ) → ArePairs ps → volume_in ps t ≤ greatest_volume
+volume_small [] t are = omega arith
+volume_small (p ∷ ps) t are =
+    elim (p.0 == t) as (λ b. cond b p.1 (volume_in ps t) ≤ greatest_volume) [ true ↦ are.1.at_most | false ↦ volume_small ps t are.2 ]
 
 one_net : (side : Side) (v : ℕ) → v ≤ greatest_volume → IsWithin greatest_volume (neg_ℤ (signed side (pos v)))
 one_net Buy v l = record { at_least = omega (arith, ints, l); at_most = omega (arith, ints, l) }

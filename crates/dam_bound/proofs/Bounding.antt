@@ -1,6 +1,6 @@
 -- The relaxed welfare, period by period.
 use Rattle.std.proofs.Common.{◌≡◌, ℕ, suc, ◌+◌, ◌*◌, ◌≤◌, ℤ, pos, neg_ℤ, ◌+ℤ◌, ◌≤ℤ◌, Bool, Option, Some, None, List, ◌++◌, length, drop, ap}
-use Rattle.std.proofs.Common.{ap₂, ◌∙◌, sym, arith}
+use Rattle.std.proofs.Common.{ap₂, ◌∙◌, sym, refl, arith}
 use Rattle.std.specs.List.{slice_get}
 use Rattle.std.specs.Option.{option_map}
 use Rattle.dam_hour.specs.Best.{greatest_welfare}
@@ -14,7 +14,6 @@ use Rattle.dam_blocks.specs.Magnitude.{IsWithin}
 use Rattle.dam_bound.specs.Relaxed.{as_steps, relaxed_hours}
 use Rattle.dam_bound.specs.inside.Levels.{greatest_period_bound}
 use Rattle.dam_bound.proofs.Levelling.{drop_at}
-use Rattle.dam_blocks.proofs.PeriodByPeriod.{added_assoc}
 
 -- the welfare of the periods so far, and the periods that are left
 pub record IsBoundSoFar (blocks : List Block) (accepted : List Bool) (left : List Block) (hours : List (List Step)) (place : ℕ) (total : ℤ)
@@ -23,6 +22,10 @@ pub record IsBoundSoFar (blocks : List Block) (accepted : List Bool) (left : Lis
       ≡ welfare_from blocks accepted 1 (relaxed_hours left 1 hours)
   pub low : neg_ℤ (pos (place * greatest_period_bound)) ≤ℤ total
   pub high : total ≤ℤ pos (place * greatest_period_bound)
+
+added_assoc : (w v : ℤ) (x : Option ℤ) → added (Some w) (added (Some v) x) ≡ added (Some (w +ℤ v)) x
+added_assoc w v None = refl
+added_assoc w v (Some r) = let e : w +ℤ (v +ℤ r) ≡ (w +ℤ v) +ℤ r = omega (arith, ints) in ap (λ (z : ℤ). Some z) e
 
 -- the periods after a place, with the blocks that are left as steps
 abbrev later_hours : List Block → ℕ → List (List Step) → List (List Step)

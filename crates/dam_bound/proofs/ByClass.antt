@@ -19,8 +19,7 @@ use Rattle.dam_bound.specs.ClassCurves.{class_orders, day_value}
 use Rattle.dam_bound.specs.Sums.{over_periods, class_places, over_places}
 use Rattle.dam_bound.proofs.ClassPlaces.{over_same, by_class, periods_plus, listed}
 use Rattle.dam_bound.proofs.Classing.{over_class, class_net, first_first, first_most}
-use Rattle.dam_bound.proofs.Covering.{raised_is}
-use Rattle.dam_blocks.proofs.WelfareAtLeastZero.{added_some, raised_some}
+use Rattle.dam_bound.proofs.Covering.{added_some, raised_some, raised_is}
 use Rattle.dam_bound.proofs.Worth.{worth}
 
 -- both numbers of a sum that is there

@@ -15,7 +15,6 @@ use Rattle.dam_blocks.specs.Eligible.{added, period_welfare, welfare_from}
 use Rattle.dam_bound.specs.Relaxed.{as_steps, relaxed_hours}
 use Rattle.dam_bound.proofs.Levelling.{relaxed_at}
 use Rattle.dam_bound.proofs.Standing.{stand, idle}
-use Rattle.dam_blocks.proofs.WelfareAtLeastZero.{added_some, raised_some}
 
 -- the laws of sums over blocks
 pub record SumLaws : Type 0 where
@@ -42,6 +41,14 @@ pub record Laws : Type 0 where
   pub sums : SumLaws
 
 -- ---- options
+pub added_some : (x y : Option ℤ) (w : ℤ) → added x y ≡ Some w → (u : ℤ) × (v : ℤ) × (x ≡ Some u) × (y ≡ Some v) × (u +ℤ v ≡ w)
+added_some (Some x) (Some y) w e = (x, y, refl, refl, cc)
+added_some None y w e = absurd (cc)
+added_some (Some x) None w e = absurd (cc)
+
+pub raised_some : (x : Option ℤ) (k u : ℤ) → option_map (λ w. w +ℤ k) x ≡ Some u → (g : ℤ) × (x ≡ Some g) × (g +ℤ k ≡ u)
+raised_some (Some x) k u e = (x, refl, cc)
+raised_some None k u e = absurd (cc)
 
 pub raised_is : (x : Option ℤ) (k g : ℤ) → x ≡ Some g → option_map (λ w. w +ℤ k) x ≡ Some (g +ℤ k)
 raised_is x k g e = ap (option_map (λ w. w +ℤ k)) e

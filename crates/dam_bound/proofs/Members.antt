@@ -13,7 +13,6 @@ use Rattle.dam_blocks.specs.Family.{descends}
 use Rattle.dam_blocks.specs.Eligible.{surplus_of, surplus_at}
 use Rattle.dam_bound.specs.inside.Families.{IsFamily, AreFamilies}
 use Rattle.dam_bound.proofs.Accepted.{if_accepted}
-use Rattle.dam_blocks.proofs.Sums.{over_accepted-nil}
 
 -- ---- the descendants among the first places
 pub record AreDescendantsSoFar (blocks : List Block) (place count : ℕ) (descendants : List Bool) : Type 0 where
@@ -40,6 +39,9 @@ none_met blocks place family met are e h j l =
     unmet (descends blocks place j) met e (λ t. h (j, is ∙ t, is ∙ t))
 
 -- ---- sums over accepted places
+over_accepted-nil : (f : BlockTerms → ℤ) (bs : List Block) → over_accepted f bs [] ≡ pos 0
+over_accepted-nil f [] = refl
+over_accepted-nil f (b ∷ bs) = refl
 
 first_apart : (f : BlockTerms → ℤ) (b : Block) (bs : List Block) (c : Bool) (sel : List Bool)
     → over_accepted f (b ∷ bs) (c ∷ sel) ≡ if_accepted c (f b.order) +ℤ over_accepted f bs sel

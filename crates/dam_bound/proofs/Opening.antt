@@ -17,7 +17,7 @@ or_false false b e = (refl, e)
 unlike : (m n : ℕ) → (m == n) ≡ false → m ≢ n
 unlike m n e f = grind (arith, nat_tests, e, f)
 
-pub differ : (m n : ℕ) → m ≢ n → (m == n) ≡ false
+differ : (m n : ℕ) → m ≢ n → (m == n) ≡ false
 differ m n ne = elim (m == n) as (λ b. (m == n) ≡ b → b ≡ false) [
   | true ↦ λ e. absurd (ne (eqb-true m n e))
   | false ↦ λ e. refl

@@ -21,12 +21,18 @@ use Rattle.dam_bound.specs.ClassCurves.{class_orders, day_value}
 use Rattle.dam_bound.specs.Sums.{over_periods, class_places, over_places}
 use Rattle.dam_bound.proofs.ClassPlaces.{times_plus, turned, over_same, by_class, periods_plus, class_times}
 use Rattle.dam_bound.proofs.Classing.{over_class, class_net, class_volume, same_class}
-use Rattle.dam_blocks.proofs.Sharing.{length_prices}
 
 -- ---- the prices of the periods
 -- the price of a period of the day
 abbrev pub price_in : List ℤ → ℕ → ℤ
 price_in prices t = get_or prices (t - 1) (pos 0)
+
+pub as_long : (blocks : List Block) (sel : List Bool) (t : ℕ) (hours : List (List Step)) (prices : List ℤ)
+    → ArePrices blocks sel t hours prices → length prices ≡ length hours
+as_long blocks sel t [] [] are = refl
+as_long blocks sel t [] (p ∷ prices) are = absurd are
+as_long blocks sel t (ss ∷ hours) [] are = absurd are
+as_long blocks sel t (ss ∷ hours) (p ∷ prices) are = ap suc (as_long blocks sel (suc t) hours prices are.1)
 
 -- each period has this price at its net volume
 abbrev ArePricesAt : (ℕ → ℤ) → List Block → List Bool → ℕ → List (List Step) → Type 0
@@ -152,7 +158,7 @@ pub surplus_is : (problem : ProblemState) (sel : List Bool) (prices : List ℤ) 
     → surplus_of prices b.order ≡ gain_by problem (class_price problem prices) (class_places problem) b.order
 surplus_is problem sel prices k b are at =
     let n = length problem.hours in let f = price_in prices in let o = b.order in
-    let long = length_prices problem.blocks sel 1 problem.hours prices are in
+    let long = as_long problem.blocks sel 1 problem.hours prices are in
     let parts = surplus_parts f o 1 prices (λ i l. (let place : (1 + i) - 1 ≡ i = omega arith in ap (λ (m : ℕ). get_or prices m (pos 0)) place))
     ∙ ap (over_periods (λ u. value_in u o +ℤ f u *ℤ net_volume_of_block u o) 1) long in
     let sum = periods_plus (λ u. value_in u o) (λ u. f u *ℤ net_volume_of_block u o) 1 n in

@@ -4,9 +4,10 @@ use Rattle.std.proofs.Common.{length-append, ap, ◌∙◌, refl, arith}
 use Rattle.std.proofs.lemmas.Int.{ints}
 use Rattle.std.proofs.lemmas.Bool.Decides.{nat_tests}
 use Rattle.dam_book.specs.Book.{is_day}
+use Rattle.dam_book.specs.Volumes.{Pair, ArePairs}
 use Rattle.dam_hour.specs.declared.step.Step.{Step}
 use Rattle.dam_hour.specs.Execution.{AreInRange}
-use Rattle.dam_book.specs.Limits.{last_period, most_blocks}
+use Rattle.dam_book.specs.Limits.{last_period, greatest_volume, most_blocks}
 use Rattle.dam_hour.specs.Limits.{greatest_value}
 use Rattle.dam_hour.specs.Best.{welfare_of, greatest_welfare}
 use Rattle.dam_blocks.specs.declared.problem.Block.{Block}
@@ -16,11 +17,13 @@ use Rattle.dam_blocks.specs.Eligible.{period_welfare, welfare_from}
 use Rattle.dam_blocks.specs.Magnitude.{IsWithin, greatest_selection_welfare}
 use Rattle.dam_bound.specs.Relaxed.{step_of, as_steps, relaxed_hours, relaxed_welfare}
 use Rattle.dam_bound.proofs.Standing.{stand}
-use Rattle.dam_bound.proofs.Covering.{Laws}
-use Rattle.dam_blocks.proofs.WelfareAtLeastZero.{added_some, raised_some}
-use Rattle.dam_blocks.proofs.Magnitudes.{volume_small}
+use Rattle.dam_bound.proofs.Covering.{Laws, added_some, raised_some}
 
 -- ---- the steps
+volume_small : (ps : List Pair) (t : ℕ) → ArePairs ps → volume_in ps t ≤ greatest_volume
+volume_small [] t are = omega arith
+volume_small (p ∷ ps) t are =
+    elim (p.0 == t) as (λ b. cond b p.1 (volume_in ps t) ≤ greatest_volume) [ true ↦ are.1.at_most | false ↦ volume_small ps t are.2 ]
 
 pub steps_in_range : (periods t : ℕ) (bs : List Block) → AreBlocks periods bs → AreInRange (as_steps t bs)
 steps_in_range periods t [] are = tt

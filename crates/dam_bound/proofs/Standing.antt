@@ -3,15 +3,19 @@ use Rattle.std.proofs.Common.{◌≡◌, ℕ, ◌==◌, cond, ℤ, pos, neg_ℤ,
 use Rattle.std.proofs.Common.{arith}
 use Rattle.std.proofs.lemmas.Int.{ints}
 use Rattle.std.proofs.lemmas.Bool.Decides.{nat_tests}
+use Rattle.dam_book.specs.Terms.{BlockTerms}
 use Rattle.dam_book.specs.declared.order.Side.{Side}
 use Rattle.dam_book.specs.declared.order.Side.TheVariants.{Buy, Sell}
 use Rattle.dam_hour.specs.declared.step.Step.{Step}
 use Rattle.dam_hour.specs.Execution.{IsExecution, executed_volume, volume_on}
 use Rattle.dam_hour.specs.Best.{signed, welfare_of}
 use Rattle.dam_blocks.specs.declared.problem.Block.{Block}
-use Rattle.dam_blocks.specs.Selection.{volume_in, net_volume_of_block, value_in, net_volume, accepted_value}
+use Rattle.dam_blocks.specs.Selection.{over_accepted, volume_in, net_volume_of_block, value_in, net_volume, accepted_value}
 use Rattle.dam_bound.specs.Relaxed.{step_of, as_steps}
-use Rattle.dam_blocks.proofs.Sums.{over_accepted-nil, times_zero}
+
+pub over_accepted-nil : (f : BlockTerms → ℤ) (bs : List Block) → over_accepted f bs [] ≡ pos 0
+over_accepted-nil f [] = refl
+over_accepted-nil f (b ∷ bs) = refl
 
 -- ---- one block
 net_is : (side : Side) (v : ℕ) → pos (volume_on Sell side v) ≡ pos (volume_on Buy side v) +ℤ neg_ℤ (signed side (pos v))
@@ -27,6 +31,9 @@ nothing_on Sell Sell = refl
 signed_zero : (side : Side) (z : ℤ) → z ≡ pos 0 → signed side z ≡ pos 0
 signed_zero Buy z e = e
 signed_zero Sell z e = omega (arith, ints, e)
+
+times_zero : (p : ℤ) → p *ℤ pos 0 ≡ pos 0
+times_zero p = omega (arith, ints)
 
 nothing_worth : (side : Side) (p : ℤ) → signed side (p *ℤ pos 0) ≡ pos 0
 nothing_worth side p = signed_zero side (p *ℤ pos 0) (times_zero p)

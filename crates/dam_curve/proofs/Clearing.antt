@@ -12,9 +12,8 @@ use Rattle.dam_hour.specs.Best.{welfare_of, execution_surplus, greatest_welfare}
 use Rattle.dam_hour.specs.Price.{Supports, IsSupporting, AreEnds, price_between}
 use Rattle.dam_curve.specs.Supply.{height_of}
 use Rattle.dam_curve.specs.inside.Supply.{worth_of}
-use Rattle.dam_hour.proofs.Numbers.{times_net}
 use Rattle.dam_curve.proofs.Units.{all_units, units_under, units_up_to, gain_under, AreUnitsAt, Reaches, IsCostOf}
-use Rattle.dam_curve.proofs.Parts.{up_to_full, part_most}
+use Rattle.dam_curve.proofs.Parts.{up_to_full, part_most, times_net}
 use Rattle.dam_curve.proofs.Supplying.{taken, spent, height_is, taken_total, supported_spent, supported_reaches, reached_execution, welfare_spent}
 
 -- ---- all of the supply

@@ -2,13 +2,13 @@
 use Rattle.std.proofs.Common.{◌≡◌, ℕ, zero, suc, ◌+◌, ◌-◌, ◌*◌, ◌<◌, ◌≤◌, ℤ, pos, ◌+ℤ◌, ◌-ℤ◌, ◌*ℤ◌, inl, inr, ap, refl, arith}
 use Rattle.std.proofs.lemmas.Int.{ints}
 use Rattle.std.proofs.lemmas.Bool.{cases_lt}
+use borrow.Author.Differences.{up, down}
 use Rattle.dam_book.specs.declared.order.Side.{Side}
 use Rattle.dam_book.specs.declared.order.Side.TheVariants.{Buy, Sell}
 use Rattle.dam_hour.specs.Execution.{volume_on}
 use Rattle.dam_hour.specs.Price.{IsBetter, IsWorse}
 use Rattle.dam_hour.specs.Best.{signed}
 use Rattle.dam_curve.proofs.Units.{if_any}
-use Rattle.dam_hour.proofs.Numbers.{minus_times}
 
 -- ---- the volume of a step, if it stands under a height or up to it
 any_full : (g q : ℕ) → 0 < g → if_any g q ≡ q
@@ -119,6 +119,12 @@ part_cost a h q y b w = elim (cases_lt a h) [
   ]
 ]
 
+minus_times : (a b : ℤ) (x : ℕ) → (a -ℤ b) *ℤ pos x +ℤ b *ℤ pos x ≡ a *ℤ pos x
+minus_times a b x =
+    let e : up (a -ℤ b) + down a + up b ≡ down (a -ℤ b) + up a + down b = omega (arith, ints) in
+    let m = ap (λ (n : ℕ). n * x) e in
+    omega (arith, ints, m)
+
 -- a limit times a volume, by the limit's height
 limit_times : (limit c : ℤ) (a x : ℕ) → limit ≡ c +ℤ pos a → limit *ℤ pos x ≡ c *ℤ pos x +ℤ pos (a * x)
 limit_times limit c a x e =
@@ -145,3 +151,10 @@ part_welfare Buy limit c a q x b s t w v u el f e =
 part_welfare Sell limit c a q x b s t w v u el f e =
     let m = limit_times limit c a x el in
     omega (arith, ints, m, e)
+
+pub times_net : (p net : ℤ) (b s : ℕ) → pos s +ℤ net ≡ pos b → p *ℤ pos b ≡ p *ℤ pos s +ℤ p *ℤ net
+times_net p net b s e =
+    let k : s + up net ≡ b + down net = omega (arith, ints) in
+    let m = ap (λ (n : ℕ). up p * n) k in
+    let n = ap (λ (n : ℕ). down p * n) k in
+    omega (arith, ints, m, n)

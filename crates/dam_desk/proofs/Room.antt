@@ -12,7 +12,23 @@ use Rattle.dam_results.proofs.FieldBytes.{AreFields, HasFieldBytes, command_fiel
 use Rattle.dam_store.specs.FileLines.{bytes_on_disk, head_line, marked, text_of}
 use Rattle.dam_store.specs.Limits.{most_file_bytes}
 use Rattle.dam_desk.specs.DeskJournal.{Journal, ReadsBack, desk_journal_text}
-use Rattle.dam_results.proofs.ReadBack.{line_length, line_limit}
+
+-- a line's greatest length by those of its fields
+abbrev line_limit : List ℕ → ℕ
+line_limit [] = 1
+line_limit (n ∷ ns) = n + 1 + line_limit ns
+
+line_length : (ns : List ℕ) (xs : Fields) → AreFields ns xs → length (join_with_byte 44 xs) + 1 ≤ line_limit ns
+line_length [] [] h = omega arith
+line_length [] (x ∷ xs) h = absurd h
+line_length (n ∷ ns) [] h = absurd h
+line_length (n ∷ []) (x ∷ []) h = let f = h.0.fits in omega arith
+line_length (n ∷ m ∷ ns) (x ∷ []) h = absurd h.1
+line_length (n ∷ []) (x ∷ y ∷ xs) h = absurd h.1
+line_length (n ∷ m ∷ ns) (x ∷ y ∷ xs) h =
+    let f = h.0.fits in
+    let more = line_length (m ∷ ns) (y ∷ xs) h.1 in
+    omega (arith, length-append x (44 ∷ join_with_byte 44 (y ∷ xs)))
 
 short_line : (row : Fields) → AreFields limits row → length (row_line row) ≤ line_limit limits
 short_line row h = let f = line_length limits row h in omega (arith, length-append (join_with_byte 44 row) (10 ∷ []))

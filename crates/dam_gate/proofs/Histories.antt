@@ -11,12 +11,17 @@ use Rattle.dam_book.specs.Limits.{most_entries}
 use Rattle.dam_gate.specs.Journal.{JournalState, IsHistory, IsJournal, FoundRoom, next_entry, journal_after}
 use Rattle.dam_book.specs.Command.{is_journal_full}
 use Rattle.std.proofs.lemmas.Bool.{leb-false}
-use Rattle.dam_book.proofs.Histories.{periods-carried_out}
+
+carried_out-periods : (b : BookState) (c : Command) → (carried_out b c).periods ≡ b.periods
+carried_out-periods b (Submit who name order) = refl
+carried_out-periods b (Amend who name price volumes) = refl
+carried_out-periods b (Cancel who name) = refl
+carried_out-periods b Close = refl
 
 pub book_after-periods : (b : BookState) (c : Command) → (book_after b c).periods ≡ b.periods
 book_after-periods b c =
     elim (is_some (refusal b c)) as (λ (t : Bool). (if t then b else carried_out b c).periods ≡ b.periods)
-    [ true ↦ refl | false ↦ periods-carried_out b c ]
+    [ true ↦ refl | false ↦ carried_out-periods b c ]
 
 pub run_from-snoc : (b : BookState) (es : List Entry) (e : Entry)
     → run_from b (commands_of (es ++ e ∷ [])) ≡ book_after (run_from b (commands_of es)) e.command

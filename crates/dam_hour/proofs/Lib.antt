@@ -18,6 +18,5 @@ pub mod Magnitude
 pub mod Joining
 pub mod Answering
 pub mod Fairness
-pub mod Exchanges
 pub mod Reordering
 pub mod Falling

@@ -28,7 +28,6 @@ use Rattle.dam_results.specs.declared.published.RowResult.TheVariants.{Hour as H
 use Rattle.dam_results.specs.Published.{prices_of, IsPeriodResult, ArePeriodResults, IsExecuted, HasSurplus, AreRowResults}
 use Rattle.dam_results.specs.Clearing.{IsClearing}
 use Rattle.dam_results.specs.Market.{price_in, published_gains, published_trades}
-use Rattle.dam_blocks.proofs.Families.{where_true}
 use Rattle.dam_results.proofs.Places.{same_hour, same_block, best_at, get_between, blocks_split, steps_split}
 
 -- the laws below
@@ -237,6 +236,10 @@ welfare_adds_up laws book welfare periods rows is clearing =
     ∙ ap (λ (z : ℤ). Some z) (rows_gain laws book sel periods executions.0 [] book.rows rows day refl published.rows_are))
 
 -- ---- the volumes of a period
+abbrev where_true : Bool → ℤ → ℤ
+where_true true x = x
+where_true false x = pos 0
+
 no_selection : (f : BlockTerms → ℤ) (bs : List Block) → over_accepted f bs [] ≡ pos 0
 no_selection f [] = refl
 no_selection f (b ∷ bs) = refl

@@ -1,5 +1,5 @@
 -- A selection is published in one way: the price of a period and its best execution are the only ones, and each order has one place.
-use Rattle.std.proofs.Common.{◌≡◌, ℕ, suc, ℤ, pos, ◌+ℤ◌, Bool, List, [], ◌∷◌, slice_get, ap, ap₂, ◌∙◌, sym, subst, refl, arith}
+use Rattle.std.proofs.Common.{◌≡◌, ℕ, suc, ℤ, pos, ◌+ℤ◌, Bool, List, [], ◌∷◌, Some, slice_get, ap, ap₂, ◌∙◌, sym, subst, refl, arith}
 use Rattle.std.proofs.lemmas.Int.{ints}
 use Rattle.std.proofs.lemmas.Option.{same_Some}
 use Rattle.dam_book.specs.declared.order.Side.TheVariants.{Buy}

@@ -162,11 +162,11 @@ spelled_written periods commands day valid = spelled_line (day_row periods) (map
 -- and is short enough
 
 -- a line's greatest length by those of its fields
-abbrev pub line_limit : List ℕ → ℕ
+abbrev line_limit : List ℕ → ℕ
 line_limit [] = 1
 line_limit (n ∷ ns) = n + 1 + line_limit ns
 
-pub line_length : (ns : List ℕ) (xs : Fields) → AreFields ns xs → length (join_with_byte 44 xs) + 1 ≤ line_limit ns
+line_length : (ns : List ℕ) (xs : Fields) → AreFields ns xs → length (join_with_byte 44 xs) + 1 ≤ line_limit ns
 line_length [] [] h = omega arith
 line_length [] (x ∷ xs) h = absurd h
 line_length (n ∷ ns) [] h = absurd h

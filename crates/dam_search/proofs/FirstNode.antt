@@ -14,7 +14,7 @@ use Rattle.dam_bound.specs.Prefix.{IsCompletion}
 use Rattle.dam_search.specs.Piece.{IsFind, IsSound}
 use Rattle.dam_search.specs.inside.PriceWalk.{are_distinct, IsDecisionOrder, IsNode, IsOpenFind, FindsOpen, CoversOpen}
 use Rattle.dam_search.proofs.Ordering.{distinct_parts}
-use Rattle.dam_blocks.proofs.Choices.{length-choice}
+use Rattle.dam_search.proofs.Prefixes.{length-choice}
 use Rattle.dam_search.proofs.Sets.{accepts-none}
 
 -- ---- the decisions of the piece

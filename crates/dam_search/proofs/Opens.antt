@@ -20,8 +20,7 @@ use Rattle.dam_search.specs.Piece.{IsMatched, Rises, welfare_found}
 use Rattle.dam_search.specs.inside.Collect.{IsLong}
 use Rattle.dam_search.specs.inside.Conflicts.{AcceptsAll, AcceptsNone}
 use Rattle.dam_search.specs.inside.PriceWalk.{IsNode, IsBounded, with_place_if, with_all, bound_after, IsOpenFind, FindsOpen, CoversOpen, IsReady, IsWalkedOpen}
-use Rattle.dam_search.proofs.Ranks.{IsTransitive, stays, welfare_rises, matched_rises, rises_twice}
-use Rattle.dam_blocks.proofs.Ranks.{ranks_self}
+use Rattle.dam_search.proofs.Ranks.{IsTransitive, stays, welfare_rises, ranks_with_itself, matched_rises, rises_twice}
 
 -- ---- the places of a node
 
@@ -372,7 +371,7 @@ walked_leaf problem accepted read offer read' offer' before after best long read
       inr (subst (λ (o : Option Solution). IsMatched w sel o) (sym found)
       (subst (λ (xs : List Bool). RanksAtOrBelow w xs (pos best.welfare) best.selection) (is ∙ sym only)
       (subst (λ (z : ℤ). RanksAtOrBelow z best.selection (pos best.welfare) best.selection) (sym same)
-      (ranks_self (pos best.welfare) best.selection)))));
+      (ranks_with_itself (pos best.welfare) best.selection)))));
   grows = omega (arith, kept);
   read = (let was = ready.read in omega (arith, kept, was, told));
   offered = offered ∙ ap (λ (o : Option Solution). max offer (welfare_found o)) (sym found);

@@ -1,11 +1,19 @@
 -- A prefix of decisions, and the selection that accepts no other block.
-use Rattle.std.proofs.Common.{◌≡◌, ℕ, suc, ◌+◌, ◌-◌, ◌<◌, ◌≤◌, Bool, true}
-use Rattle.std.proofs.Common.{false, List, [], ◌∷◌, ◌++◌, length, replicate, take, length-append, ap, ◌∙◌, sym, refl, arith}
+use Rattle.std.proofs.Common.{◌≡◌, ℕ, zero, suc, ◌+◌, ◌-◌, ◌^◌, ◌<◌, ◌≤◌, Bool, true}
+use Rattle.std.proofs.Common.{false, cond, nat_lt, List, [], ◌∷◌, ◌++◌, length, replicate, take, length-append, ap, ◌∙◌, sym, refl, arith}
 use Rattle.std.proofs.Math.ListN.{set}
 use Rattle.std.proofs.lemmas.List.{length-take-le, length-replicate}
 use Rattle.std.proofs.Math.Seq.{take-append_seam}
 use Rattle.dam_book.specs.Limits.{most_blocks}
-use Rattle.dam_blocks.specs.Selection.{padded}
+use Rattle.dam_blocks.specs.Selection.{padded, choice}
+
+pub length-choice : (n k : ℕ) → length (choice n k) ≡ n
+length-choice zero k = refl
+length-choice (suc n) k =
+    elim (nat_lt k (2 ^ n)) as (λ b. length (cond b (true ∷ choice n k) (false ∷ choice n (k - 2 ^ n))) ≡ suc n) [
+      | true ↦ ap suc (length-choice n k)
+      | false ↦ ap suc (length-choice n (k - 2 ^ n))
+    ]
 
 -- the first places of a padded list are the list, and pad it again
 pub prefix_is : (prefix accepted : List Bool) (n : ℕ) → accepted ≡ padded prefix → length prefix ≡ n → take n accepted ≡ prefix

@@ -5,16 +5,32 @@ use Rattle.std.proofs.lemmas.Int.{ints}
 use Rattle.dam_book.specs.Limits.{most_blocks}
 use Rattle.dam_blocks.specs.declared.selection.Solution.{Solution}
 use Rattle.dam_blocks.specs.Problem.{ProblemState}
-use Rattle.dam_blocks.specs.Result.{RanksAbove, RanksAtOrBelow}
+use Rattle.dam_blocks.specs.Result.{accepts_first, RanksAbove, RanksAtOrBelow}
 use Rattle.dam_bound.specs.Prefix.{IsCompletion}
 use Rattle.dam_search.specs.Piece.{IsFind, IsMatched, Rises, welfare_found}
 use Rattle.dam_search.specs.inside.PrefixWalk.{Finds, Covers}
 use Rattle.dam_search.specs.inside.Collect.{IsLong}
-use Rattle.dam_blocks.proofs.Ranks.{accepts_first-flipped, ranks_self}
+
+turned : (xs ys : List Bool) → accepts_first xs ys ≡ true → accepts_first ys xs ≡ false
+turned [] ys e = absurd (cc)
+turned (true ∷ xs) [] e = absurd (cc)
+turned (false ∷ xs) [] e = absurd (cc)
+turned (true ∷ xs) (true ∷ ys) e = turned xs ys e
+turned (false ∷ xs) (false ∷ ys) e = turned xs ys e
+turned (true ∷ xs) (false ∷ ys) e = refl
+turned (false ∷ xs) (true ∷ ys) e = absurd (cc)
 
 -- a selection that another ranks above ranks below it
 pub above_below : (v : ℤ) (xs : List Bool) (w : ℤ) (ys : List Bool) → RanksAbove v xs w ys → RanksAtOrBelow w ys v xs
-above_below v xs w ys h = record { by_welfare = h.by_welfare; by_order = λ e. accepts_first-flipped xs ys (h.by_order (sym e)) }
+above_below v xs w ys h = record { by_welfare = h.by_welfare; by_order = λ e. turned xs ys (h.by_order (sym e)) }
+
+accepts_first-self : (xs : List Bool) → accepts_first xs xs ≡ false
+accepts_first-self [] = refl
+accepts_first-self (true ∷ xs) = accepts_first-self xs
+accepts_first-self (false ∷ xs) = accepts_first-self xs
+
+pub ranks_with_itself : (v : ℤ) (xs : List Bool) → RanksAtOrBelow v xs v xs
+ranks_with_itself v xs = record { by_welfare = omega (arith, ints); by_order = λ e. accepts_first-self xs }
 
 -- the law of dam_blocks on three selections
 abbrev pub IsTransitive : Type 0
@@ -25,7 +41,7 @@ IsTransitive = (u v w : ℤ) (xs ys zs : List Bool) → length xs ≡ most_block
 
 pub stays : (best : Option Solution) → Rises best best
 stays None = tt
-stays (Some b) = ranks_self (pos b.welfare) b.selection
+stays (Some b) = ranks_with_itself (pos b.welfare) b.selection
 
 pub welfare_rises : (a b : Option Solution) → Rises a b → welfare_found a ≤ welfare_found b
 welfare_rises None b h = omega arith

@@ -15,7 +15,6 @@ use Rattle.dam_bound.specs.declared.net_limits.NetLimit.{NetLimit}
 use Rattle.dam_search.specs.declared.conflicts.Conflicts.{Conflicts}
 use Rattle.dam_search.specs.inside.Conflicts.{AcceptsAll, AcceptsNone, Needs, IsNeededBy, Excludes, AreConflicts, IsSetOf, are_two_of_group, is_other_of_group}
 use Rattle.dam_search.proofs.Sets.{accepts-none, passes_test}
-use Rattle.dam_blocks.proofs.Conflicting.{not_true}
 
 -- what the laws of admissible selections say
 pub record ConflictLaws : Type 0 where
@@ -104,6 +103,9 @@ excludes_others laws problem place row set selection w eligible on j among =
     (apart_from j place is.0) is.1 on
 
 -- ---- rivals
+pub not_true : (x : Bool) → (x ≡ true → ⊥) → x ≡ false
+not_true true never = absurd (never refl)
+not_true false never = refl
 
 -- the rows of a problem have no part in what is eligible
 without_rows_eligible : (problem : ProblemState) (selection : List Bool) (w : ℤ) → IsEligible (without_rows problem) selection w

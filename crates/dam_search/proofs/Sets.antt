@@ -4,7 +4,6 @@ use Rattle.std.proofs.lemmas.Bool.{and_parts, ltb-true}
 use Rattle.dam_book.specs.Limits.{most_blocks}
 use Rattle.dam_blocks.specs.Selection.{accepts}
 use Rattle.dam_search.specs.inside.Conflicts.{IsSetOf}
-use Rattle.dam_blocks.proofs.FromBook.{true_not}
 
 -- of the places below n, those that pass the test
 pub record IsSetSoFar (n : ℕ) (test : ℕ → Bool) (places : List Bool) : Type 0 where
@@ -21,9 +20,13 @@ pub passes_test : (n : ℕ) (test : ℕ → Bool) (places : List Bool) (at : ℕ
     → test at ≡ true
 passes_test n test places at is on = (and_parts (nat_lt at n) (test at) (sym (is at) ∙ on)).1
 
+not_so : (b : Bool) → not b ≡ true → b ≡ false
+not_so true e = absurd (cc)
+not_so false e = refl
+
 -- a place of the set of those below n that the others lack
 pub is_apart : (n : ℕ) (others places : List Bool) (at : ℕ) → IsSetOf n (λ place. not (accepts others place)) places → accepts places at ≡ true
     → (at < n) × (accepts others at ≡ false)
 is_apart n others places at is on =
     let parts = and_parts (nat_lt at n) (not (accepts others at)) (sym (is at) ∙ on) in
-    (ltb-true at n parts.0, true_not (accepts others at) parts.1)
+    (ltb-true at n parts.0, not_so (accepts others at) parts.1)

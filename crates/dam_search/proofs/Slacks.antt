@@ -1,8 +1,9 @@
 -- The slack that decisions leave under limits, by the places that are open.
-use Rattle.std.proofs.Common.{◌≡◌, ◌≢◌, ℕ, zero, suc, ◌≤◌, ℤ, pos, neg_ℤ, ◌+ℤ◌, ◌≤ℤ◌, Bool, true, false, not, ◌||◌, List, ◌∷◌, length, ◌+◌, get_or}
+use Rattle.std.proofs.Common.{◌≡◌, ◌≢◌, ℕ, zero, suc, ◌≤◌, ℤ, pos, neg_ℤ, ◌+ℤ◌, ◌≤ℤ◌, Bool, true, false, not, ◌==◌, ◌||◌, List, ◌∷◌, length, ◌+◌, get_or}
 use Rattle.std.proofs.Common.{ap, sym, subst, refl, arith}
 use Rattle.std.specs.Prelude.{nat_lt, None}
 use Rattle.std.proofs.lemmas.Int.{ints, int_max_is}
+use Rattle.std.proofs.lemmas.Bool.{eqb-true}
 use Rattle.std.proofs.lemmas.Bool.Decides.{nat_tests}
 use Rattle.dam_book.specs.Limits.{most_blocks}
 use Rattle.dam_blocks.specs.Problem.{ProblemState}
@@ -16,7 +17,6 @@ use Rattle.dam_search.specs.Piece.{IsSound}
 use Rattle.dam_search.specs.inside.PriceWalk.{AgreesUnder, IsNode, IsDecisionOrder, IsSlack, with_place_if}
 use Rattle.dam_search.proofs.FirstNode.{among_first, not_among_before, piece_sound}
 use Rattle.dam_search.proofs.Opens.{finds_none, open_any, open_here}
-use Rattle.dam_bound.proofs.Opening.{differ}
 
 -- ---- fewer places are open
 taken_positive : (accept : Bool) (z : ℤ) → pos 0 ≤ℤ slack_taken accept z
@@ -62,6 +62,11 @@ pub agrees_here : (at : ℕ) (accepted sel : List Bool) → AgreesUnder (at + 1)
 agrees_here at accepted sel agrees = agrees at (omega arith)
 
 -- ---- the slack of a node
+differ : (m n : ℕ) → m ≢ n → (m == n) ≡ false
+differ m n ne = elim (m == n) as (λ b. (m == n) ≡ b → b ≡ false) [
+  | true ↦ λ e. absurd (ne (eqb-true m n e))
+  | false ↦ λ e. refl
+] refl
 
 pub others_among : (place p : ℕ) (left : List ℕ) → p ≢ place → is_among p left ≡ is_among p (place ∷ left)
 others_among place p left apart = sym (ap (λ (b : Bool). b || is_among p left) (differ p place apart))

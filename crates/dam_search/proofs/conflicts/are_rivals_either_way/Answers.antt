@@ -1,6 +1,6 @@
 -- Either order of the two; the one that loses is rejected.
 use Rattle.dam_blocks.specs.Selection.{accepts}
-use Rattle.dam_blocks.proofs.Conflicting.{not_true}
+use Rattle.dam_search.proofs.RulingOut.{not_true}
 use Rattle.dam_search.proofs.conflicts.are_rivals_either_way.Goals as goal
 
 pub returns-else-are_rivals : goal.returns-else-are_rivals

@@ -1,7 +1,6 @@
 -- A choice is as long as it has places.
 use Rattle.dam_blocks.specs.Selection.{choice}
-use Rattle.dam_search.proofs.Prefixes.{prefix_is, prefix_kept}
-use Rattle.dam_blocks.proofs.Choices.{length-choice}
+use Rattle.dam_search.proofs.Prefixes.{length-choice, prefix_is, prefix_kept}
 use Rattle.dam_search.proofs.prefix.Prefix.of_piece.Goals as goal
 
 pub invariant_of-result : goal.invariant_of-result

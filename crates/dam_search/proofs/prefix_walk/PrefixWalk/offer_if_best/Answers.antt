@@ -2,8 +2,7 @@
 use Rattle.std.proofs.Common.{inl, inr, ◌≡◌, pos, List, Bool, Some, ◌∙◌, sym, subst, arith}
 use Rattle.std.proofs.lemmas.Int.{ints}
 use Rattle.dam_blocks.specs.Eligible.{IsEligible}
-use Rattle.dam_search.proofs.Ranks.{finds_nothing, matched_as}
-use Rattle.dam_blocks.proofs.Ranks.{ranks_self}
+use Rattle.dam_search.proofs.Ranks.{finds_nothing, ranks_with_itself, matched_as}
 use Rattle.dam_search.proofs.prefix_walk.PrefixWalk.offer_if_best.Goals.{then-welfare-found-via-then-welfare-found}
 use Rattle.dam_search.proofs.prefix_walk.PrefixWalk.offer_if_best.Goals.{then-welfare-found-via-else-welfare-found+then-not-ranks_above_found}
 use Rattle.dam_search.proofs.prefix_walk.PrefixWalk.offer_if_best.Goals as goal
@@ -43,4 +42,4 @@ returns-clause-covers g c sel w whole e =
     let same : w ≡ pos c.in-Eligible.welfare = c.verdict_tells_eligibility.ensures.one problem selection w (pos c.in-Eligible.welfare)
     (subst (λ (xs : List Bool). IsEligible problem xs w) only e) c.in-Eligible.ensures in
     inr (matched_as w (pos c.in-Eligible.welfare) sel selection (Some (record { selection = selection; welfare = c.in-Eligible.welfare })) only same
-    (ranks_self (pos c.in-Eligible.welfare) selection))
+    (ranks_with_itself (pos c.in-Eligible.welfare) selection))

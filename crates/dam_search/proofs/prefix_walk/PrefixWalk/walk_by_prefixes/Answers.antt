@@ -5,7 +5,7 @@ use Rattle.dam_blocks.specs.Problem.{ProblemState}
 use Rattle.dam_blocks.specs.Selection.{choice}
 use Rattle.dam_search.specs.Piece.{IsFind, IsSound, IsSpent}
 use Rattle.dam_search.specs.inside.PrefixWalk.{Finds, Covers}
-use Rattle.dam_blocks.proofs.Choices.{length-choice}
+use Rattle.dam_search.proofs.Prefixes.{length-choice}
 use Rattle.dam_search.proofs.Walks.{spent_from}
 use Rattle.dam_search.proofs.prefix_walk.PrefixWalk.walk_by_prefixes.Goals as goal
 
