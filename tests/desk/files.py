@@ -36,6 +36,7 @@ READS = 70_000  # more than 16 bits count
 LINES = 300_000  # of an input that comes in by as many reads
 LENGTHS = [round(1.5**power) for power in range(1, 29)]  # of lines, up to one that is too long
 PATHS = (1_001, 1_024, 2_500, 4_000)  # bytes of long paths
+LONG_WORDS = (9_000, 100_000, 131_000)  # letters; Linux takes words of 131,071 bytes at most
 MEMORY = 32 << 20  # bytes of addresses, for the longest inputs and files
 TOO_MANY_BYTES = (MOST_FILE_BYTES + 1, 3 << 30, 1 << 32)  # of a file
 OTHER_FILES = [(0, 0, 1), (0, 0, 1 << 32), (0, 1, 0), (1, 0, 0)]  # how much greater their devices and numbers are than the desk's file's
@@ -44,7 +45,6 @@ END = b"\x04"  # the byte that Ctrl-D sends to a terminal: a read ends there
 # A line for each fault that a line has after its day.
 LINES_BY_FAULT = {"NotAscii,7": b"cancel,\xff,,,,,,,\n", "NotOneRecord": b"\r\n", "FieldCount": b"cancel,A\n",
                   "BadField,3": b"cancel,A,a,,,,,,\n", "OtherDay": b"day,25,,,,,,,\n"}  # fmt: skip
-USAGE = b"command line\nUsage: dam-desk "
 HELP = b"""\
 Usage: dam-desk FILE < COMMANDS
        dam-desk --journal FILE
@@ -255,11 +255,15 @@ class FileTests:
         lines = [[], ["a", "b"], ["a", "--journal"], ["--journal"], ["--journal", "a", "b"], ["--journal"] * 3, ["--other"], ["-h"], ["-"],
                  ["--help", "a"], ["a", ""], ["", "a"], ["--journal", "a", ""], ["", "--help"], [NO_TEXT],
                  ["--journal", NO_TEXT]]  # fmt: skip
+        for word in ("A" * length for length in LONG_WORDS):
+            lines += [["-" + word], ["--" + word], [word, "a"], ["a", word], ["--journal", word, "a"], ["--journal=" + word]]
         for words in lines:
-            folder = self.desk.make_folder()
-            got = self.run_on_text(words, cwd=folder)
-            self.counts.check(f"the words {words}: {got!r:.200}", (got.status, got.stdout) == (2, b"") and got.stderr.startswith(USAGE))
-            self.counts.check(f"the words {words} make no file", not list(folder.iterdir()))
+            folder, about = self.desk.make_folder(), f"the words {[word[:20] for word in words]} of {[*map(len, words)]} letters"
+            self.check_run(about, self.run_on_text(words, cwd=folder), 2, b"", b"command line\n" + HELP)
+            self.counts.check(f"{about} make no file", not list(folder.iterdir()))
+        for words, length in itertools.product(([], ["--journal"]), LONG_WORDS):
+            fault = fault_of_error(errno.ENAMETOOLONG)
+            self.check_run(f"{words} and a name of {length:,} letters", self.run_on_text([*words, "A" * length]), 4, b"", fault)
         for words in ([""], ["--journal", ""]):
             self.check_run(f"an empty name in {words}", self.run_on_text(words), 4, b"", fault_of_error(errno.ENOENT))
         got = self.run_on_text(["--help"])
