@@ -90,9 +90,9 @@ first_gain problem prices values i gain few are e within =
     }
 
 pub gain_next : (problem : ProblemState) (prices : List ℤ) (j : ℕ) (class : Class) (i : ℕ) (gain after price : ℤ)
-    → length problem.blocks ≤ most_blocks → IsAtPlace problem j class.first_period
-    → class.nets ≡ at_places most_blocks (net_volume_of_block (class.first_period + 1)) problem.blocks → AreNumbersWithin greatest_volume class.nets → i < most_blocks
-    → IsWithin (last_period * greatest_price) price → price ≡ get_or prices class.first_period (pos 0)
+    → length problem.blocks ≤ most_blocks → IsAtPlace problem j class.first_place
+    → class.nets ≡ at_places most_blocks (net_volume_of_block (class.first_place + 1)) problem.blocks → AreNumbersWithin greatest_volume class.nets → i < most_blocks
+    → IsWithin (last_period * greatest_price) price → price ≡ get_or prices class.first_place (pos 0)
     → after ≡ gain +ℤ price *ℤ get_or class.nets i (pos 0)
     → IsGainSoFar problem prices j i gain → IsGainSoFar problem prices (j + 1) i after
 gain_next problem prices j class i gain after price few place nets_are nets_small inside small price_is sum so_far =
@@ -102,7 +102,7 @@ gain_next problem prices j class i gain after price few place nets_are nets_smal
     record {
       small = record { at_least = omega (arith, ints, sum, a, d); at_most = omega (arith, ints, sum, b, e) };
       is = λ block at.
-          (let c = class.first_period in
+          (let c = class.first_place in
           let one = ap (λ (xs : List ℤ). get_or xs i (pos 0)) nets_are
           ∙ at_block most_blocks (net_volume_of_block (c + 1)) problem.blocks i (pos 0) block at few in
           let same = ap₂ (λ (p v : ℤ). p *ℤ v) price_is one in

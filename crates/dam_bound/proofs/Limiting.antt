@@ -306,12 +306,12 @@ net_of problem sel c nets few are =
 -- with an eligible selection the net volume of a class lies in the range at which it balances
 pub within_range : (problem : ProblemState) (curves : CurvesState) (class : Class) (range : NetRange) → length problem.blocks ≤ most_blocks
     → IsClassIn problem curves class
-    → ((net : ℤ) → least_net_in (class.first_period + 1) problem.blocks ≤ℤ net → net ≤ℤ most_net_in (class.first_period + 1) problem.blocks
-    → (net <ℤ range.least) ⊎ (range.most <ℤ net) → joint_welfare (class_orders problem class.first_period) net ≡ None)
+    → ((net : ℤ) → least_net_in (class.first_place + 1) problem.blocks ≤ℤ net → net ≤ℤ most_net_in (class.first_place + 1) problem.blocks
+    → (net <ℤ range.least) ⊎ (range.most <ℤ net) → joint_welfare (class_orders problem class.first_place) net ≡ None)
     → (sel : List Bool) (w : ℤ) → IsEligible problem sel w
     → (range.least ≤ℤ over_gains class.nets sel) × (over_gains class.nets sel ≤ℤ range.most)
 within_range problem curves class range few is outside sel w eligible =
-    let c = class.first_period in
+    let c = class.first_place in
     let net = net_of problem sel c class.nets few is.nets_are in
     let inside = net_inside (c + 1) problem.blocks sel in
     let has = has_whole problem sel w eligible.welfare_is in

@@ -49,13 +49,13 @@ pub record IsAtPlace (problem : ProblemState) (j c : ℕ) : Type 0 where
   pub index : j < last_period
 
 pub class_at : (problem : ProblemState) (curves : CurvesState) (classes : List Class) (j : ℕ) (class : Class) → length problem.hours ≤ last_period
-    → AreClasses problem curves classes → slice_get classes j ≡ Some class → IsAtPlace problem j class.first_period
+    → AreClasses problem curves classes → slice_get classes j ≡ Some class → IsAtPlace problem j class.first_place
 class_at problem curves classes j class few are at =
-    let there = mapped_at (λ (x : Class). x.first_period) classes j class at in
+    let there = mapped_at (λ (x : Class). x.first_place) classes j class at in
     let place = ap (λ (ps : List ℕ). slice_get ps j) (sym are.places_are) ∙ there in
-    let is = is_place problem.blocks 0 (length problem.hours) j class.first_period place in let below = is.below in
+    let is = is_place problem.blocks 0 (length problem.hours) j class.first_place place in let below = is.below in
     let many = few_places problem.blocks 0 (length problem.hours) in
-    let index = slice_get_within (class_places problem) j class.first_period place in record {
+    let index = slice_get_within (class_places problem) j class.first_place place in record {
       place = place;
       first = is.first;
       inside = omega (arith, below);
@@ -65,7 +65,7 @@ class_at problem curves classes j class few are at =
 
 pub as_many : (problem : ProblemState) (curves : CurvesState) (classes : List Class) → AreClasses problem curves classes
     → length (class_places problem) ≡ length classes
-as_many problem curves classes are = sym (ap (λ (ps : List ℕ). length ps) are.places_are) ∙ mapped_long (λ (x : Class). x.first_period) classes
+as_many problem curves classes are = sym (ap (λ (ps : List ℕ). length ps) are.places_are) ∙ mapped_long (λ (x : Class). x.first_place) classes
 
 -- ---- the lines so far
 -- the surplus of a block at the prices of the classes at these places
@@ -113,12 +113,12 @@ over_kept problem f lines j c line at l =
     (ap (λ (x : Line). f x c) (line_same lines c line l))
 
 pub line_more : (problem : ProblemState) (j : ℕ) (class : Class) (line : Line) (base base_after : ℤ) (gains after : List ℤ) (lines : List Line)
-    → length problem.hours ≤ last_period → IsAtPlace problem j class.first_period
-    → class.nets ≡ at_places most_blocks (net_volume_of_block (class.first_period + 1)) problem.blocks
-    → IsClassLine problem class.first_period line → base_after ≡ base +ℤ line.surplus → AreRaised line.price class.nets gains after
-    → IsLinedSoFar problem j base gains lines → IsLinedSoFar problem (j + 1) base_after after (slice_set lines class.first_period line)
+    → length problem.hours ≤ last_period → IsAtPlace problem j class.first_place
+    → class.nets ≡ at_places most_blocks (net_volume_of_block (class.first_place + 1)) problem.blocks
+    → IsClassLine problem class.first_place line → base_after ≡ base +ℤ line.surplus → AreRaised line.price class.nets gains after
+    → IsLinedSoFar problem j base gains lines → IsLinedSoFar problem (j + 1) base_after after (slice_set lines class.first_place line)
 line_more problem j class line base base_after gains after lines few is nets_are own sum raised so_far =
-    let c = class.first_period in let places = class_places problem in let long = so_far.long in let below = is.below in
+    let c = class.first_place in let places = class_places problem in let long = so_far.long in let below = is.below in
     let l : c < length lines = omega (arith, long, below) in
     let number : suc j ≡ j + 1 = omega arith in
     let base_is = so_far.base_is in
@@ -225,7 +225,7 @@ all_lines problem curves classes j pricing few few_blocks blocks are past within
 -- ---- the class that is read
 pub record IsOwn (problem : ProblemState) (curves : CurvesState) (j : ℕ) (class : Class) : Type 0 where
   pub is : IsClassIn problem curves class
-  pub place : IsAtPlace problem j class.first_period
+  pub place : IsAtPlace problem j class.first_place
   pub small : AreNumbersWithin greatest_volume class.nets
 
 read_at : {X : Type 0} (items xs : List X) (j : ℕ) (d : X) → items ≡ xs → j < length items → slice_get xs j ≡ Some (get_or items j d)
@@ -239,8 +239,8 @@ own_class problem curves classes values families items j d are same l =
     let is = are.classes_are.each j (get_or items j d) at in record {
       is = is;
       place = class_at problem curves classes j (get_or items j d) are.few_periods are.classes_are at;
-      small = all_within (net_volume_of_block ((get_or items j d).first_period + 1)) problem.blocks greatest_volume (get_or items j d).nets is.nets_are
-          (λ k b there. net_small ((get_or items j d).first_period + 1) b.order (order_at (length problem.hours) problem.blocks k b are.blocks_are there));
+      small = all_within (net_volume_of_block ((get_or items j d).first_place + 1)) problem.blocks greatest_volume (get_or items j d).nets is.nets_are
+          (λ k b there. net_small ((get_or items j d).first_place + 1) b.order (order_at (length problem.hours) problem.blocks k b are.blocks_are there));
     }
 
 -- a base and a surplus added up, as the code has it

@@ -155,7 +155,7 @@ curve_more problem c nets at ss segments there same is =
 
 -- ---- the classes so far
 pub record AreClassesSoFar (problem : ProblemState) (curves : CurvesState) (at : ℕ) (classes : List Class) : Type 0 where
-  pub places_are : map (λ (class : Class). class.first_period) classes ≡ firsts_from problem.blocks 0 at
+  pub places_are : map (λ (class : Class). class.first_place) classes ≡ firsts_from problem.blocks 0 at
   pub each : (j : ℕ) (class : Class) → slice_get classes j ≡ Some class → IsClassIn problem curves class
 
 kept : (problem : ProblemState) (before after : CurvesState) (at : ℕ) (classes : List Class) → Keeps before after
@@ -179,7 +179,7 @@ at_end (z ∷ xs) x P each own zero y at = each 0 y at
 at_end (z ∷ xs) x P each own (suc j) y at = at_end xs x P (λ k w there. each (suc k) w there) own j y at
 
 pub one_class : (problem : ProblemState) (before after : CurvesState) (at : ℕ) (classes : List Class) (class : Class) → Keeps before after
-    → first_of_class problem.blocks at ≡ at → class.first_period ≡ at → length problem.blocks ≤ most_blocks
+    → first_of_class problem.blocks at ≡ at → class.first_place ≡ at → length problem.blocks ≤ most_blocks
     → IsCurveAt after class.curve (class_orders problem at) (negative_sum class.nets) (positive_sum class.nets)
     → class.nets ≡ at_places most_blocks (net_volume_of_block (at + 1)) problem.blocks
     → AreClassesSoFar problem before at classes → AreClassesSoFar problem after (at + 1) (classes ++ class ∷ [])
@@ -198,7 +198,7 @@ one_class problem before after at classes class keeps first same few curve nets 
           (subst (λ (z : ℤ). IsCurveAt after class.curve (class_orders problem at) z (positive_sum class.nets)) low curve));
       nets_are = subst (λ (n : ℕ). class.nets ≡ at_places most_blocks (net_volume_of_block (n + 1)) blocks) (sym same) nets;
     } in record {
-      places_are = mapped_end (λ (x : Class). x.first_period) classes class
+      places_are = mapped_end (λ (x : Class). x.first_place) classes class
           ∙ ap₂ (λ (ps : List ℕ) (n : ℕ). ps ++ n ∷ []) was.places_are (same ∙ sym none)
           ∙ sym more ∙ ap (firsts_from blocks 0) number;
       each = at_end classes class (IsClassIn problem after) was.each own;

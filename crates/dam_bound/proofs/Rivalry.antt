@@ -148,15 +148,15 @@ no_class problem sell buy weights values d e most few are is = record {
 }
 
 pub class_more : (problem : ProblemState) (j : ℕ) (class : Class) (range : PriceRange) (sell buy : ℕ) (weights : Weights)
-    (d e volume term most after : ℤ) → length problem.blocks ≤ most_blocks → IsAtPlace problem j class.first_period
-    → class.nets ≡ at_places most_blocks (net_volume_of_block (class.first_period + 1)) problem.blocks
-    → ArePricesIn (class_orders problem class.first_period) (least_net_in (class.first_period + 1) problem.blocks) (most_net_in (class.first_period + 1) problem.blocks) range
+    (d e volume term most after : ℤ) → length problem.blocks ≤ most_blocks → IsAtPlace problem j class.first_place
+    → class.nets ≡ at_places most_blocks (net_volume_of_block (class.first_place + 1)) problem.blocks
+    → ArePricesIn (class_orders problem class.first_place) (least_net_in (class.first_place + 1) problem.blocks) (most_net_in (class.first_place + 1) problem.blocks) range
     → volume ≡ weigh weights (get_or class.nets sell d) (get_or class.nets buy e)
     → ((p : ℤ) → range.lowest ≤ℤ p → p ≤ℤ range.highest → (p *ℤ volume) ≤ℤ term) → after ≡ most +ℤ term
     → IsMostSoFar problem j sell buy weights most → IsMostSoFar problem (j + 1) sell buy weights after
 class_more problem j class range sell buy weights d e volume term most after few place nets prices_in volume_is under sum so_far = record {
   each = λ f prices a b at there.
-      (let c = class.first_period in
+      (let c = class.first_place in
       let one = ap (λ (xs : List ℤ). get_or xs sell d) nets ∙ at_block most_blocks (net_volume_of_block (c + 1)) problem.blocks sell d a at few in
       let two = ap (λ (xs : List ℤ). get_or xs buy e) nets ∙ at_block most_blocks (net_volume_of_block (c + 1)) problem.blocks buy e b there few in
       let same = ap (λ (v : ℤ). f c *ℤ v) (volume_is ∙ ap₂ (weigh weights) one two) in

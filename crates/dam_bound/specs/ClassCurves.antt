@@ -33,13 +33,13 @@ day_value problem o = over_periods (λ t. value_in t o) 1 (length problem.hours)
 
 -- the class that begins at its place: the curve of its hourly orders, and the net volume of each block
 pub record IsClassIn (problem : ProblemState) (curves : CurvesState) (class : Class) : Type 0 where
-  pub curve_is : IsCurveAt curves class.curve (class_orders problem class.first_period)
-      (least_net_in (class.first_period + 1) problem.blocks) (most_net_in (class.first_period + 1) problem.blocks)
-  pub nets_are : class.nets ≡ at_places most_blocks (net_volume_of_block (class.first_period + 1)) problem.blocks
+  pub curve_is : IsCurveAt curves class.curve (class_orders problem class.first_place)
+      (least_net_in (class.first_place + 1) problem.blocks) (most_net_in (class.first_place + 1) problem.blocks)
+  pub nets_are : class.nets ≡ at_places most_blocks (net_volume_of_block (class.first_place + 1)) problem.blocks
 
 -- the classes of the problem in the order of their first periods
 pub record AreClasses (problem : ProblemState) (curves : CurvesState) (classes : List Class) : Type 0 where
-  pub places_are : map (λ (class : Class). class.first_period) classes ≡ class_places problem
+  pub places_are : map (λ (class : Class). class.first_place) classes ≡ class_places problem
   pub each : (j : ℕ) (class : Class) → slice_get classes j ≡ Some class → IsClassIn problem curves class
 
 -- the classes of the problem, the value of each block, and the families

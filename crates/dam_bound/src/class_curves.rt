@@ -24,7 +24,7 @@ use std::marker::Model;
 #[derive(Clone, Copy)]
 pub(crate) struct Class {
     /// The place of its first period.
-    pub(crate) first_period: u32,
+    pub(crate) first_place: u32,
     /// The joint welfare of its hourly orders over the net volume.
     pub(crate) curve: Curve,
     /// The net volume of each block in each of its periods, in tenths of a MW; 0 at the places past the last block.
@@ -94,7 +94,7 @@ impl<A: Allocator, B: Allocator> ClassCurves<'_, A, B> {
             let middle = weighted_sum(&weights, &class.nets).div_euclid(2);
             let line = self.curves.line_near(class.curve, i64::from(middle));
             pricing.base += line.surplus;
-            pricing.lines[class.first_period as usize] = line;
+            pricing.lines[class.first_place as usize] = line;
             add_priced_nets(&mut pricing.gains, &class.nets, line.price);
         }
     }
@@ -125,11 +125,11 @@ impl<A: Allocator, B: Allocator> ClassCurves<'_, A, B> {
             let Some(point) = self.curves.point(class.curve, net) else {
                 return None;
             };
-            total -= pricing.lines[class.first_period as usize].value(net) - point.welfare;
+            total -= pricing.lines[class.first_place as usize].value(net) - point.welfare;
             if total < least {
                 return None;
             }
-            prices.prices[class.first_period as usize] = point.price;
+            prices.prices[class.first_place as usize] = point.price;
         }
         if total < least { None } else { Some(total) }
     }
@@ -206,7 +206,7 @@ impl<A: Allocator, B: Allocator> ClassCurves<'_, A, B> {
         let values = &self.values;
         let mut gain = values[place];
         for class in &self.classes {
-            let price = prices.prices[class.first_period as usize];
+            let price = prices.prices[class.first_place as usize];
             gain += i64::from(class.nets[place]) * i64::from(price);
         }
         gain

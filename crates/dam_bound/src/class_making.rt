@@ -78,28 +78,29 @@ fn restart_sum<A: Allocator>(
     sum.restart(least, most)
 }
 
-/// Adds the curve of the class with this first period, over its hourly orders. The error is out of memory.
+/// Adds the curve of the class with its first period at this place, over its hourly orders. The error is out of memory.
 fn add_curve<A: Allocator, B: Allocator + Copy>(
     alloc: B,
     problem: &Problem<A>,
     firsts: &[u32; MOST_PERIODS],
     nets: &[i32; MOST_BLOCKS],
-    first_period: usize,
+    first_place: usize,
     curves: &mut Curves<B>,
 ) -> Result<Curve, AllocError>
     requires firsts { AreFirsts problem.now firsts.now }
     requires nets { AreNumbersWithin greatest_volume nets.now }
     ensures curve { IfOk result (λ curve.
-        IsCurveAt curves.new curve (class_orders problem.now first_period)
+        IsCurveAt curves.new curve (class_orders problem.now first_place)
         (negative_sum nets.now) (positive_sum nets.now)) }
     ensures kept { Keeps curves.old curves.new }
 {
     let mut sum = CurveSum::new(alloc);
     restart_sum(&mut sum, nets)?;
+    // From the last period, since a contract of a sum has the period that was added last in front.
     let mut at = usize::from(problem.periods().get());
     while at > 0 {
         at -= 1;
-        if firsts[at] as usize == first_period {
+        if firsts[at] as usize == first_place {
             let supply = Supply::of(alloc, problem.steps(Period::at(at)).unwrap())?;
             sum.add(&supply)?;
         }
@@ -125,7 +126,7 @@ pub(crate) fn add_class_curves<A: Allocator, B: Allocator + Copy>(
             let nets = net_volumes_in(blocks, at);
             let curve = add_curve(alloc, problem, &firsts, &nets, at, curves)?;
             classes.push(Class {
-                first_period: at as u32,
+                first_place: at as u32,
                 curve,
                 nets,
             })?;

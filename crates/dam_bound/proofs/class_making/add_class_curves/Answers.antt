@@ -22,9 +22,9 @@ loop-at-preserved g c =
           (let here : slice_index_or c.firsts_of_classes-firsts.result at 0 ≡ at = search (rules, w.if-firsts-at.true) in
           subst (AreClassesSoFar problem c.if-firsts-at.curves (at + 1)) (sym (ap (λ (v : _). v.items) w.classes-is ∙ w.in_ok-push.ensures.items))
           (subst (λ (curves : CurvesState). AreClassesSoFar problem curves (at + 1)
-          (c.loop-at.classes.items ++ record { first_period = at; curve = w.in_ok-curve.curve; nets = w.net_volumes_in-nets.result } ∷ [])) (sym w.curves-is)
+          (c.loop-at.classes.items ++ record { first_place = at; curve = w.in_ok-curve.curve; nets = w.net_volumes_in-nets.result } ∷ [])) (sym w.curves-is)
           (one_class problem c.loop-at.curves _ at c.loop-at.classes.items
-          (record { first_period = at; curve = w.in_ok-curve.curve; nets = w.net_volumes_in-nets.result }) w.add_curve.ensures.kept (sym first ∙ here) refl
+          (record { first_place = at; curve = w.in_ok-curve.curve; nets = w.net_volumes_in-nets.result }) w.add_curve.ensures.kept (sym first ∙ here) refl
           c.blocks-blocks.ensures.valid.few_blocks w.in_ok-curve.ensures.curve
           (w.net_volumes_in-nets.ensures.value ∙ ap (at_places most_blocks (net_volume_of_block (at + 1))) c.blocks-blocks.ensures.value)
           c.loop-at.invariant)))

@@ -7,7 +7,7 @@ abbrev pub invariant-loop-at : goal.invariant-loop-at
 invariant-loop-at g l = record {
   inside : l.at ≤ length l.problem.hours;
   same : l.curves ≡ l.fn.curves;
-  curve : IsCurveFrom l.problem l.first_period l.nets l.at l.sum;
+  curve : IsCurveFrom l.problem l.first_place l.nets l.at l.sum;
 }
 
 abbrev pub decreases-loop-at : goal.decreases-loop-at

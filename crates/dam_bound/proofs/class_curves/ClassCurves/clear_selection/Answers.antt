@@ -25,7 +25,7 @@ use Rattle.dam_bound.proofs.class_curves.ClassCurves.clear_selection.Goals as go
 
 abbrev nothing : Class
 nothing = record {
-  first_period = 0;
+  first_place = 0;
   curve = record { first = 0; count = 0; least = pos 0; most = pos 0; hints = record { first = 0; shift = 0 } };
   nets = [];
 }
@@ -54,10 +54,10 @@ point-requires g c =
     let class = get_or c.deref-class-items.result.now j nothing in
     let own = own_class c.args.self.now _ _ _ _ c.deref-class-items.result.now j nothing are c.deref-class-items.ensures.value
     c.loop-class-test.true in
-    let net = net_read c.args.self.now c.args.selection class.first_period c.acceptance_weights-counts.result class.nets c.weighted_sum.result c.from-net.result
+    let net = net_read c.args.self.now c.args.selection class.first_place c.acceptance_weights-counts.result class.nets c.weighted_sum.result c.from-net.result
     are.few_blocks own.is.nets_are own.small.long c.acceptance_weights-counts.ensures.counts c.weighted_sum.ensures.value c.weighted_sum.ensures.size
     c.from-net.ensures in
-    let range = range_read c.args.self.now c.args.selection class.first_period _ net.0 in
+    let range = range_read c.args.self.now c.args.selection class.first_place _ net.0 in
     (_, _, _, own.is.curve_is, range.0, range.1)
 
 pub returns-in_default-clause-none : goal.returns-in_default-clause-none
@@ -68,13 +68,13 @@ returns-in_default-clause-none g c none w e =
     let class = get_or c.deref-class-items.result.now j nothing in
     let own = own_class c.args.self.now _ _ _ _ c.deref-class-items.result.now j nothing are c.deref-class-items.ensures.value
     c.loop-class-test.true in
-    let net = net_read c.args.self.now c.args.selection class.first_period c.acceptance_weights-counts.result class.nets c.weighted_sum.result c.from-net.result
+    let net = net_read c.args.self.now c.args.selection class.first_place c.acceptance_weights-counts.result class.nets c.weighted_sum.result c.from-net.result
     are.few_blocks own.is.nets_are own.small.long c.acceptance_weights-counts.ensures.counts c.weighted_sum.ensures.value c.weighted_sum.ensures.size
     c.from-net.ensures in
-    let range = range_read c.args.self.now c.args.selection class.first_period _ net.0 in
+    let range = range_read c.args.self.now c.args.selection class.first_place _ net.0 in
     let joint = c.point.ensures.welfare _ _ _ own.is.curve_is range.0 range.1
-    ∙ ap (joint_welfare (class_orders c.args.self.now class.first_period)) net.0 ∙ joint_here c.args.self.now c.args.selection class.first_period in
-    absurd (none_balances c.args.self.now c.args.selection class.first_period w
+    ∙ ap (joint_welfare (class_orders c.args.self.now class.first_place)) net.0 ∙ joint_here c.args.self.now c.args.selection class.first_place in
+    absurd (none_balances c.args.self.now c.args.selection class.first_place w
     (sym joint ∙ ap (option_map (λ (p : Point). p.welfare)) c.in_default.is) e)
 
 pub bounds-pricing-class : goal.bounds-pricing-class
@@ -98,12 +98,12 @@ overflow_sub-total g c =
     let class = get_or c.deref-class-items.result.now j nothing in
     let own = own_class c.args.self.now _ _ _ _ c.deref-class-items.result.now j nothing are c.deref-class-items.ensures.value
     c.loop-class-test.true in
-    let net = net_read c.args.self.now c.args.selection class.first_period c.acceptance_weights-counts.result class.nets c.weighted_sum.result c.from-net.result
+    let net = net_read c.args.self.now c.args.selection class.first_place c.acceptance_weights-counts.result class.nets c.weighted_sum.result c.from-net.result
     are.few_blocks own.is.nets_are own.small.long c.acceptance_weights-counts.ensures.counts c.weighted_sum.ensures.value c.weighted_sum.ensures.size
     c.from-net.ensures in
-    let value = c.value.ensures ∙ ap (line_value (line_in c.args.pricing.now.lines class.first_period)) net.0 in
+    let value = c.value.ensures ∙ ap (line_value (line_in c.args.pricing.now.lines class.first_place)) net.0 in
     let size = subst (IsWithin greatest_line_value) (sym value)
-    (lined_within c.args.self.now c.args.pricing.now c.args.selection j class.first_period are.blocks_are are.few_blocks own.place.place c.requires.by_lines) in
+    (lined_within c.args.self.now c.args.pricing.now c.args.selection j class.first_place are.blocks_are are.few_blocks own.place.place c.requires.by_lines) in
     let small = c.in-Some.ensures.small in let a = small.welfare_at_least in let b = small.welfare_at_most in
     let d = size.at_least in let e = size.at_most in
     let line = to_z-of_z w64 c.value.result (omega (arith, ints, d, e)) in
@@ -118,14 +118,14 @@ overflow_sub-total-in-loop-class g c =
     let class = get_or c.deref-class-items.result.now j nothing in
     let own = own_class c.args.self.now _ _ _ _ c.deref-class-items.result.now j nothing are c.deref-class-items.ensures.value
     c.loop-class-test.true in
-    let net = net_read c.args.self.now c.args.selection class.first_period c.acceptance_weights-counts.result class.nets c.weighted_sum.result c.from-net.result
+    let net = net_read c.args.self.now c.args.selection class.first_place c.acceptance_weights-counts.result class.nets c.weighted_sum.result c.from-net.result
     are.few_blocks own.is.nets_are own.small.long c.acceptance_weights-counts.ensures.counts c.weighted_sum.ensures.value c.weighted_sum.ensures.size
     c.from-net.ensures in
-    let range = range_read c.args.self.now c.args.selection class.first_period _ net.0 in
+    let range = range_read c.args.self.now c.args.selection class.first_place _ net.0 in
     let joint = c.in-Some.ensures.welfare _ _ _ own.is.curve_is range.0 range.1
-    ∙ ap (joint_welfare (class_orders c.args.self.now class.first_period)) net.0 ∙ joint_here c.args.self.now c.args.selection class.first_period in
-    let line = c.value.ensures ∙ ap (line_value (line_in c.args.pricing.now.lines class.first_period)) net.0 in
-    let lowered = one_lowered c.args.self.now c.args.pricing.now c.args.selection j class.first_period (to_z w64 c.loop-class.total-bits) c.value.result
+    ∙ ap (joint_welfare (class_orders c.args.self.now class.first_place)) net.0 ∙ joint_here c.args.self.now c.args.selection class.first_place in
+    let line = c.value.ensures ∙ ap (line_value (line_in c.args.pricing.now.lines class.first_place)) net.0 in
+    let lowered = one_lowered c.args.self.now c.args.pricing.now c.args.selection j class.first_place (to_z w64 c.loop-class.total-bits) c.value.result
     c.in-Some.point.welfare are.few_periods are.blocks_are are.few_blocks own.place.place c.requires.by_lines (sym joint)
     (record { at_least = c.in-Some.ensures.small.welfare_at_least; at_most = c.in-Some.ensures.small.welfare_at_most }) line
     c.loop-class.invariant.lowered in
@@ -139,14 +139,14 @@ returns-then-total-least-clause-none g c none w e =
     let class = get_or c.deref-class-items.result.now j nothing in
     let own = own_class c.args.self.now _ _ _ _ c.deref-class-items.result.now j nothing are c.deref-class-items.ensures.value
     c.loop-class-test.true in
-    let net = net_read c.args.self.now c.args.selection class.first_period c.acceptance_weights-counts.result class.nets c.weighted_sum.result c.from-net.result
+    let net = net_read c.args.self.now c.args.selection class.first_place c.acceptance_weights-counts.result class.nets c.weighted_sum.result c.from-net.result
     are.few_blocks own.is.nets_are own.small.long c.acceptance_weights-counts.ensures.counts c.weighted_sum.ensures.value c.weighted_sum.ensures.size
     c.from-net.ensures in
-    let range = range_read c.args.self.now c.args.selection class.first_period _ net.0 in
+    let range = range_read c.args.self.now c.args.selection class.first_place _ net.0 in
     let joint = c.in-Some.ensures.welfare _ _ _ own.is.curve_is range.0 range.1
-    ∙ ap (joint_welfare (class_orders c.args.self.now class.first_period)) net.0 ∙ joint_here c.args.self.now c.args.selection class.first_period in
-    let line = c.value.ensures ∙ ap (line_value (line_in c.args.pricing.now.lines class.first_period)) net.0 in
-    let lowered = one_lowered c.args.self.now c.args.pricing.now c.args.selection j class.first_period (to_z w64 c.loop-class.total-bits) c.value.result
+    ∙ ap (joint_welfare (class_orders c.args.self.now class.first_place)) net.0 ∙ joint_here c.args.self.now c.args.selection class.first_place in
+    let line = c.value.ensures ∙ ap (line_value (line_in c.args.pricing.now.lines class.first_place)) net.0 in
+    let lowered = one_lowered c.args.self.now c.args.pricing.now c.args.selection j class.first_place (to_z w64 c.loop-class.total-bits) c.value.result
     c.in-Some.point.welfare are.few_periods are.blocks_are are.few_blocks own.place.place c.requires.by_lines (sym joint)
     (record { at_least = c.in-Some.ensures.small.welfare_at_least; at_most = c.in-Some.ensures.small.welfare_at_most }) line
     c.loop-class.invariant.lowered in
@@ -168,14 +168,14 @@ loop-class-preserved g c =
     let class = get_or c.deref-class-items.result.now j nothing in
     let own = own_class c.args.self.now _ _ _ _ c.deref-class-items.result.now j nothing are c.deref-class-items.ensures.value
     c.loop-class-test.true in
-    let net = net_read c.args.self.now c.args.selection class.first_period c.acceptance_weights-counts.result class.nets c.weighted_sum.result c.from-net.result
+    let net = net_read c.args.self.now c.args.selection class.first_place c.acceptance_weights-counts.result class.nets c.weighted_sum.result c.from-net.result
     are.few_blocks own.is.nets_are own.small.long c.acceptance_weights-counts.ensures.counts c.weighted_sum.ensures.value c.weighted_sum.ensures.size
     c.from-net.ensures in
-    let range = range_read c.args.self.now c.args.selection class.first_period _ net.0 in
+    let range = range_read c.args.self.now c.args.selection class.first_place _ net.0 in
     let joint = c.in-Some.ensures.welfare _ _ _ own.is.curve_is range.0 range.1
-    ∙ ap (joint_welfare (class_orders c.args.self.now class.first_period)) net.0 ∙ joint_here c.args.self.now c.args.selection class.first_period in
-    let line = c.value.ensures ∙ ap (line_value (line_in c.args.pricing.now.lines class.first_period)) net.0 in
-    let lowered = one_lowered c.args.self.now c.args.pricing.now c.args.selection j class.first_period (to_z w64 c.loop-class.total-bits) c.value.result
+    ∙ ap (joint_welfare (class_orders c.args.self.now class.first_place)) net.0 ∙ joint_here c.args.self.now c.args.selection class.first_place in
+    let line = c.value.ensures ∙ ap (line_value (line_in c.args.pricing.now.lines class.first_place)) net.0 in
+    let lowered = one_lowered c.args.self.now c.args.pricing.now c.args.selection j class.first_place (to_z w64 c.loop-class.total-bits) c.value.result
     c.in-Some.point.welfare are.few_periods are.blocks_are are.few_blocks own.place.place c.requires.by_lines (sym joint)
     (record { at_least = c.in-Some.ensures.small.welfare_at_least; at_most = c.in-Some.ensures.small.welfare_at_most }) line
     c.loop-class.invariant.lowered in
@@ -184,12 +184,12 @@ loop-class-preserved g c =
     record { at_least = c.in-Some.ensures.small.price_at_least; at_most = c.in-Some.ensures.small.price_at_most } in
     record {
       lowered = lowered.1;
-      priced = subst (λ (p : ℤ). ArePricedSoFar c.args.self.now c.args.selection (j + 1) (slice_set c.loop-class.prices.prices class.first_period p))
+      priced = subst (λ (p : ℤ). ArePricedSoFar c.args.self.now c.args.selection (j + 1) (slice_set c.loop-class.prices.prices class.first_place p))
           (sym (price_fits price small))
-          (price_more c.args.self.now c.args.selection j class.first_period price c.loop-class.prices.prices own.place
+          (price_more c.args.self.now c.args.selection j class.first_place price c.loop-class.prices.prices own.place
           (record {
             small = small;
-            joint = subst (λ (z : ℤ). IsJointPrice (class_orders c.args.self.now class.first_period) z price) net.0
+            joint = subst (λ (z : ℤ). IsJointPrice (class_orders c.args.self.now class.first_place) z price) net.0
                 (c.in-Some.ensures.price _ _ _ own.is.curve_is);
           }) c.loop-class.invariant.priced);
     }

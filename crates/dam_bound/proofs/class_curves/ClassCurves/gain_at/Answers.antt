@@ -16,7 +16,7 @@ use Rattle.dam_bound.proofs.class_curves.ClassCurves.gain_at.Goals as goal
 
 abbrev nothing : Class
 nothing = record {
-  first_period = 0;
+  first_place = 0;
   curve = record { first = 0; count = 0; least = pos 0; most = pos 0; hints = record { first = 0; shift = 0 } };
   nets = [];
 }
@@ -51,8 +51,8 @@ overflow_add-gain g c =
     c.loop-class-test.true in
     let few = are.few_blocks in let inside = c.requires.place in
     let below : c.args.place < most_blocks = omega (arith, few, inside) in
-    let priced = c.requires.prices.1.each j class.first_period own.place.place in
-    let price = get_or c.args.prices.now.prices class.first_period (pos 0) in
+    let priced = c.requires.prices.1.each j class.first_place own.place.place in
+    let price = get_or c.args.prices.now.prices class.first_place (pos 0) in
     let net = own.small.each c.args.place (pos 0) below in
     let index = own.place.index in
     let raised = gain_added (to_z w64 c.loop-class.gain-bits) c.from.result c.from-in-loop-class.result
@@ -70,8 +70,8 @@ loop-class-preserved g c =
     c.loop-class-test.true in
     let few = are.few_blocks in let inside = c.requires.place in
     let below : c.args.place < most_blocks = omega (arith, few, inside) in
-    let priced = c.requires.prices.1.each j class.first_period own.place.place in
-    let price = get_or c.args.prices.now.prices class.first_period (pos 0) in
+    let priced = c.requires.prices.1.each j class.first_place own.place.place in
+    let price = get_or c.args.prices.now.prices class.first_place (pos 0) in
     let net = own.small.each c.args.place (pos 0) below in
     let index = own.place.index in
     let raised = gain_added (to_z w64 c.loop-class.gain-bits) c.from.result c.from-in-loop-class.result

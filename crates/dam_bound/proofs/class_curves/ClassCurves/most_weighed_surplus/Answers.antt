@@ -13,7 +13,7 @@ use Rattle.dam_bound.proofs.class_curves.ClassCurves.most_weighed_surplus.Goals 
 
 abbrev nothing : Class
 nothing = record {
-  first_period = 0;
+  first_place = 0;
   curve = record { first = 0; count = 0; least = pos 0; most = pos 0; hints = record { first = 0; shift = 0 } };
   nets = [];
 }
