@@ -9,14 +9,12 @@ ghost use Rattle.dam_desk.specs.DeskJournal.{State};
 use crate::desk::Desk;
 use crate::fault::DeskFault;
 use crate::output::write_text;
-use dam_device::{Sink, Source};
+use dam_device::{CHUNK, Sink, Source};
 use sqlite_disk::Disk;
 use std::io::{Read, Write};
 
-/// The number of bytes that are asked for at a time. The lines that end in them are one batch.
-const CHUNK: usize = 65_536;
-
-/// Prints the replies to the journal that the desk has, and then answers each line of the reader.
+/// Prints the replies to the journal that the desk has, and then answers each line of the reader. The lines that end in
+/// the bytes of one read are one batch.
 ///
 /// A reader that was asked `u64::MAX` times isn't asked again. This ends the desk as if the reader had failed.
 pub(crate) fn serve<D: Disk, R: Read, W: Write>(

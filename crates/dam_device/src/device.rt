@@ -9,6 +9,9 @@ use crate::counted::{CountedReader, CountedWriter};
 use std::io::{Read, Write};
 use std::marker::Model;
 
+/// The most bytes that a program asks a [`Source`] for at a time: the length of its buffer.
+pub const CHUNK: usize = 65_536;
+
 /// A device refused.
 #[derive(Clone, Copy, PartialEq, Eq, Debug)]
 pub struct DeviceFailed;

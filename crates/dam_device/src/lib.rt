@@ -20,4 +20,4 @@
 mod counted;
 mod device;
 
-pub use device::{DeviceFailed, Sink, Source, WriteFailed};
+pub use device::{CHUNK, DeviceFailed, Sink, Source, WriteFailed};

@@ -4,16 +4,13 @@ ghost use Rattle.dam_engines.specs.Engine.{most_read};
 ghost use Rattle.dam_engines.specs.inside.Reading.{IsReadingFault};
 
 use crate::fault::RunFault;
-use dam_device::Source;
+use dam_device::{CHUNK, Source};
 use dam_results::MOST_BYTES;
 use std::alloc::Global;
 use std::io::Read;
 
 /// The most bytes that are read: one more than a journal may have, which shows that it has too many.
 pub(crate) const MOST_READ: usize = MOST_BYTES + 1;
-
-/// The number of bytes that are asked for at a time.
-const CHUNK: usize = 65_536;
 
 /// The reader's bytes, to their end or to the first `MOST_READ` of them.
 ///

@@ -2,11 +2,11 @@
 use Rattle.std.proofs.Common.{◌≡◌, ◌-◌, ◌++◌, List, ℕ, false, IsTrue, length}
 use Rattle.std.specs.Io.KnownBytes.{Consumes}
 use Rattle.dam_device.specs.Device.{most_counted}
+use Rattle.dam_device.specs.declared.device.TheConstants.{CHUNK}
 use Rattle.dam_store.specs.Store.{disk_of, held_lines, is_broken}
 use Rattle.dam_desk.specs.Desk.{IsDesk, KeepsLines}
 use Rattle.dam_desk.specs.Device.{HasFewReads, IsFlushed}
 use Rattle.dam_desk.specs.DeskJournal.{State}
-use Rattle.dam_desk.specs.declared.serve.TheConstants.{CHUNK}
 use Rattle.dam_desk.proofs.Desks.{TakesAll}
 use Rattle.dam_desk.proofs.serve.serve.Given as goal
 

@@ -2,7 +2,7 @@
 -- more.
 use Rattle.std.proofs.Common.{◌≡◌, ◌≤◌, ◌+◌, ◌-◌, false, length}
 use Rattle.std.specs.Io.KnownBytes.{Consumes}
-use Rattle.dam_engines.specs.declared.input.TheConstants.{CHUNK}
+use Rattle.dam_device.specs.declared.device.TheConstants.{CHUNK}
 use Rattle.dam_engines.specs.Engine.{most_read}
 use Rattle.dam_engines.proofs.input.read_input.Given as goal
 
