@@ -1,3 +1,6 @@
+ghost use Rattle.std.specs.Prelude.{◌≡◌, pos, replicate};
+ghost use Rattle.dam_book.specs.Limits.{last_period};
+
 use dam_blocks::MOST_PERIODS;
 
 /// The prices of the classes of periods at which a selection clears. `ClassCurves::clear_selection` writes them.
@@ -9,8 +12,10 @@ pub struct ClassPrices {
 }
 
 impl ClassPrices {
-    /// Prices to be written over.
-    pub fn placeholder() -> ClassPrices {
+    /// Zeros to be written over.
+    pub fn placeholder() -> ClassPrices
+        ensures { result ≡ record { prices = replicate last_period (pos 0) } }
+    {
         ClassPrices {
             prices: [0; MOST_PERIODS],
         }

@@ -1,7 +1,7 @@
 //! Prices for every period, and what they say of welfare: a bound.
 
-ghost use Rattle.std.specs.Prelude.{◌≡◌, ◌<◌, ◌≤◌, length, All};
-ghost use Rattle.dam_book.specs.Limits.{most_blocks};
+ghost use Rattle.std.specs.Prelude.{◌≡◌, ◌<◌, ◌≤◌, pos, length, replicate, All};
+ghost use Rattle.dam_book.specs.Limits.{last_period, most_blocks};
 ghost use Rattle.dam_blocks.specs.Problem.{ProblemState};
 ghost use Rattle.dam_bound.specs.Prices.{bound_of, IsPricing};
 
@@ -27,8 +27,14 @@ pub struct Pricing {
 }
 
 impl Pricing {
-    /// A pricing to be written over, which need not bound anything.
-    pub fn placeholder() -> Pricing {
+    /// A pricing of zeros to be written over, which need not bound anything.
+    pub fn placeholder() -> Pricing
+        ensures { result ≡ record {
+          base = pos 0;
+          gains = replicate most_blocks (pos 0);
+          lines = replicate last_period (record { price = pos 0; surplus = pos 0 });
+        } }
+    {
         Pricing {
             base: 0,
             gains: [0; MOST_BLOCKS],

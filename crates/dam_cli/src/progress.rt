@@ -105,7 +105,9 @@ pub struct Progress<'a, R: Wait + Eprint + Clock> {
 
 impl<'a, R: Wait + Eprint + Clock> Progress<'a, R> {
     /// Shows nothing, unless `is_shown`.
-    pub fn new(rt: &'a R, is_shown: bool) -> Progress<'a, R> {
+    pub fn new(rt: &'a R, is_shown: bool) -> Progress<'a, R>
+        ensures { result.is_shown ≡ is_shown }
+    {
         let state = State {
             count: Count::zero(),
             begun: None,
