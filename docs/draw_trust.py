@@ -70,7 +70,7 @@ class Effect(NamedTuple):
 def counted(day):
     """The counts, and the best selection."""
     search = Counting(day)
-    search.search_for_best()
+    search.try_all_and_return_best()
     welfare, accepted = max(search.eligible, key=lambda found: found[0])
     greatest = sum(other == welfare for other, _ in search.eligible)
     above = sorted((found for found in search.losing if found[0] > welfare), reverse=True, key=lambda found: found[0])

@@ -116,7 +116,7 @@ def right_results_or_none(read):
     problem = selection.Problem(closed)
     if len(problem.blocks) > MOST_BLOCKS:
         return None
-    found, _ = recursive_enumeration.search_for_best_and_how(problem)
+    found, _ = recursive_enumeration.search_recursively(problem)
     text = results.results_text(problem, found.accepted, selection.outcome(problem, found.accepted)).encode()
     _, wrong = check.results_and_faults(problem, text)
     if wrong:

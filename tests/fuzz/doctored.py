@@ -201,7 +201,7 @@ def draw_worse_results_or_none(rng, data):
     for _ in range(8):
         accepted = frozenset(place for place in range(len(problem.blocks)) if rng.random() < 0.5)
         outcome = selection.outcome(problem, accepted)
-        if outcome.welfare is not None and accepted != recursive_enumeration.search_for_best_and_how(problem)[0].accepted:
+        if outcome.welfare is not None and accepted != recursive_enumeration.search_recursively(problem)[0].accepted:
             return results.results_text(problem, accepted, outcome).encode()
     return None
 

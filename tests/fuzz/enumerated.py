@@ -102,7 +102,7 @@ def find_lower_selection_or_none(problem, accepted, welfare):
 
 def find_best_above(problem, said, jobs):
     """The selection that ranks above these results, as a set and its welfare; None if none does."""
-    found, _ = better.search_for_better_and_how_by_enumeration(problem, said, Progress("fuzz", 600, quiet=True), jobs, few=0)
+    found, _ = better.search_by_enumeration(problem, said, Progress("fuzz", 600, quiet=True), jobs, few=0)
     return found and (found.accepted, found.welfare)
 
 

@@ -18,7 +18,7 @@ from pathlib import Path
 sys.dont_write_bytecode = True
 sys.path[:0] = [str(Path(__file__).resolve().parents[2] / folder) for folder in ("tools", "tests")]
 
-from lib.sheets import cell_values, order_table, sheets
+from lib.sheets import cell_values, order_table, table_files
 from shared.arguments import parser_of_cases
 from shared.counts import Counts
 
@@ -36,8 +36,8 @@ def try_random_workbook(rng):
     words = broken(drawn) if broken else None
     data = words if isinstance(words, bytes) else drawn.draw_bytes()
     try:
-        found = [(number, trimmed(cells)) for number, cells in sheets.parse_rows_and_add_notes(data)[0]]
-    except sheets.BadTable as fault:
+        found = [(number, trimmed(cells)) for number, cells in table_files.parse_rows_and_add_notes(data)[0]]
+    except table_files.BadTable as fault:
         if broken is None:
             return f"it is right, and refused: {fault}"
         return None if isinstance(words, bytes) or words in str(fault) else f"{broken.__name__}: another fault: {fault}"

@@ -54,7 +54,7 @@ from .given import read_source_bytes, turning_into_faults
 from .lib.audit import checks as audit_checks
 from .lib.journal import book, journal
 from .lib.runs import by_library, by_program, engine, which
-from .lib.sheets import order_table, shapes, tables
+from .lib.sheets import day_tables, order_table, table_operations
 from .lib.tool import command, modules
 from .lib.tool.day_files import Day
 from .lib.runs.errors import Fault, TimedOut
@@ -95,7 +95,7 @@ __all__ = [
     "where",
 ]
 
-TABLES = tuple(tables.TABLES)
+TABLES = tuple(day_tables.TABLES)
 Program = str | os.PathLike[str]
 Date = datetime.date | str
 
@@ -244,14 +244,14 @@ def replay(source: JournalSource, program: Program | None = None, timeout: float
 
 
 def rows_of(day: Day | Journal, table: str, long: bool, date: Date | None) -> Any:
-    made: Any = tables.LONG if long else tables.TABLES
+    made: Any = day_tables.LONG if long else day_tables.TABLES
     if table not in made:
         form = " in a long form" if long else ""
         raise ValueError(f"there is no table {table}{form}: the tables{form} are {', '.join(made)}")
     if isinstance(day, Journal):
         if table != "commands":
             raise ValueError("a journal without results has only the table commands")
-        rows = tables.command_rows(day, book.book_and_refusals(day)[1])
+        rows = day_tables.command_rows(day, book.book_and_refusals(day)[1])
     else:
         rows = made[table](day)
     periods = day.periods if isinstance(day, Journal) else day.problem.periods
@@ -261,10 +261,10 @@ def rows_of(day: Day | Journal, table: str, long: bool, date: Date | None) -> An
 def rows_with_times(table: str, rows: list[Any], date: Date, periods: int) -> list[Any]:
     """A table with the times at which its periods begin."""
     if "period" not in rows[0]:
-        raise Fault(f"a date can't be used with {table}, which has no column of periods" + (": long=True" if table in tables.LONG else ""))
+        raise Fault(f"a date can't be used with {table}, which has no column of periods" + (": long=True" if table in day_tables.LONG else ""))
     with turning_into_faults():
-        modules.refuse_missing_zone(shapes.ZONE)
-        return list(shapes.rows_with_times(rows, shapes.as_date(date), periods))
+        modules.refuse_missing_zone(table_operations.ZONE)
+        return list(table_operations.rows_with_times(rows, table_operations.as_date(date), periods))
 
 
 def records(
@@ -272,7 +272,7 @@ def records(
 ) -> list[dict[str, Any]]:
     """The rows of a table, each a dictionary by column. With a date, a `datetime.date` or a text such as 2026-11-25, periods have the
     time at which they begin. If it is to be flat, lists of periods and volumes are texts, such as `8-20`."""
-    return list(shapes.records(rows_of(day, table, long, date), flat))
+    return list(table_operations.records(rows_of(day, table, long, date), flat))
 
 
 def frame(day: Day | Journal, table: str = "periods", long: bool = False, date: Date | None = None, flat: bool = False) -> Any:
@@ -284,10 +284,10 @@ def frame(day: Day | Journal, table: str = "periods", long: bool = False, date: 
         words = f"this Python ({sys.executable}) has no pandas, which frames need: Debian has it in the package {package}"
         raise Fault(f"{words}: apt-get install {package}") from None
     rows = list(rows_of(day, table, long, date))
-    made = pandas.DataFrame(list(shapes.records(rows, flat)), columns=rows[0])
+    made = pandas.DataFrame(list(table_operations.records(rows, flat)), columns=rows[0])
     for name in rows[0]:
-        if shapes.column_description(name, rows[0])["type"] == "number":
+        if table_operations.column_description(name, rows[0])["type"] == "number":
             made[name] = made[name].astype(float)  # also if each cell is empty
     if "begins" in made:
-        made["begins"] = pandas.to_datetime(made["begins"], utc=True).dt.tz_convert(shapes.ZONE)
+        made["begins"] = pandas.to_datetime(made["begins"], utc=True).dt.tz_convert(table_operations.ZONE)
     return made

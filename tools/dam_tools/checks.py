@@ -13,7 +13,7 @@ from .lib.journal.journal import Journal
 from .lib.lint import lint as lint_of
 from .lib.results import selection
 from .lib.runs.errors import Fault
-from .lib.sheets import shapes
+from .lib.sheets import table_operations
 from .lib.tool import command, linted, modules
 from .lib.tool.day_files import Day
 from .lib.whatif import changes, limits, whatif
@@ -172,12 +172,12 @@ def audit(
     if by not in (None, *better.METHODS):
         raise ValueError(f"there is no method {by}: the methods are {' and '.join(better.METHODS)}")
     journal: str | Journal | Source = source.journal if isinstance(source, Day) else source
-    published = source.text if isinstance(source, Day) else results
-    named = dict(journal=source_name(journal, "the journal"), results=None if published is None else source_name(published, "the results"))
+    results = source.text if isinstance(source, Day) else results
+    named = dict(journal=source_name(journal, "the journal"), results=None if results is None else source_name(results, "the results"))
     unused = dict.fromkeys(("sent", "participant", "receipts", "head", "earlier", "key", "salts"))
     flags = dict(best=best, by=by, seconds=seconds, jobs=jobs, replies=False, quiet=True, **unused)
     data = read_journal_bytes(journal)
-    sources = {"day": data} if published is None else {"journal": data, "results": read_source_bytes(published)}
+    sources = {"day": data} if results is None else {"journal": data, "results": read_source_bytes(results)}
     options = types.SimpleNamespace(**named, **flags)
     made = Audited(options, Sources(sources, options))
     message, status = None, None
@@ -216,4 +216,4 @@ def whatif_change(
     held = changes.book_before_close_or_raise(read_or_return_journal(source))
     further, notes = changes.parse_changes_and_notes(read_source_bytes(commands), held.periods)
     after = changes.book_with_commands_or_raise(held, further)
-    return Changes([Change(**row) for row in shapes.records(whatif.capture_difference_rows([held, after], participant, program))], notes)
+    return Changes([Change(**row) for row in table_operations.records(whatif.capture_difference_rows([held, after], participant, program))], notes)

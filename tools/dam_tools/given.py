@@ -10,7 +10,7 @@ from pathlib import Path
 from .lib.journal import journal
 from .lib.journal.journal import Journal
 from .lib.runs.errors import Fault
-from .lib.sheets import order_table, shapes
+from .lib.sheets import order_table, table_operations
 from .lib.tool import command, day_files, file_io
 
 REFUSED = 1  # the program's status for a text that it doesn't take
@@ -23,7 +23,7 @@ def turning_into_faults() -> Iterator[None]:
     """The tools' message about a text, a table or a date is a fault here."""
     try:
         yield
-    except (command.Stop, order_table.BadOrders, shapes.BadDate) as fault:
+    except (command.Stop, order_table.BadOrders, table_operations.BadDate) as fault:
         raise Fault(str(fault)) from None
 
 

@@ -26,7 +26,7 @@ import compare
 from lib.crates import sources
 from lib.journal import book, journal
 from lib.results import results, selection
-from lib.sheets import sheets
+from lib.sheets import table_files
 from lib.tool import day_files, modules
 from shared import cases as worked, days
 
@@ -96,7 +96,7 @@ def rows_of_csv(data):
 
 def rows_as_written(rows):
     """The rows of a table as they are in its CSV."""
-    return rows_of_csv(sheets.table_text(rows).encode())
+    return rows_of_csv(table_files.table_text(rows).encode())
 
 
 def problem_of(data):

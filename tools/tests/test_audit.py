@@ -21,7 +21,7 @@ from lib.audit import checks, recursive_enumeration
 from lib.base import rules
 from lib.journal import book, journal
 from lib.results import check, period, results, selection
-from lib.sheets import sheets, tables
+from lib.sheets import day_tables, table_files
 from lib.tool import command, modules
 from lib.base.progress import Progress
 from lib.base.text import exact_eur
@@ -312,7 +312,7 @@ class Period(unittest.TestCase):
 class Best(unittest.TestCase):
     def test_enumeration(self):
         for day, selections in draw_small_problems(200):
-            found, _ = recursive_enumeration.search_for_best_and_how(day)
+            found, _ = recursive_enumeration.search_recursively(day)
             self.assertEqual((found.welfare, found.accepted), selections[0])
 
     def test_highs(self):
@@ -323,7 +323,7 @@ class Best(unittest.TestCase):
         tried = 0
         for day, selections in [*draw_small_problems(80), *self.equal_prices(), *self.equal_blocks()]:
             for rank, (welfare, accepted) in enumerate(selections[:4]):
-                found, _ = highs_search.search_for_better_and_how(day, accepted, welfare, Progress("audit", 60))
+                found, _ = highs_search.search_with_highs(day, accepted, welfare, Progress("audit", 60))
                 self.assertEqual(found is None, rank == 0)
                 if found:
                     self.assertIn((found.welfare, found.accepted), selections[:rank])
@@ -508,7 +508,7 @@ class CommandLine(unittest.TestCase):
             answers = itertools.chain(offers, itertools.repeat(None))
             told = []
             with unittest.mock.patch.object(highs_search.Model, "solve_for_selection_or_none", lambda *_: next(answers)):
-                self.assertEqual(highs_search.search_for_better_and_how(day, accepted, welfare, Progress("audit", 60), told.append), (None, said))
+                self.assertEqual(highs_search.search_with_highs(day, accepted, welfare, Progress("audit", 60), told.append), (None, said))
             many = "HiGHS is still searching, and has offered 2 other selections"
             words = ["HiGHS is still searching", "HiGHS is still searching, and has offered 1 other selection", many]
             self.assertEqual(told, words[: len(offers)])
@@ -526,7 +526,7 @@ class CommandLine(unittest.TestCase):
     def test_a_text_in_the_place_of_another_is_named(self):
         journal_data, text = AUCTION.read_bytes(), read_results(AUCTION)
         replies, day = b"day,24\n1,done\n", journal_data + b"results\n" + text
-        orders = sheets.table_text([tables.ORDER]).encode()
+        orders = table_files.table_text([day_tables.ORDER]).encode()
         for words, one, other, said in (
             ([], text, journal_data, "journal has results instead of a journal"),
             ([], journal_data, journal_data, "results has a journal instead of results"),

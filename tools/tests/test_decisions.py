@@ -8,7 +8,7 @@ from support import AUCTION, TOP, day_of, journal_of, problem_of, read_results, 
 
 from lib.journal import book, journal
 from lib.results import decisions, families, period, selection
-from lib.sheets import tables
+from lib.sheets import day_tables
 from plain import Plain
 
 # Periods in which 50 MW are bought at 80 EUR, and offered at 60. Without a block the price is 70 EUR; with a selling one it is 60,
@@ -212,18 +212,18 @@ class Hand(unittest.TestCase):
 
     def test_hourly_orders(self):
         day = day_of(AUCTION.read_bytes(), read_results(AUCTION))
-        found = {name: (row.code, row.outcome, row.why) for (_, name), row in tables.results_by_row(day).items()}
+        found = {name: (row.code, row.outcome, row.why) for (_, name), row in day_tables.results_by_row(day).items()}
         said = "its limit is the price, 92.00 EUR/MWh; not all that is offered at it is needed"
         self.assertEqual(found["FLEX-1"], ("at-the-price", "in part", said))
         self.assertEqual(found["FLEX-2"], ("out-of-the-money", "not", "its limit is worse than the price, 47.00 EUR/MWh"))
         self.assertEqual(found["LOAD-1"], ("in-the-money", "in full", "its limit is better than the price, 92.00 EUR/MWh"))
         data = journal_of("submit,A,SELL,hour,sell,1000,1:50,,", "submit,B,BUY,hour,buy,2000,1:100,,")
-        why = {name: row.why for (_, name), row in tables.results_by_row(day_of(data, results_of(data, frozenset()))).items()}
+        why = {name: row.why for (_, name), row in day_tables.results_by_row(day_of(data, results_of(data, frozenset()))).items()}
         self.assertEqual(why["BUY"], "its limit is the price, 20.00 EUR/MWh; less is offered than is wanted at it")
         self.assertEqual(why["SELL"], "its limit is better than the price, 20.00 EUR/MWh")
         data = journal_of("submit,A,B,hour,buy,6000,8:10,,")
         day = day_of(data, results_of(data, frozenset()))
-        self.assertEqual(tables.results_by_row(day)["A", "B"].why, "nothing is traded in period 8")
+        self.assertEqual(day_tables.results_by_row(day)["A", "B"].why, "nothing is traded in period 8")
 
     def test_the_auction_day(self):
         day = day_of(AUCTION.read_bytes(), read_results(AUCTION))

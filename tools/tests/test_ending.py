@@ -86,16 +86,16 @@ CODE_WITHOUT_MEMORY = """
 import os
 from lib.base import ending
 ending.guard_tool("table")
-from lib.sheets import sheets
+from lib.sheets import table_files
 from lib.tool import command
 def fail(_):
     print(len(os.listdir(os.environ["TMPDIR"])), flush=True)
     raise MemoryError
 def main():
-    sheets.import_openpyxl()
+    table_files.import_openpyxl()
     from openpyxl.worksheet import _writer
     _writer.WorksheetWriter.write_rows = fail
-    sheets.workbook_bytes_or_refuse({"periods": [["period"], [1]]})
+    table_files.workbook_bytes_or_refuse({"periods": [["period"], [1]]})
 command.run_and_exit("table", main)
 """
 SLEEPING_TOOL = "import os, sys, time; open(os.path.dirname(sys.argv[0]) + '/pids', 'a').write(f'{os.getpid()}\\n'); time.sleep(600)"
@@ -533,8 +533,8 @@ class Interrupted(unittest.TestCase):
         with self.assertRaisesRegex(child_call.Died, "^the search ended without an answer: memory may have run out$"):
             child_call.run_in_child(lambda tell: os._exit(1), Progress("audit", SECONDS), "")
         for fault, status in ((child_call.Died("it ended"), command.FAILED), (TimeoutError("it is late"), command.UNDECIDED)):
-            with mock.patch.object(better, "search_for_better_and_how_by_highs", side_effect=fault), self.assertRaises(command.Stop) as stop:
-                better.search_for_better_and_how_or_stop(None, None, better.HIGHS, None, 1)
+            with mock.patch.object(better, "search_by_highs_in_child", side_effect=fault), self.assertRaises(command.Stop) as stop:
+                better.search_by_method_or_stop(None, None, better.HIGHS, None, 1)
             self.assertEqual((stop.exception.status, str(stop.exception)), (status, f"the results obey the other rules, but {fault}"))
 
     def test_what_a_call_returns_reports_and_raises(self):

@@ -111,7 +111,7 @@ class Enumeration(unittest.TestCase):
         from lib.audit import numpy_enumeration
 
         with mock.patch.object(numpy_enumeration, "FEW_SELECTIONS", few):
-            return numpy_enumeration.search_for_better_and_how(day, frozenset(accepted), welfare, Progress("test", 600), **more)
+            return numpy_enumeration.search_with_numpy(day, frozenset(accepted), welfare, Progress("test", 600), **more)
 
     def test_the_best_of_small_days_and_none_above_it(self):
         """However the bits of a selection's number are parted, and however many threads there are."""
@@ -231,7 +231,7 @@ class Enumeration(unittest.TestCase):
 
     def test_what_would_be_better_but_for_a_loss_is_counted(self):
         day = problem_of((TOP / "examples" / "auction-day.csv").read_bytes())
-        found, _ = recursive_enumeration.search_for_best_and_how(day)
+        found, _ = recursive_enumeration.search_recursively(day)
         _, how = self.better(day, found.accepted, found.welfare)
         self.assertIn("; 1 would be better if none of its blocks lost", how)
 
@@ -240,7 +240,7 @@ class Enumeration(unittest.TestCase):
         with self.assertRaisesRegex(TimeoutError, "after 0 seconds, 0 of 0 selections have been tried"):
             from lib.audit import numpy_enumeration
 
-            numpy_enumeration.search_for_better_and_how(day, frozenset(), selection.eligible_welfare_or_none(day, frozenset()), Progress("test", 0), jobs=2)
+            numpy_enumeration.search_with_numpy(day, frozenset(), selection.eligible_welfare_or_none(day, frozenset()), Progress("test", 0), jobs=2)
 
 
 @unittest.skipUnless(modules.has_module("numpy"), "numpy is missing (Debian's python3-numpy)")
@@ -250,7 +250,7 @@ class CommandLine(unittest.TestCase):
         day = problem_of(data)
         from lib.audit import numpy_enumeration
 
-        found, _ = numpy_enumeration.search_for_better_and_how(day, frozenset(), selection.eligible_welfare_or_none(day, frozenset()), Progress("test", 600))
+        found, _ = numpy_enumeration.search_with_numpy(day, frozenset(), selection.eligible_welfare_or_none(day, frozenset()), Progress("test", 600))
         status, out, _ = run_audit(data, results_of(data, found.accepted), "--best", "--jobs", "2")
         self.assertEqual((status, b"each of 4,096 selections was tried" in out), (command.DONE, True))
         status, out, _ = run_audit(data, results_of(data, frozenset()), "--best")
@@ -273,7 +273,7 @@ class CommandLine(unittest.TestCase):
     def test_without_numpy_fewer_blocks_are_tried(self):
         """By the same results, and the same lines about the better one."""
         data = make_family("market", "200", "11")
-        found, _ = recursive_enumeration.search_for_best_and_how(problem_of(data))
+        found, _ = recursive_enumeration.search_recursively(problem_of(data))
         for accepted in found.accepted, frozenset():
             text = data + b"results\n" + results_of(data, accepted)
             ran = [run_tool("audit", "--best", "-", data=text, python=python) for python in ([sys.executable], [sys.executable, "-S"])]
@@ -285,7 +285,7 @@ class CommandLine(unittest.TestCase):
         ways = ["--by", "enumeration"], ["--by", "highs"]
         for count, way in itertools.product(("6", "12"), ways if modules.has_module("scipy") else ways[:1]):
             data = make_family("market", "200", count)
-            accepted = recursive_enumeration.search_for_best_and_how(problem_of(data))[0].accepted if count == "6" else frozenset()
+            accepted = recursive_enumeration.search_recursively(problem_of(data))[0].accepted if count == "6" else frozenset()
             status, out, err = run_audit(data, results_of(data, accepted), "--best", *way, "--seconds", "0")
             self.assertEqual((status, out), (command.UNDECIDED, b""), (way, err))
             self.assertIn("after 0 seconds", err)

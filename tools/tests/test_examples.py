@@ -105,7 +105,7 @@ class SunnyDay(Walk, unittest.TestCase):
         """The best selection of the day on which START, STAY and EVENING aren't submitted accepts UNIT-7."""
         lines = SUNNY.read_bytes().splitlines(keepends=True)
         left = problem_of(b"".join(line for line in lines if not re.match(b"[a-z]+,GAS,(START|STAY|EVENING),", line)))
-        found, _ = recursive_enumeration.search_for_best_and_how(left)
+        found, _ = recursive_enumeration.search_recursively(left)
         self.assertIn("UNIT-7", {left.blocks[place].name for place in found.accepted})
         self.assertEqual(len(left.blocks), len(self.problem.blocks) - 3)
         self.says_euros(found.welfare)

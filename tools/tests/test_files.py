@@ -20,7 +20,7 @@ from unittest import mock
 from support import AUCTION, AUCTION_RESULTS, TOOLS, make_folder_for_case, read_results, run_tool
 
 from lib.base import ending, replacing
-from lib.sheets import tables
+from lib.sheets import day_tables
 from lib.tool import command, file_io, modules
 
 PACKAGES = {"plot": ["matplotlib"], "report": ["matplotlib", "jinja2"], "table": []}
@@ -30,13 +30,24 @@ NOTE = "table: 1 of 94 commands was refused (of GAS): see --rows commands\n"
 
 
 def run_at_a_terminal(name, *words, cwd):
-    """The lines of a tool on standard error, if that is a terminal."""
+    """The lines that a terminal shows in the end of a tool's standard error. A tool that takes long has shown there how far it is."""
     ours, theirs = os.openpty()
     subprocess.run([sys.executable, TOOLS / name, *words], stderr=theirs, check=True, cwd=cwd)
     os.close(theirs)
-    said = os.read(ours, 10_000)
+    said = b""
+    with contextlib.suppress(OSError):  # all is read
+        while data := os.read(ours, 10_000):
+            said += data
     os.close(ours)
-    return said.decode().replace("\r\n", "\n")
+    return "\n".join(map(shown_line, said.decode().replace("\r\n", "\n").split("\n")))
+
+
+def shown_line(line):
+    """A line as a terminal shows it, where what follows a carriage return is written over its beginning."""
+    shown = ""
+    for part in line.split("\r"):
+        shown = part + shown[len(part) :]
+    return shown.rstrip(" ")
 
 
 class Files(unittest.TestCase):
@@ -279,7 +290,7 @@ class Files(unittest.TestCase):
     def test_a_folder_is_made(self):
         texts, folder = [self.journal, self.results], self.folder / "a" / "b"
         self.assertEqual(run_tool("table", *texts, "--all", folder), (0, b"", NOTE))
-        self.assertEqual({path.name for path in folder.iterdir()}, {f"{name}.csv" for name in tables.TABLES})
+        self.assertEqual({path.name for path in folder.iterdir()}, {f"{name}.csv" for name in day_tables.TABLES})
         said = f"{NOTE}table: {self.journal} can't be made: File exists\n"
         self.assertEqual(run_tool("table", *texts, "--all", self.journal), (command.NO_INPUT, b"", said))
 

@@ -73,7 +73,7 @@ def cleared(*submits):
     lines = ["day,24,,,,,,,", *(f"submit,{submit}" for submit in submits), "close,,,,,,,,"]
     closed, _ = book.book_and_refusals(journal.parse_journal("".join(f"{line}\n" for line in lines).encode()))
     problem = selection.Problem(closed)
-    found, _ = recursive_enumeration.search_for_best_and_how(problem)
+    found, _ = recursive_enumeration.search_recursively(problem)
     return results.results_text(problem, found.accepted, selection.outcome(problem, found.accepted)).splitlines()
 
 

@@ -11,7 +11,7 @@ from support import AUCTION, AUCTION_RESULTS, FIRST, QUARTERS, TOP, day_of, read
 
 from lib.base import clock, rules, text
 from lib.results import market_data, trades
-from lib.sheets import shapes, tables
+from lib.sheets import day_tables, table_operations
 from lib.tool import command, modules
 
 PAGE = (TOP / "docs" / "TABLES.md").read_text()
@@ -67,7 +67,7 @@ class Curves(unittest.TestCase):
 
 class Blocks(unittest.TestCase):
     def test_the_auction_day(self):
-        rows = {row["order"]: row for row in rows_as_written(tables.TABLES["blocks"](day_of(AUCTION.read_bytes(), read_results(AUCTION))))}
+        rows = {row["order"]: row for row in rows_as_written(day_tables.TABLES["blocks"](day_of(AUCTION.read_bytes(), read_results(AUCTION))))}
         # EXAMPLES.md works these out.
         self.assertEqual(rows["NOON"]["family_welfare_eur"], "3016400.000")
         self.assertEqual(rows["UNIT-7"]["family_welfare_eur"], "3024330.000")
@@ -110,8 +110,8 @@ class Figures(unittest.TestCase):
             with self.subTest(name):
                 lengths.add(day.problem.hours)
                 found = {row["figure"]: row["value"] for row in rows_as_written(market_data.figure_rows(day))}
-                participants = rows_as_written(tables.participant_rows(day))
-                periods = rows_as_written(tables.period_rows(day))
+                participants = rows_as_written(day_tables.participant_rows(day))
+                periods = rows_as_written(day_tables.period_rows(day))
                 self.assertEqual(Fraction(found["energy"]), total(periods, "volume_mw") * day.problem.hours)
                 self.assertEqual(Fraction(found["energy"]), total(participants, "bought_mwh"))
                 self.assertEqual(Fraction(found["paid"]), total(participants, "paid_eur"))
@@ -130,38 +130,38 @@ class Long(unittest.TestCase):
         for name, day in days():
             with self.subTest(name):
                 hours = day.problem.hours
-                orders, long = rows_as_written(tables.order_rows(day)), rows_as_written(market_data.long_order_rows(day))
+                orders, long = rows_as_written(day_tables.order_rows(day)), rows_as_written(market_data.long_order_rows(day))
                 self.assertEqual(total(long, "executed_mw") * hours, total(orders, "executed_mwh"))
                 self.assertEqual(total(long, "offered_mw") * hours, total(orders, "offered_mwh"))
                 self.assertEqual(total(long, "amount_eur"), 0)
                 blocks = [row for row in orders if row["kind"] == "block"]
-                self.assertEqual(total(rows_as_written(tables.LONG["blocks"](day)), "amount_eur"), total(blocks, "amount_eur"))
-                participants, long = rows_as_written(tables.participant_rows(day)), rows_as_written(market_data.long_participant_rows(day))
+                self.assertEqual(total(rows_as_written(day_tables.LONG["blocks"](day)), "amount_eur"), total(blocks, "amount_eur"))
+                participants, long = rows_as_written(day_tables.participant_rows(day)), rows_as_written(market_data.long_participant_rows(day))
                 self.assertEqual(total(long, "paid_eur"), total(participants, "paid_eur"))
                 self.assertEqual(total(long, "sold_mw") * hours, total(participants, "sold_mwh"))
-                periods, long = rows_as_written(tables.period_rows(day)), rows_as_written(tables.LONG["periods"](day))
+                periods, long = rows_as_written(day_tables.period_rows(day)), rows_as_written(day_tables.LONG["periods"](day))
                 volumes = [row for row in long if row["quantity"] == "volume_mw"]
                 self.assertEqual(total(volumes, "value"), total(periods, "volume_mw"))
 
 
 class Times(unittest.TestCase):
-    @unittest.skipUnless(modules.has_zone(shapes.ZONE), "the time zones are missing (Debian's tzdata)")
+    @unittest.skipUnless(modules.has_zone(table_operations.ZONE), "the time zones are missing (Debian's tzdata)")
     def test_the_clocks_change(self):
         # In 2026 on 29 March and 25 October.
         for date, hours in (((2026, 3, 29), 23), ((2026, 10, 25), 25), ((2026, 11, 25), 24)):
             for periods in (hours, 4 * hours):
-                times = shapes.begin_times_or_raise(datetime.date(*date), periods)
+                times = table_operations.begin_times_or_raise(datetime.date(*date), periods)
                 clocks = [clock.begin_time(periods, number) for number in range(1, periods + 1)]
                 self.assertEqual([time.strftime("%H:%M") for time in times[:-1]], clocks)
                 self.assertEqual(len({time.timestamp() for time in times}), periods + 1)
                 self.assertEqual(times[-1].strftime("%H:%M"), "00:00")
             for wrong in set(rules.DAYS) - {hours, 4 * hours}:
-                with self.assertRaises(shapes.BadDate):
-                    shapes.begin_times_or_raise(datetime.date(*date), wrong)
-        autumn = [time.isoformat() for time in shapes.begin_times_or_raise(datetime.date(2026, 10, 25), 25)[2:4]]
+                with self.assertRaises(table_operations.BadDate):
+                    table_operations.begin_times_or_raise(datetime.date(*date), wrong)
+        autumn = [time.isoformat() for time in table_operations.begin_times_or_raise(datetime.date(2026, 10, 25), 25)[2:4]]
         self.assertEqual(autumn, ["2026-10-25T02:00:00+02:00", "2026-10-25T02:00:00+01:00"])
 
-    @unittest.skipUnless(modules.has_zone(shapes.ZONE), "the time zones are missing (Debian's tzdata)")
+    @unittest.skipUnless(modules.has_zone(table_operations.ZONE), "the time zones are missing (Debian's tzdata)")
     def test_command_line(self):
         texts = [AUCTION, AUCTION_RESULTS]
         rows = run_tool("table", *texts, "--date", "2026-11-25", "--only", "8-9;19")[1].decode().splitlines()
@@ -186,17 +186,17 @@ class Times(unittest.TestCase):
 class Json(unittest.TestCase):
     def test_every_table_has_the_columns_of_the_page(self):
         day = day_of(QUARTERS.read_bytes(), read_results(QUARTERS))
-        for name, of in tables.TABLES.items():
+        for name, of in day_tables.TABLES.items():
             heads = next(iter(of(day)))
             section = re.search(rf"^\*\*{name}\*\*.*?(?=^\*\*|^## )", PAGE, re.MULTILINE | re.DOTALL)[0]
             told = re.findall(r"`([a-z_]+)`", section)
             if name in ("blocks", "commands", "statement"):
-                told += tables.ORDER + tables.RESULT
+                told += day_tables.ORDER + day_tables.RESULT
             if name == "statement":
-                told += next(tables.command_rows(day.journal, day.reasons))
+                told += next(day_tables.command_rows(day.journal, day.reasons))
             with self.subTest(name):
                 self.assertLessEqual(set(heads), set(told))
-        for name, of in tables.LONG.items():
+        for name, of in day_tables.LONG.items():
             for head in next(iter(of(day))):
                 self.assertIn(f"`{head}`", PAGE)
 
@@ -204,9 +204,9 @@ class Json(unittest.TestCase):
         kinds = {"string": str, "number": (int, float), "integer": int, "boolean": bool, "array": list}
         for data, text in ((QUARTERS.read_bytes(), read_results(QUARTERS)), (FIRST, results_of(FIRST, frozenset()))):
             day = day_of(data, text)
-            for form in (tables.TABLES, tables.LONG):
+            for form in (day_tables.TABLES, day_tables.LONG):
                 for name, of in form.items():
-                    made = json.loads(shapes.json_text(name, of(day), {"date": None}))
+                    made = json.loads(table_operations.json_text(name, of(day), {"date": None}))
                     self.assertEqual(list(made), ["table", "day", "columns", "rows"])
                     self.assertEqual(len(made["rows"]), len(list(of(day))) - 1)
                     self.assertEqual({tuple(column) for column in made["columns"]}, {("name", "type", "unit")})
@@ -220,9 +220,9 @@ class Json(unittest.TestCase):
 
     def test_values_are_those_of_the_cells(self):
         day = day_of(AUCTION.read_bytes(), read_results(AUCTION))
-        rows = json.loads(shapes.json_text("periods", tables.period_rows(day), {}))["rows"]
+        rows = json.loads(table_operations.json_text("periods", day_tables.period_rows(day), {}))["rows"]
         self.assertEqual([row["price_eur_mwh"] for row in rows], [cents / 100 for cents in day.published.prices])
-        rows = json.loads(shapes.json_text("blocks", tables.TABLES["blocks"](day), {}))["rows"]
+        rows = json.loads(table_operations.json_text("blocks", day_tables.TABLES["blocks"](day), {}))["rows"]
         self.assertEqual(rows[2]["periods"], [7, 8, 9, 10])
         self.assertEqual((rows[2]["volume_mw"], rows[2]["parent"], rows[3]["parent"]), ([80.0] * 4, None, "START"))
 

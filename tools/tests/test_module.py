@@ -19,7 +19,7 @@ from support import AUCTION, AUCTION_RESULTS, FIRST, TOP, make_folder_for_case, 
 
 import dam_tools
 from dam_tools.lib.runs import which
-from lib.sheets import shapes, sheets, tables
+from lib.sheets import day_tables, table_files, table_operations
 from lib.tool import command, modules
 
 END = "is the first or the last day of the calendar: it should be another"
@@ -41,7 +41,7 @@ class Module(unittest.TestCase):
         again = dam_tools.read_results(AUCTION, AUCTION_RESULTS)
         for name in dam_tools.TABLES:
             self.assertEqual(dam_tools.records(day, name), dam_tools.records(again, name))
-        self.assertEqual(dam_tools.TABLES, tuple(tables.TABLES))
+        self.assertEqual(dam_tools.TABLES, tuple(day_tables.TABLES))
 
     def test_an_older_python(self):
         """It reads the file, and the import names its missing package."""
@@ -99,7 +99,7 @@ class Module(unittest.TestCase):
         journal = dam_tools.read_journal(FIRST)
         self.assertEqual(dam_tools.records(journal, "commands")[12]["reason"], "PeriodOutOfDay")
         day = dam_tools.read_results(AUCTION.read_bytes(), read_results(AUCTION))
-        text = sheets.table_text(tables.order_rows(day)).encode()
+        text = table_files.table_text(day_tables.order_rows(day)).encode()
         made = dam_tools.journal_of_orders(text)
         self.assertEqual(dam_tools.clear(made, program=self.program).published.welfare, day.published.welfare)
 
@@ -115,12 +115,12 @@ class Module(unittest.TestCase):
             dam_tools.read_results(AUCTION, b"day,24\n")
         with self.assertRaises(dam_tools.Fault):
             dam_tools.journal_of_orders(b"x\n")
-        small = sheets.table_text([tables.ORDER]).encode() + b"a,H,hour,buy,1,8,5,,\n"
+        small = table_files.table_text([day_tables.ORDER]).encode() + b"a,H,hour,buy,1,8,5,,\n"
         for call in (lambda: dam_tools.journal_of_orders(small), lambda: dam_tools.whatif_change(AUCTION, small, program=self.program)):
             with self.assertRaisesRegex(dam_tools.Fault, "^line 2, column participant: 'a' should be 1 to 8 capitals A to Z: write A"):
                 call()
         with self.assertRaisesRegex(dam_tools.Fault, "a day has 23, 24, 25, 92, 96 or 100 periods, not 26"):
-            dam_tools.journal_of_orders(sheets.table_text([tables.ORDER]).encode(), periods=26)
+            dam_tools.journal_of_orders(table_files.table_text([day_tables.ORDER]).encode(), periods=26)
         day = dam_tools.read_results(AUCTION, AUCTION_RESULTS)
         for words in ({"table": "none"}, {"table": "curves", "long": True}):
             with self.assertRaises(ValueError):
@@ -131,8 +131,8 @@ class Module(unittest.TestCase):
     def test_an_unknown_table_lists_the_tables(self):
         day = dam_tools.read_results(AUCTION, AUCTION_RESULTS)
         for words, listed, said in (
-            (["block"], tables.TABLES, "there is no table block: the tables are "),
-            (["curves", True], tables.LONG, "there is no table curves in a long form: the tables in a long form are "),
+            (["block"], day_tables.TABLES, "there is no table block: the tables are "),
+            (["curves", True], day_tables.LONG, "there is no table curves in a long form: the tables in a long form are "),
         ):
             with self.assertRaises(ValueError) as fault:
                 dam_tools.records(day, *words)
@@ -258,7 +258,7 @@ class Module(unittest.TestCase):
                 "a date can't be used with figures, which has no column of periods",
             ),
         ):
-            if "date" in said and not modules.has_zone(shapes.ZONE):
+            if "date" in said and not modules.has_zone(table_operations.ZONE):
                 continue
             with self.assertRaises(dam_tools.Fault) as fault:
                 call()
@@ -275,7 +275,7 @@ class Module(unittest.TestCase):
         """A whole number in the figures of JSON, in its rows, and in records."""
         day = dam_tools.read_results(AUCTION, AUCTION_RESULTS)
         (row,) = (row for row in dam_tools.records(day, "figures") if row["figure"] == "traded_periods")
-        self.assertEqual(repr(row["value"]), repr(tables.figure_values(day)["traded_periods"]))
+        self.assertEqual(repr(row["value"]), repr(day_tables.figure_values(day)["traded_periods"]))
 
     def test_an_old_library_is_left_alone(self):
         """After any change of a source, and after no change, whatever the dates."""
@@ -308,7 +308,7 @@ class Module(unittest.TestCase):
             self.assertEqual(dam_tools.records(day, name), dam_tools.records(again, name))
         self.assertEqual((str(fault.exception), fault.exception.status), ("input: StillOpen", 1))
 
-    @unittest.skipUnless(modules.has_zone(shapes.ZONE), "the time zones are missing (Debian's tzdata)")
+    @unittest.skipUnless(modules.has_zone(table_operations.ZONE), "the time zones are missing (Debian's tzdata)")
     def test_dates(self):
         day = dam_tools.read_results(AUCTION, AUCTION_RESULTS)
         rows = dam_tools.records(day, "orders", long=True, date=datetime.date(2026, 7, 1))
@@ -331,7 +331,7 @@ class Module(unittest.TestCase):
         frame = dam_tools.frame(day, "orders", long=True)
         self.assertAlmostEqual(frame["amount_eur"].sum(), 0)
 
-    @unittest.skipUnless(modules.has_module("pandas") and modules.has_zone(shapes.ZONE), "pandas or the time zones are missing")
+    @unittest.skipUnless(modules.has_module("pandas") and modules.has_zone(table_operations.ZONE), "pandas or the time zones are missing")
     def test_the_example_of_the_pages(self):
         example = self.examples()[0]
         self.assertIn("dam_tools.clear(journal)", example)

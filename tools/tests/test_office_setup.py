@@ -20,7 +20,7 @@ from office_support import DAY, FUTURE, NAMES, SECONDS, Disk, Office, commands_o
 from support import AUCTION, TOOLS, TOP, capture_unsaid_members, run_tool
 
 from lib.base import async_child
-from lib.sheets import sheets
+from lib.sheets import table_files
 from lib.tool import command, modules
 
 try:
@@ -239,7 +239,7 @@ class Setup(Office):
     def test_a_workbook_of_participants_is_read(self):
         if not modules.has_module("openpyxl"):
             self.skipTest("python3-openpyxl is missing")
-        made, path = sheets.import_openpyxl().Workbook(), self.office.path.parent / "p.xlsx"
+        made, path = table_files.import_openpyxl().Workbook(), self.office.path.parent / "p.xlsx"
         for row in (["Participant", "commands"], ["A", 100], [], ["GAS"]):
             made.active.append(row)
         made.create_sheet("notes", 0).append(["x"])

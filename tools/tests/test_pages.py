@@ -295,7 +295,7 @@ class Pages(unittest.TestCase):
         closed, reasons = book.book_and_refusals(journal.parse_journal(made))
         self.assertEqual(reasons, [None] * len(table.splitlines()))
         problem = selection.Problem(closed)
-        found, _ = recursive_enumeration.search_for_best_and_how(problem)
+        found, _ = recursive_enumeration.search_recursively(problem)
         prices = {number: cleared.price for number, cleared in selection.outcome(problem, found.accepted).cleared.items()}
         self.assertEqual((found.accepted, prices[8], prices[9]), (frozenset({0, 1}), 9_500, 9_500))
 

@@ -18,7 +18,7 @@ from support import AUCTION, TOOLS, journal_of, make_folder_for_case, results_of
 from lib.base import rules, text
 from lib.journal import book, journal
 from lib.runs import cleared, cluster, errors, which
-from lib.sheets import sheets
+from lib.sheets import table_files
 from lib.tool import command, modules
 from lib.whatif import changes, scenarios
 
@@ -344,7 +344,7 @@ class Tool(unittest.TestCase):
         self.assertEqual([row["scenario"] for row in json.loads(run_tool("whatif", *words, "--json")[1])["rows"]], names)
         path = Path(self.folder, "a.xlsx")
         self.assertEqual(run_tool("whatif", *words, "-o", path), (0, b"", ""))
-        self.assertEqual([cells[0] for _, cells in sheets.parse_rows_and_add_notes(path.read_bytes())[0]], ["scenario", *names])
+        self.assertEqual([cells[0] for _, cells in table_files.parse_rows_and_add_notes(path.read_bytes())[0]], ["scenario", *names])
 
     def test_characters_that_no_name_has(self):
         """No line of a text, or no cell of a workbook, could hold them."""

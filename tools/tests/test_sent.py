@@ -297,13 +297,13 @@ class Drawn(unittest.TestCase):
                 yield rng, read, [sent.Sent(at, entry) for at, entry in enumerate(commands, 1)]
 
     def differences(self, read, own):
-        return sent.difference_faults(own, sent.published_of(read, book.book_and_refusals(read)[1], "A"))
+        return sent.difference_faults(own, sent.own_entries(read, book.book_and_refusals(read)[1], "A"))
 
     def test_what_was_sent_is_there_with_its_replies(self):
         tried = 0
         for _, read, own in self.days(200):
             self.assertEqual(self.differences(read, own), [])
-            published = sent.published_of(read, book.book_and_refusals(read)[1], "A")
+            published = sent.own_entries(read, book.book_and_refusals(read)[1], "A")
             lines = book.replies_text(read).splitlines()
             for one, other in zip(own, published):
                 self.assertEqual(read.commands[other.record - 2], one.command)
@@ -340,8 +340,8 @@ class Drawn(unittest.TestCase):
     def test_long_lists(self):
         """Many equal commands, and two lists with nothing in common, take no long time."""
         cancels = [sent.Sent(at, journal.Cancel("A", f"N{at % 3}")) for at in range(1, 9_000)]
-        others = [sent.Published(at, journal.Cancel("A", f"M{at}"), None) for at in range(2, 9_000)]
-        published = [sent.Published(one.record + 1, one.command, "UnknownOrder") for one in cancels]
+        others = [sent.Entry(at, journal.Cancel("A", f"M{at}"), None) for at in range(2, 9_000)]
+        published = [sent.Entry(one.record + 1, one.command, "UnknownOrder") for one in cancels]
         self.assertEqual(sent.difference_faults(cancels, published), [])
         self.assertEqual(len(sent.difference_faults(cancels[:4_000] + cancels[4_001:], published)), 1)
         self.assertEqual(len(sent.difference_faults(cancels, others)), len(cancels) + len(others))
@@ -364,11 +364,11 @@ class Drawn(unittest.TestCase):
         ):
             began = time.process_time()
             found = sent.difference_faults([sent.Sent(at, entry) for at, entry in enumerate(own[0], 1)],
-                                     [sent.Published(at, entry, None) for at, entry in enumerate(own[1], 2)])
+                                     [sent.Entry(at, entry, None) for at, entry in enumerate(own[1], 2)])
             self.assertLess(time.process_time() - began, 10)
             self.assertEqual({fault.kind for fault in found}, {"moved"})
             self.assertLessEqual(len(found), most)
-        self.assertEqual(len(sent.difference_faults([sent.Sent(1, one), sent.Sent(2, other)], [sent.Published(2, other, None)])), 1)
+        self.assertEqual(len(sent.difference_faults([sent.Sent(1, one), sent.Sent(2, other)], [sent.Entry(2, other, None)])), 1)
 
     def test_the_time_that_the_comparison_may_take(self):
         words = ["--seconds", "0", "--json"]

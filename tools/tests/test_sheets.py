@@ -14,7 +14,7 @@ from support import AUCTION, AUCTION_RESULTS, TOP, journal_of, read_results, res
 
 from lib.base import clock, rules, text
 from lib.journal import journal
-from lib.sheets import cell_values, command_table, order_table, sheets
+from lib.sheets import cell_values, command_table, order_table, table_files
 from lib.tool import command, modules
 
 HEADER = "participant,order,kind,side,price_eur_mwh,periods,volume_mw,parent,group"
@@ -236,7 +236,7 @@ class ForSpreadsheets(unittest.TestCase):
             out = run_tool("table", "--rows", name, "-", data=data + b"results\n" + results)[1].decode()
             for row in csv.reader(io.StringIO(out)):
                 for cell in row:
-                    if cell.startswith(sheets.FORMULA):
+                    if cell.startswith(table_files.FORMULA):
                         float(cell)
 
     def test_no_part_of_a_word_is_a_formula(self):
@@ -251,10 +251,10 @@ class ForSpreadsheets(unittest.TestCase):
             ("a;b, -c; d", "a;b, -c; d"),
         ):
             for decimal_comma in (False, True):
-                out = sheets.table_text([["scenario", "period"], [name, 1]], decimal_comma)
+                out = table_files.table_text([["scenario", "period"], [name, 1]], decimal_comma)
                 rows = list(csv.reader(io.StringIO(out, newline=""), delimiter=";" if decimal_comma else ","))
                 self.assertEqual(rows[1], [shown, "1"])
-            self.assertEqual(sheets.unescaped(shown), name)
+            self.assertEqual(table_files.unescaped(shown), name)
 
     def test_a_journal_is_no_table_of_orders(self):
         status, _, err = run_tool("table", "--journal", AUCTION)
@@ -360,7 +360,7 @@ class ForSpreadsheets(unittest.TestCase):
         import openpyxl
 
         rows = [HEADER.split(","), *(f"A,K,block,buy,1.00,1-2,{volumes},,".split(",") for volumes in ("5.0", "5.0;6.5"))]
-        sheet = openpyxl.load_workbook(io.BytesIO(sheets.workbook_bytes_or_refuse({"orders": rows})))["orders"]
+        sheet = openpyxl.load_workbook(io.BytesIO(table_files.workbook_bytes_or_refuse({"orders": rows})))["orders"]
         self.assertEqual([sheet.cell(line, 7).value for line in (2, 3)], [5.0, "5.0;6.5"])
 
     @WITH_EXCEL
@@ -388,7 +388,7 @@ class ForSpreadsheets(unittest.TestCase):
 
     @WITH_EXCEL
     def test_broken_workbooks(self):
-        for data in (sheets.XLSX, sheets.XLSX + bytes(1_000)):
+        for data in (table_files.XLSX, table_files.XLSX + bytes(1_000)):
             status, out, err = run_tool("table", "--journal", "-", data=data)
             said = "table: standard input: line 1: the Excel workbook can't be read: "
             self.assertEqual((status, out, err.startswith(said)), (command.NO_INPUT, b"", True), err)

@@ -16,14 +16,14 @@ from support import AUCTION, AUCTION_RESULTS, FIRST, QUARTERS, QUARTERS_RESULTS,
 
 from lib.base import rules, text
 from lib.journal import book, journal
-from lib.sheets import command_table, order_table, sheets, tables
+from lib.sheets import command_table, day_tables, order_table, table_files
 from lib.tool import command, modules, output
 
 HEADER = "participant,order,kind,side,price_eur_mwh,periods,volume_mw,parent,group"
 HOUR = "NORD,WIND-8,hour,sell,12.5,8,45,,"
 BLOCK = "COAL,PEAK,block,sell,80,8-20,90,,FILL"
 PRICES = f"from {text.eur_per_mwh(rules.LOWEST_PRICE)} to {text.eur_per_mwh(rules.HIGHEST_PRICE)} EUR/MWh"
-THREE_TABLES = tables.period_rows, tables.order_rows, tables.participant_rows
+THREE_TABLES = day_tables.period_rows, day_tables.order_rows, day_tables.participant_rows
 
 
 def total(rows, column):
@@ -51,11 +51,11 @@ class Results(unittest.TestCase):
     def test_the_participants_share_out_the_welfare(self):
         """Their amounts add up to nothing, and their surpluses to the welfare; so do those of the hourly orders and of the accepted blocks."""
         for day in self.days():
-            participants, orders = rows_as_written(tables.participant_rows(day)), rows_as_written(tables.order_rows(day))
+            participants, orders = rows_as_written(day_tables.participant_rows(day)), rows_as_written(day_tables.order_rows(day))
             welfare = Fraction(text.eur(day.published.welfare, day.problem.hours, ""))
             self.assertEqual([total(participants, "net_eur"), total(participants, "gain_eur")], [0, welfare])
             self.assertEqual([row for row in participants if Fraction(row["gain_eur"]) < 0], [])
-            figures = {row["figure"]: Fraction(row["value"] or 0) for row in rows_as_written(tables.TABLES["figures"](day))}
+            figures = {row["figure"]: Fraction(row["value"] or 0) for row in rows_as_written(day_tables.TABLES["figures"](day))}
             self.assertEqual(figures["paid"], total(participants, "paid_eur"))
             self.assertEqual(figures["received"], total(participants, "received_eur"))
             self.assertEqual(figures["paid"], figures["received"])
@@ -78,16 +78,16 @@ class Results(unittest.TestCase):
 
     def test_periods_without_trade_are_marked(self):
         for day in self.days():
-            for row in rows_as_written(tables.period_rows(day)):
+            for row in rows_as_written(day_tables.period_rows(day)):
                 self.assertEqual(row["traded"], "no" if row["volume_mw"] == "0.0" else "yes")
-        periods = rows_as_written(tables.period_rows(day_of(FIRST, results_of(FIRST, frozenset()))))
+        periods = rows_as_written(day_tables.period_rows(day_of(FIRST, results_of(FIRST, frozenset()))))
         self.assertEqual([row["period"] for row in periods if row["traded"] == "yes"], ["8", "9"])
         middle = text.eur_per_mwh((rules.LOWEST_PRICE + rules.HIGHEST_PRICE) // 2)
         self.assertEqual((periods[0]["price_eur_mwh"], periods[0]["volume_mw"]), (middle, "0.0"))
 
     def test_the_table_of_orders_makes_the_same_book(self):
         for day in self.days():
-            text = sheets.table_text(tables.order_rows(day)).encode()
+            text = table_files.table_text(day_tables.order_rows(day)).encode()
             again = order_table.parse_journal_of_orders(text, day.problem.periods, True)
             made, reasons = book.book_and_refusals(again)
             self.assertEqual(set(reasons), {None})
@@ -300,7 +300,7 @@ class CommandLine(unittest.TestCase):
         with tempfile.TemporaryDirectory() as folder:
             note = "table: 1 of 94 commands was refused (of GAS): see --rows commands\n"
             self.assertEqual(run_tool("table", *texts, "--all", folder), (0, b"", note))
-            for name in tables.TABLES:
+            for name in day_tables.TABLES:
                 said = "" if name in ("commands", "statement") else note
                 self.assertEqual(run_tool("table", *texts, "--rows", name), (0, Path(folder, f"{name}.csv").read_bytes(), said))
             status, out, _ = run_tool("table", "--journal", Path(folder, "orders.csv"))
@@ -311,12 +311,12 @@ class CommandLine(unittest.TestCase):
     def test_the_page_names_the_tables_with_periods(self):
         page = (support.TOP / "docs" / "TABLES.md").read_text().partition("\n## The long form\n")[2].partition("\n## ")[0]
         forms, options = (re.findall(r"\*\*(\w+)\*\*", part) for part in page.strip().split("\n\n"))
-        self.assertEqual((len(forms), set(forms)), (4, set(tables.LONG)))
+        self.assertEqual((len(forms), set(forms)), (4, set(day_tables.LONG)))
         day = day_of(AUCTION.read_bytes(), AUCTION_RESULTS.read_bytes())
-        shown, longer = ([name for name, make in form.items() if "period" in next(iter(make(day)))] for form in (tables.TABLES, tables.LONG))
-        self.assertEqual((options, set(longer)), ([*shown, "statement"], set(tables.LONG)))
+        shown, longer = ([name for name, make in form.items() if "period" in next(iter(make(day)))] for form in (day_tables.TABLES, day_tables.LONG))
+        self.assertEqual((options, set(longer)), ([*shown, "statement"], set(day_tables.LONG)))
         texts = [AUCTION, AUCTION_RESULTS]
-        for name in tables.TABLES:
+        for name in day_tables.TABLES:
             for more, is_done in ((["--only", "8"], name in shown), (["--date", "2026-11-25"], name in shown), (["--date", "2026-11-25", "--json"], True)):
                 with self.subTest(name, more=more):
                     status, _, said = run_tool("table", *texts, "--rows", name, *more)
@@ -462,7 +462,7 @@ class CommandLine(unittest.TestCase):
             self.assertEqual((ran.returncode, ran.stdout, ran.stderr), (command.FAILED, "", said))
 
     def test_more_rows_than_a_sheet_has(self):
-        most, said = sheets.MOST_LINES, "the table prices has 1,048,577 rows, but a sheet of an Excel workbook has at most 1,048,576"
+        most, said = table_files.MOST_LINES, "the table prices has 1,048,577 rows, but a sheet of an Excel workbook has at most 1,048,576"
         with self.assertRaisesRegex(command.Stop, f"^{said}: write it as .csv$"):
             output.workbook_bytes_or_stop({"few": [["hour"]], "prices": [["hour"]] * (most + 1)})
 

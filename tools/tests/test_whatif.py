@@ -22,7 +22,7 @@ import compare
 from lib.base import rules, text
 from lib.journal import book, journal
 from lib.runs import by_program, cleared, engine, errors, which
-from lib.sheets import order_table, tables
+from lib.sheets import day_tables, order_table
 from lib.tool import command, modules
 from lib.whatif import changes, limits, scenarios
 from test_many import ends
@@ -222,7 +222,7 @@ class Day(unittest.TestCase):
             day = support.day_of(data, text)
             both = cleared.Cleared.of_day(day), cleared.Cleared.of_text(day.book.rows, day.problem.periods, text)
             write = changes.NumberFormat(both[0])
-            heads, *rows = tables.order_rows(day)
+            heads, *rows = day_tables.order_rows(day)
             for cells in (dict(zip(heads, row)) for row in rows):
                 key = cells["participant"], cells["order"]
                 for one in both:
@@ -231,7 +231,7 @@ class Day(unittest.TestCase):
                     self.assertEqual(one.outcome(key), cells["outcome"].removeprefix("paradoxically "))
                     if cells["surplus_eur"]:
                         self.assertEqual(write.eur_text(one.surplus(key)), cells["surplus_eur"])
-            heads, *rows = tables.participant_rows(day)
+            heads, *rows = day_tables.participant_rows(day)
             for cells in (dict(zip(heads, row)) for row in rows):
                 self.assertEqual(write.eur_text(both[1].net(cells["participant"])), cells["net_eur"])
             self.assertEqual(sum(both[1].gain(who) for who in {who for who, _ in day.book.rows}), day.published.welfare)
@@ -503,7 +503,7 @@ class Tools(unittest.TestCase):
 
     def test_a_program_that_cant_be_started(self):
         """It is no fault of a file, whether memory or open files run out or it can't be run."""
-        table = f"scenario,{','.join(tables.ORDER)}\nas it was{',' * len(tables.ORDER)}\n".encode()
+        table = f"scenario,{','.join(day_tables.ORDER)}\nas it was{',' * len(day_tables.ORDER)}\n".encode()
         runs = [
             (["limit", self.journal, "--participant", "GEN", "--order", "UNIT"], b"", ""),
             (["scenarios", self.journal, "-"], table, "the day as it was: "),

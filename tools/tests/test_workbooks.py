@@ -18,7 +18,7 @@ from support import AUCTION, TOP, run_tool
 import costly_workbooks as costly
 import drawn_workbooks as made
 from lib.runs import errors
-from lib.sheets import cell_values, command_table, order_table, sheets
+from lib.sheets import cell_values, command_table, order_table, table_files
 from lib.tool import command
 from lib.whatif import changes, scenarios
 from lib.workbooks import first_rows, formulas, package, reading, styles
@@ -134,8 +134,8 @@ class Faults(Read):
         ):
             tracemalloc.start()
             try:
-                found = sheets.parse_rows_and_add_notes(data, most=most)[0]
-            except sheets.BadTable as fault:
+                found = table_files.parse_rows_and_add_notes(data, most=most)[0]
+            except table_files.BadTable as fault:
                 found = str(fault)
             most_memory = tracemalloc.get_traced_memory()[1]
             tracemalloc.stop()
@@ -165,8 +165,8 @@ class Faults(Read):
             self.assertLess(most_memory, most)
 
     def test_a_text_has_no_more_lines_than_a_sheet(self):
-        with self.assertRaisesRegex(sheets.BadTable, "^line 1048577: a table has at most 1,048,576 lines$"):
-            sheets.parse_rows_and_add_notes(b"\n" * (2**20 + 1))
+        with self.assertRaisesRegex(table_files.BadTable, "^line 1048577: a table has at most 1,048,576 lines$"):
+            table_files.parse_rows_and_add_notes(b"\n" * (2**20 + 1))
 
     def test_a_cell_of_a_text_that_does_not_end_on_its_line(self):
         """Two quotes in a column that isn't used could hide the rows between them."""
@@ -199,7 +199,7 @@ class Faults(Read):
 
     def test_a_workbook_is_read_without_a_package(self):
         with mock.patch.dict("sys.modules", {"openpyxl": None}):
-            self.assertEqual(list(sheets.parse_rows_and_add_notes(book(row(2, ("B2", "x"))))[0])[1:], [(2, ["", "x"])])
+            self.assertEqual(list(table_files.parse_rows_and_add_notes(book(row(2, ("B2", "x"))))[0])[1:], [(2, ["", "x"])])
 
     def test_names_of_elements_are_limited(self):
         cant, tail = "line 1: the Excel workbook can't be read: ", b"</row>"
@@ -494,8 +494,8 @@ class Unlike(unittest.TestCase):
 
     def test_formulas_are_limited(self):
         cells = b"<row>" + b"<c><f>%s</f><v>1</v></c>" % (b"1+" * 16_000) * 100 + b"</row>"
-        with self.assertRaisesRegex(sheets.BadTable, "^sheet 'orders', cell Y7: the sheet has more than 16,777,216 characters in its formulas up to"):
-            sheets.parse_rows_and_add_notes(made.workbook_of_sheet(made.OPEN, *[cells] * 11, made.CLOSE))
+        with self.assertRaisesRegex(table_files.BadTable, "^sheet 'orders', cell Y7: the sheet has more than 16,777,216 characters in its formulas up to"):
+            table_files.parse_rows_and_add_notes(made.workbook_of_sheet(made.OPEN, *[cells] * 11, made.CLOSE))
 
     def test_volatile_formulas_that_cells_share(self):
         """Only the first of them, here in a column that isn't used, has the text."""
@@ -526,8 +526,8 @@ class Unlike(unittest.TestCase):
             with self.subTest(cell, due=due):
                 if refused:
                     said = "^sheet 'orders', cell E2: its formula was saved without its value: open the workbook in Excel, and save it$"
-                    with self.assertRaisesRegex(sheets.BadTable, said):
-                        sheets.parse_rows_and_add_notes(data)
+                    with self.assertRaisesRegex(table_files.BadTable, said):
+                        table_files.parse_rows_and_add_notes(data)
                 else:
                     self.assertEqual(len(order_table.parse_tables([("", data)], 24).submits), 2)
 
@@ -862,8 +862,8 @@ class Unlike(unittest.TestCase):
             styles = f'<styleSheet xmlns="{made.MAIN[0]}"><numFmts>{formats}</numFmts><cellXfs><xf numFmtId="164"/></cellXfs></styleSheet>'
             data = made.workbook_of_sheet(made.OPEN, order(2, "K1"), made.CLOSE, **{"xl/styles.xml": styles.encode()})
             if fault:
-                with self.assertRaisesRegex(sheets.BadTable, f"^line 1: the Excel workbook can't be read: {fault}$"):
-                    sheets.parse_rows_and_add_notes(data)
+                with self.assertRaisesRegex(table_files.BadTable, f"^line 1: the Excel workbook can't be read: {fault}$"):
+                    table_files.parse_rows_and_add_notes(data)
             else:
                 self.assertEqual(len(order_table.parse_tables([("", data)], 24).submits), 1)
         for style in ("x", "-1", "1.0", ""):
@@ -885,8 +885,8 @@ class Unlike(unittest.TestCase):
                 if is_read:
                     self.assertEqual(len(order_table.parse_tables([("", data)], 24).submits), 1)
                 else:
-                    with self.assertRaisesRegex(sheets.BadTable, said):
-                        sheets.parse_rows_and_add_notes(data)
+                    with self.assertRaisesRegex(table_files.BadTable, said):
+                        table_files.parse_rows_and_add_notes(data)
         for font, fault in (("<b/><strike/><sz/>", "a font that strikes out"), ("<i val='0'/><strike val='0'/><vertAlign val='baseline'/>", None)):
             styles = f'<styleSheet xmlns="{made.MAIN[0]}"><fonts><font/></fonts><dxfs><dxf><font>{font}</font><fill/></dxf></dxfs></styleSheet>'
             close = made.CLOSE.replace(b"</sheetData>", f"</sheetData>{condition.format(0)}".encode())
@@ -932,8 +932,8 @@ class Unlike(unittest.TestCase):
         """A workbook of one order, whose sheet has a fault or none."""
         with self.subTest(fault):
             if fault:
-                with self.assertRaisesRegex(sheets.BadTable, f"^sheet 'orders': {fault}$"):
-                    sheets.parse_rows_and_add_notes(data)
+                with self.assertRaisesRegex(table_files.BadTable, f"^sheet 'orders': {fault}$"):
+                    table_files.parse_rows_and_add_notes(data)
             else:
                 self.assertEqual(len(order_table.parse_tables([("", data)], 24).submits), 1)
 
@@ -1237,11 +1237,11 @@ class Unlike(unittest.TestCase):
                 }
                 data = made.workbook_of_sheet(made.OPEN, made.CLOSE, **{name: part.encode() for name, part in parts.items()})
                 if said:
-                    with self.assertRaisesRegex(sheets.BadTable, said):
-                        sheets.parse_rows_and_add_notes(data)
+                    with self.assertRaisesRegex(table_files.BadTable, said):
+                        table_files.parse_rows_and_add_notes(data)
                 else:
                     notes = []
-                    sheets.parse_rows_and_add_notes(data, notes=notes)
+                    table_files.parse_rows_and_add_notes(data, notes=notes)
                     self.assertEqual(notes, ["of 2 sheets, 'a' was read, but not 'b'"])
 
     def test_names_of_sheets(self):

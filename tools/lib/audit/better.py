@@ -1,4 +1,4 @@
-"""The search for a better selection of blocks, and the lines about one."""
+"""The search for a better selection of blocks, and the lines about one. A search returns such a selection, or None, and how it looked."""
 
 from ..base import child_call, text
 from ..results import selection
@@ -11,43 +11,43 @@ ENUMERATION, HIGHS = METHODS = ["enumeration", "highs"]
 FEW_BLOCKS = 10
 
 
-def search_for_better_and_how_or_stop(problem, published, method, progress, jobs):
-    """A selection that ranks above the one of right results, or None; and how it was looked for. Ends the tool if the time is over, or
-    if the search fails."""
+def search_by_method_or_stop(problem, published, method, progress, jobs):
+    """The search by a method for a selection that ranks above the one of right results. Ends the tool if the time is over, or if the
+    search fails."""
+    search = {ENUMERATION: search_by_enumeration, HIGHS: search_by_highs_in_child}[method]
     try:
-        find = {ENUMERATION: search_for_better_and_how_by_enumeration, HIGHS: search_for_better_and_how_by_highs}[method]
-        return find(problem, published, progress, jobs)
+        return search(problem, published, progress, jobs)
     except (TimeoutError, child_call.Died) as fault:
         status = command.UNDECIDED if isinstance(fault, TimeoutError) else command.FAILED
         raise command.Stop(f"the results obey the other rules, but {fault}", status) from None
 
 
-def search_for_better_and_how_by_enumeration(problem, published, progress, jobs, few=FEW_BLOCKS):
+def search_by_enumeration(problem, published, progress, jobs, few=FEW_BLOCKS):
     """With numpy; without it if the blocks are few, or if it is missing and they aren't too many."""
     count = len(problem.blocks)
     if count <= few or count <= recursive_enumeration.ENUMERABLE and not modules.has_module("numpy"):
         try:
-            found, how = recursive_enumeration.search_for_best_and_how(problem, progress)
+            found, how = recursive_enumeration.search_recursively(problem, progress)
         finally:
             progress.stop_and_erase()
         return (None if found.accepted == published.accepted else found), how
     modules.exec_or_require_modules("numpy")
     from . import numpy_enumeration
 
-    return numpy_enumeration.search_for_better_and_how(problem, frozenset(published.accepted), published.welfare, progress, jobs)
+    return numpy_enumeration.search_with_numpy(problem, frozenset(published.accepted), published.welfare, progress, jobs)
 
 
-def search_for_better_and_how_by_highs(problem, published, progress, jobs):
+def search_by_highs_in_child(problem, published, progress, jobs):
     """By HiGHS, which takes no program of a day without blocks."""
     if not problem.blocks:
-        return search_for_better_and_how_by_enumeration(problem, published, progress, jobs)
+        return search_by_enumeration(problem, published, progress, jobs)
     modules.exec_or_require_modules("scipy")
 
     def ask(tell):
         from . import highs_search
 
         try:
-            return highs_search.search_for_better_and_how(problem, frozenset(published.accepted), published.welfare, progress, tell)
+            return highs_search.search_with_highs(problem, frozenset(published.accepted), published.welfare, progress, tell)
         except highs_search.GaveUp as fault:
             raise TimeoutError(f"HiGHS gave up (its status is {fault}): without --by highs every selection is tried") from None
 

@@ -31,7 +31,7 @@ class Audit:
     def read_inputs_and_check_or_stop(self):
         """Makes the checks that the options ask for. Ends with `command.Stop` if that can't be done."""
         options = self.options
-        read, published_data = self.inputs.read_journal_and_published()
+        read, published_bytes = self.inputs.read_journal_and_published_bytes()
         closed, reasons = book.book_and_refusals(read)
         self.found.day = {"periods": read.periods, "commands": len(reasons), "refused": sum(reason is not None for reason in reasons)}
         try:
@@ -47,26 +47,26 @@ class Audit:
         if signed is not None:
             self.read_earlier_and_compare_with_signed_and_note(signed)
         if options.replies:
-            self.check_replies_and_note(read.periods, reasons, published_data)
-        elif published_data is not None:
-            self.check_results_and_note(closed, reasons, published_data)
+            self.check_replies_and_note(read.periods, reasons, published_bytes)
+        elif published_bytes is not None:
+            self.check_results_and_note(closed, reasons, published_bytes)
 
     @property
     def seconds(self):
         """How long a search, or a comparison of commands, may take."""
         return SECONDS if self.options.seconds is None else self.options.seconds
 
-    def check_replies_and_note(self, periods, reasons, published_data):
+    def check_replies_and_note(self, periods, reasons, published_bytes):
         self.found.checked.append("replies")
-        data, odd = encodings.plain_text_and_faults(published_data)
+        data, odd = encodings.plain_text_and_faults(published_bytes)
         self.found.odd += odd
         self.found.rule_faults += reply_faults(periods, reasons, data)
         if not self.found.rule_faults:
             self.found.right.append(f"as the rules say: {text.counted(len(reasons), 'reply', 'replies')}{sent.refused_words(reasons)}")
 
-    def check_results_and_note(self, closed, reasons, published_data):
+    def check_results_and_note(self, closed, reasons, published_bytes):
         self.found.checked.append("results")
-        data, odd = encodings.plain_text_and_faults(published_data)
+        data, odd = encodings.plain_text_and_faults(published_bytes)
         self.found.odd += odd
         if not closed.closed:
             self.found.rule_faults.append(FaultLine("no command closes the book, so it has no results", "journal"))
@@ -94,7 +94,7 @@ class Audit:
         progress = Progress("audit", self.seconds, options.quiet, whole)
         self.found.search = {"by": by, "selections": whole, "tried": 0, "better": None, "how": None}
         try:
-            found, how = better.search_for_better_and_how_or_stop(problem, published, by, progress, options.jobs or 1)
+            found, how = better.search_by_method_or_stop(problem, published, by, progress, options.jobs or 1)
         finally:
             self.found.search["tried"] = None if by == better.HIGHS else progress.tried_count()
         self.found.checked.append("best selection")
@@ -112,13 +112,13 @@ class Audit:
         show."""
         options = self.options
         self.found.checked.append("commands sent")
-        published = sent.published_of(read, reasons, options.participant)
-        has_none = bool(published) and all(who != options.participant for who, _ in closed.rows)
+        entries = sent.own_entries(read, reasons, options.participant)
+        has_none = bool(entries) and all(who != options.participant for who, _ in closed.rows)
         try:
             own = sent.parse_sent(self.inputs.read_and_note("sent", options.sent), options.participant, read.periods, has_none)
         except sent.BadSentText as fault:
             raise command.Stop(f"{command.shown(options.sent)} isn't what {options.participant} sent: {fault}") from None
-        self.found.sent = {"commands": len(published), "refused": sum(entry.reason is not None for entry in published)}
+        self.found.sent = {"commands": len(entries), "refused": sum(entry.reason is not None for entry in entries)}
         self.found.notes = [f"{command.shown(options.sent)}: {note}" for note in own.notes]
         for note in [] if options.quiet else self.found.notes:
             command.print_note("audit", note)
@@ -126,7 +126,7 @@ class Audit:
         words = f"the commands of {options.participant} aren't compared yet"
         try:
             look = functools.partial(progress.show_time_or_raise, words)
-            self.found.sent_faults, right = sent.faults_and_lines_of_sent(own, published, closed, options.participant, look, proof_words)
+            self.found.sent_faults, right = sent.faults_and_lines_of_sent(own, entries, closed, options.participant, look, proof_words)
         except TimeoutError as fault:
             raise command.Stop(str(fault), command.UNDECIDED) from None
         finally:

@@ -5,7 +5,7 @@ from pathlib import Path
 from typing import NamedTuple
 
 from ..base import text
-from ..sheets import kinds, sheets
+from ..sheets import kinds, table_files
 from ..tool import command, file_io
 
 JOURNAL, RESULTS = ".csv", ".txt"
@@ -57,11 +57,11 @@ def stem_and_suffix(name):
     return stem, f"{dot}{suffix.lower()}"
 
 
-def find_pair(name, journal, published):
+def find_pair(name, journal, results):
     unread = file_io.find_unread_reason_or_none(journal)
-    if os.path.lexists(published):
-        return Pair(name, journal, published, unread or file_io.find_unread_reason_or_none(published), None)
-    return Pair(name, journal, None, unread, f"{command.shown(published)} is missing")
+    if os.path.lexists(results):
+        return Pair(name, journal, results, unread or file_io.find_unread_reason_or_none(results), None)
+    return Pair(name, journal, None, unread, f"{command.shown(results)} is missing")
 
 
 def read_listed_pairs_or_stop(path, notes):
@@ -71,9 +71,9 @@ def read_listed_pairs_or_stop(path, notes):
     if kind in kinds.FILES:
         raise command.Stop(f"{command.shown(path)} is {kind}: save the table of days as CSV")
     try:
-        rows = iter(sheets.parse_text_rows_and_add_note(data, notes))
+        rows = iter(table_files.parse_text_rows_and_add_note(data, notes))
         header = next(rows, (0, []))[1]
-        heads = sheets.column_names(header)
+        heads = table_files.column_names(header)
         refuse_wrong_heads(path, heads)
         refuse_lost_day(path, header)
         pairs, lines = [], {}
@@ -83,7 +83,7 @@ def read_listed_pairs_or_stop(path, notes):
             if cells.get(NAME):
                 lines[len(pairs) - 1] = line
         mark_shared_names(pairs, lines)
-    except sheets.BadTable as fault:
+    except table_files.BadTable as fault:
         raise command.Stop(f"{command.shown(path)} isn't a table of days: {fault}") from None
     if not pairs:
         raise command.Stop(f"{command.shown(path)} has no days: it has no row below its header")
@@ -125,12 +125,12 @@ def extra_cells_words_or_none(line, row, heads):
 
 def find_listed_pair(folder, cells, extra):
     """The pair of a row of a manifest."""
-    journal, published = (folder / cells.get(name, "") for name in COLUMNS)
+    journal, results = (folder / cells.get(name, "") for name in COLUMNS)
     has_results = bool(cells.get("results"))
     missing = None if has_results else f"its row names no results, and {command.shown(journal)} has no line 'results'"
     unread = extra or unread_row_words_or_none(cells) or file_io.find_unread_reason_or_none(journal)
-    unread = unread or (file_io.find_unread_reason_or_none(published) if has_results else None)
-    return Pair(cells.get(NAME) or journal.stem, journal, published if has_results else None, unread, missing)
+    unread = unread or (file_io.find_unread_reason_or_none(results) if has_results else None)
+    return Pair(cells.get(NAME) or journal.stem, journal, results if has_results else None, unread, missing)
 
 
 def mark_shared_names(pairs, lines):

@@ -225,7 +225,7 @@ def questions_to_highs(accepted, welfare, blocks):
             yield welfare, flags[:place] + [1]
 
 
-def search_for_better_and_how(problem, accepted, welfare, progress, tell=lambda words: None):
+def search_with_highs(problem, accepted, welfare, progress, tell=lambda words: None):
     """A selection that ranks above this eligible one, or None if HiGHS has none; and how that was found. `tell` gets in words how far
     the search is."""
     model = Model(problem)

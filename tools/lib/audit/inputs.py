@@ -31,25 +31,25 @@ class Inputs:
         told.update(bytes=len(data), sha256=hashlib.sha256(data).hexdigest())
         return data
 
-    def read_journal_and_published(self):
+    def read_journal_and_published_bytes(self):
         """The journal, and the bytes of the results or replies; None if there are none, which only --sent allows."""
         options = self.options
         if options.results is None:
             return self.read_day()
-        written, published = self.read_and_note("journal", options.journal), self.read_and_note("results", options.results)
+        written, data = self.read_and_note("journal", options.journal), self.read_and_note("results", options.results)
         day_files.refuse_other_kind(options.journal, written, kinds.JOURNAL, HINTS)
-        day_files.refuse_other_kind(options.results, published, kinds.REPLIES if options.replies else kinds.RESULTS, HINTS)
-        return day_files.require_journal(options.journal, written), published
+        day_files.refuse_other_kind(options.results, data, kinds.REPLIES if options.replies else kinds.RESULTS, HINTS)
+        return day_files.require_journal(options.journal, written), data
 
     def read_day(self):
         """The same from the text of a day."""
         options = self.options
-        data = self.read_and_note("day", options.journal)
-        written, published = results.journal_and_results_or_none(data) or (data, None)
-        if published is not None and data[len(written) :].startswith(b"results\r") and b"\r" not in published:
+        day = self.read_and_note("day", options.journal)
+        written, data = results.journal_and_results_or_none(day) or (day, None)
+        if data is not None and day[len(written) :].startswith(b"results\r") and b"\r" not in data:
             self.odd.append(FaultLine("the line 'results' ends with CR LF instead of LF alone", "encoding"))
         day_files.refuse_other_kind(options.journal, written, kinds.JOURNAL, HINTS)
-        if published is None:
+        if data is None:
             if options.sent is None or options.best:
                 raise command.Stop(day_files.no_results_message(options.journal))
             self.records[0]["role"] = "journal"
@@ -57,4 +57,4 @@ class Inputs:
         read = day_files.require_journal(options.journal, written)
         if journal.journal_text(read).encode() != written:
             self.odd.append(FaultLine("the journal of the day isn't in its written form, but has the same commands", "encoding"))
-        return read, published
+        return read, data

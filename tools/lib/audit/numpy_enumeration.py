@@ -227,7 +227,7 @@ def greatest_sum(problem):
 
 
 class Rows:
-    """Some rows of selections: their welfares, and the ones that rank above the published selection and has no loss."""
+    """Some rows of selections: their welfares, and the ones that rank above the published selection and have no loss."""
 
     def __init__(self, every, highs, floor, progress):
         self.every, self.highs, self.progress = every, highs, progress
@@ -236,7 +236,7 @@ class Rows:
         # In which order blocks are looked at for a loss: those first that have lost most often, else from the last one.
         self.lost = dict.fromkeys(reversed(range(every.count)), 0)
 
-    def search_for_best(self):
+    def lift_and_return_floor(self):
         """The best of them that ranks above the floor, as a new floor."""
         welfares = self.welfares()
         waiting, held = [], 0
@@ -313,20 +313,20 @@ class Rows:
         return numpy.concatenate(gaining)
 
 
-def search_for_better_and_how(problem, accepted, welfare, progress, jobs=1, low_bits=LOW_BITS):
+def search_with_numpy(problem, accepted, welfare, progress, jobs=1, low_bits=LOW_BITS):
     """The best selection, if it ranks above this eligible one, else None; and how that was found."""
     every = Selections(problem, low_bits)
-    published = Floor(welfare, every.number_of(accepted))
-    shares = [Rows(every, highs, published, progress) for highs in numpy.array_split(every.highs, jobs) if len(highs)]
+    first = Floor(welfare, every.number_of(accepted))
+    shares = [Rows(every, highs, first, progress) for highs in numpy.array_split(every.highs, jobs) if len(highs)]
     progress.add_expected_steps(len(every.highs) * len(every.periods))
     with ThreadPoolExecutor(jobs) as threads:
         try:
-            floors = [running.result() for running in [threads.submit(share.search_for_best) for share in shares]]
+            floors = [running.result() for running in [threads.submit(share.lift_and_return_floor) for share in shares]]
         finally:
             progress.stop_and_erase()
     best = max(floors, key=lambda floor: (floor.welfare, floor.number))
     how = tried_words(len(problem.blocks), sum(share.admitted for share in shares), sum(share.looked for share in shares))
-    if best.number == published.number:
+    if best.number == first.number:
         return None, how
     found = Selection(every.accepted_places(best.number), best.welfare)
     if selection.eligible_welfare_or_none(problem, found.accepted) != found.welfare:

@@ -72,7 +72,7 @@ class Search:
         self.best = None
         self.tried = 0
 
-    def search_for_best(self):
+    def try_all_and_return_best(self):
         """The best selection."""
         net = dict.fromkeys(self.curves, 0)
         self.try_selections(0, frozenset(), {}, net, {number: curve.welfare_or_none(0) for number, curve in self.curves.items()}, 0)
@@ -116,12 +116,12 @@ class Search:
             self.best = Selection(accepted, welfare)
 
 
-def search_for_best_and_how(problem, progress=None):
+def search_recursively(problem, progress=None):
     """The best selection, and how it was found."""
     search = Search(problem, progress)
     if progress:
         progress.add_expected_steps(2 ** len(problem.blocks))
-    best = search.search_for_best()
+    best = search.try_all_and_return_best()
     if selection.eligible_welfare_or_none(problem, best.accepted) != best.welfare:
         raise AssertionError(f"the selection {sorted(best.accepted)} is not eligible with the welfare that the search gave it")
     return best, tried_words(len(problem.blocks), search.tried)

@@ -25,7 +25,9 @@ class Sent(NamedTuple):
     command: object
 
 
-class Published(NamedTuple):
+class Entry(NamedTuple):
+    """A command of the participant in the published journal."""
+
     record: int  # of the journal; the record of the day is 1
     command: object
     reason: object  # for which the book refused it; None if it was carried out
@@ -108,51 +110,51 @@ def parse_commands_notes_and_others(data, periods, who):
     return [Sent(number, submit) for number, submit in orders.submits], orders.notes, orders.others
 
 
-def published_of(read, reasons, who):
+def own_entries(read, reasons, who):
     """The commands of a participant in a journal, with the reasons of their refusals."""
     return [
-        Published(record, command, reason)
+        Entry(record, command, reason)
         for record, (command, reason) in enumerate(zip(read.commands, reasons), 2)
         if getattr(command, "who", None) == who
     ]
 
 
-def pairs_and_rests(sent, published, key):
-    """Pairs of entries with the same key, by their order; and the rest of both lists."""
+def pairs_and_rests(sent, entries, key):
+    """Pairs of a sent command and an entry with the same key, by their order; and the rest of both lists."""
     waiting = defaultdict(deque)
-    for entry in published:
+    for entry in entries:
         waiting[key(entry.command)].append(entry)
     pairs, left = [], []
-    for entry in sent:
-        same = waiting[key(entry.command)]
+    for one in sent:
+        same = waiting[key(one.command)]
         if same:
-            pairs.append((entry, same.popleft()))
+            pairs.append((one, same.popleft()))
         else:
-            left.append(entry)
-    return pairs, left, [entry for entries in waiting.values() for entry in entries]
+            left.append(one)
+    return pairs, left, [entry for same in waiting.values() for entry in same]
 
 
 def no_proof_words(_):
     return ""
 
 
-def faults_and_lines_of_sent(own, published, closed, who, look, proof_words=no_proof_words):
+def faults_and_lines_of_sent(own, entries, closed, who, look, proof_words=no_proof_words):
     """The faults of a participant's commands in a journal, and lines about the right ones. A table of orders may have the commands, or
     the orders at the end: of both, the one with fewer differences is meant. `look` is called now and then, and may end the comparison. Of a
     command that isn't in the journal as it was sent, `proof_words` says whether the operator had it."""
-    commands, reasons = own.commands, [entry.reason for entry in published]
-    wrong = difference_faults(commands, published, look=look, proof_words=proof_words)
+    commands, reasons = own.commands, [entry.reason for entry in entries]
+    wrong = difference_faults(commands, entries, look=look, proof_words=proof_words)
     others = f" ({own.others} of others left out)" if own.others else ""
     if wrong and own.is_table:
         at_the_end = difference_faults(commands, held_of(closed, who), BOOK, look)
         if not at_the_end:
             count = f"{text.counted(len(commands), 'order')} of {who}"
-            by = f"{text.counted(len(published), 'command')} of {who}{refused_words(reasons)}"
+            by = f"{text.counted(len(entries), 'command')} of {who}{refused_words(reasons)}"
             return [], [f"as in the table: {count} in {BOOK}, and no others, after {by}{others}"]
         wrong = min(wrong, at_the_end, key=len)
     count = f"{text.counted(len(commands), 'command')} of {who}"
     line = f"as sent: {count}, each once, in their order, and no others{refused_words(reasons)}{others}"
-    return wrong, [line, *reply_lines(commands, published)]
+    return wrong, [line, *reply_lines(commands, entries)]
 
 
 def refused_words(reasons):
@@ -167,18 +169,18 @@ def held_of(closed, who):
     return [Held(number, submit) for number, submit in enumerate(own, 1)]
 
 
-def difference_faults(sent, published, where=JOURNAL, look=lambda: None, proof_words=no_proof_words):
-    """The faults of the published commands, or of the book's, by their records."""
-    pairs = subsequence.longest_pairs(*([entry.command for entry in entries] for entries in (sent, published)), look)
+def difference_faults(sent, entries, where=JOURNAL, look=lambda: None, proof_words=no_proof_words):
+    """The faults of the journal's entries, or of the orders held in the book, by their records."""
+    pairs = subsequence.longest_pairs(*([one.command for one in part] for part in (sent, entries)), look)
     there, here = ({place[side] for place in pairs} for side in (0, 1))
     left = [entry for at, entry in enumerate(sent) if at not in there]
-    more = [entry for at, entry in enumerate(published) if at not in here]
+    more = [entry for at, entry in enumerate(entries) if at not in here]
     moved, left, more = pairs_and_rests(left, more, lambda command: command)
     changed, left, more = pairs_and_rests(left, more, lambda command: (type(command), command.name))
     sent_times = Counter(entry.command for entry in sent)
     faults = [(other.record, moved_fault(one, other)) for one, other in moved]
     faults += [(other.record, changed_fault(one, other, proof_words(one.command))) for one, other in changed]
-    found = [(sent[at].record, published[place].record) for at, place in pairs]
+    found = [(sent[at].record, entries[place].record) for at, place in pairs]
     faults += [(record_number_before(one, found), missing_fault(one, where, proof_words(one.command))) for one in left]
     faults += [(other.record, more_fault(other, sent_times[other.command])) for other in more]
     return [fault for _, fault in sorted(faults, key=lambda placed: placed[0])]
@@ -222,8 +224,8 @@ def record_number_before(one, record_pairs):
     return record_pairs[before - 1][1] if before else 0
 
 
-def reply_lines(sent, published):
-    """The reply to each command, if all are published as they were sent."""
-    for one, other in zip(sent, published):
+def reply_lines(sent, entries):
+    """The reply to each command, if all entries are as they were sent."""
+    for one, other in zip(sent, entries):
         shown = journal.command_record_text(one.command)
         yield f"sent record {one.record} is {other.place}; the book's reply is {other.reply}: {shown}"

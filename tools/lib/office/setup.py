@@ -10,7 +10,7 @@ import zoneinfo
 
 from ..base import rules, text
 from ..seal import heads, sealing, signing
-from ..sheets import cell_values, kinds, order_table, shapes, sheets
+from ..sheets import cell_values, kinds, order_table, table_files, table_operations
 from ..tool import command, file_io, modules
 from . import folder, tokens
 
@@ -22,17 +22,17 @@ WHO, SHARE = "participant", "commands"  # the columns of a table of participants
 def require_date(words):
     """The date of a word of the command line."""
     try:
-        return shapes.parse_date(words)
-    except shapes.BadDate as fault:
+        return table_operations.parse_date(words)
+    except table_operations.BadDate as fault:
         raise command.Stop(f"--day {fault}", command.COMMAND_LINE) from None
 
 
 def require_zone(words):
-    modules.refuse_missing_zone(shapes.ZONE)
+    modules.refuse_missing_zone(table_operations.ZONE)
     try:
         return zoneinfo.ZoneInfo(words)
     except (zoneinfo.ZoneInfoNotFoundError, ValueError):
-        raise command.Stop(f"--zone {text.quoted(words)} isn't a time zone, such as {shapes.ZONE}", command.COMMAND_LINE) from None
+        raise command.Stop(f"--zone {text.quoted(words)} isn't a time zone, such as {table_operations.ZONE}", command.COMMAND_LINE) from None
 
 
 def require_close(words, date, zone):
@@ -58,8 +58,8 @@ def require_terms(args, shares, now=None):
     if args.periods not in rules.DAYS:
         raise command.Stop(f"--periods should be one of {', '.join(map(str, sorted(rules.DAYS)))}", command.COMMAND_LINE)
     try:
-        shapes.begin_times_or_raise(date, args.periods, args.zone)
-    except shapes.BadDate as fault:
+        table_operations.begin_times_or_raise(date, args.periods, args.zone)
+    except table_operations.BadDate as fault:
         raise command.Stop(f"--periods: {fault}", command.COMMAND_LINE) from None
     closes = require_close(args.close, date, zone)
     if closes <= (now or datetime.datetime.now(datetime.timezone.utc)):
@@ -81,7 +81,7 @@ def read_shares_and_print_notes(path):
         raise command.Stop(f"{command.shown(path)} is {kind}: save the table as .xlsx or as CSV")
     try:
         found = parse_shares_and_append_notes(data, notes)
-    except (sheets.BadTable, order_table.BadOrders) as fault:
+    except (table_files.BadTable, order_table.BadOrders) as fault:
         lines = "\n  ".join([*str(fault).split("\n"), *notes])
         raise command.Stop(f"{command.shown(path)}: {lines}") from None
     if not 0 < len(found) <= folder.MOST_COMMANDS:
@@ -93,7 +93,7 @@ def read_shares_and_print_notes(path):
 
 def parse_shares_and_append_notes(data, notes):
     """The same of a table's bytes. A cell that would be lost is a fault. Notes say how the table was read."""
-    (line, header), *rows = list(sheets.parse_rows_and_add_notes(data, [WHO], notes, folder.MOST_COMMANDS)[0]) or [(1, [])]
+    (line, header), *rows = list(table_files.parse_rows_and_add_notes(data, [WHO], notes, folder.MOST_COMMANDS)[0]) or [(1, [])]
     table = order_table.Table("", rows, require_columns(line, header), len(header), False, [], notes)
     order_table.refuse_unnamed(header, rows)
     found, lines, wrong = {}, {}, order_table.Faults()
@@ -113,7 +113,7 @@ def parse_shares_and_append_notes(data, notes):
 
 def require_columns(line, header):
     """Where the columns of a table of participants stand. It has no others."""
-    names, columns = sheets.column_names(header), f"the columns are {WHO}, {SHARE}"
+    names, columns = table_files.column_names(header), f"the columns are {WHO}, {SHARE}"
     if WHO not in names:
         raise order_table.BadOrders(f"line {line}: there is no column {WHO}; {columns}")
     for at, name in enumerate(names):

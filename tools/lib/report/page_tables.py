@@ -9,7 +9,7 @@ from ..base import clock, spans, text
 from ..journal import book
 from ..journal.journal import command_record_text
 from ..results import decisions, market_data, trades
-from ..sheets import tables
+from ..sheets import day_tables
 
 MARKS = {decisions.ACCEPTED: "accepted", decisions.REJECTED: "rejected", decisions.PARADOX: "paradox"}
 NUMBER = "n"  # the class of cells that stand to the right
@@ -133,7 +133,7 @@ def refusal_tables(day):
 
 def own_commands(day, who):
     """The commands of a participant as in its statement, each by the names of its columns: those of blocks first."""
-    heads_of, *commands = tables.statement_rows(day)
+    heads_of, *commands = day_tables.statement_rows(day)
     own = [cells for cells in (dict(zip(heads_of, row)) for row in commands) if cells["participant"] == who]
     blocks = {cells["order"] for cells in own if cells["kind"] == "block"}
     return sorted(own, key=lambda cells: cells["order"] not in blocks)

@@ -3,7 +3,7 @@ tools/table --rows commands prints them."""
 
 from ..base import text
 from ..journal import journal
-from . import cell_values, order_table, sheets
+from . import cell_values, order_table, table_files
 from .order_table import WHAT
 
 # The columns that each command has. In the others its rows have no cell: it wouldn't do what they say.
@@ -17,7 +17,7 @@ class Columns:
     orders are needed as far as its commands have them."""
 
     def __init__(self, table_cells, needed):
-        names = sheets.column_names(table_cells.line_and_header()[1])
+        names = table_files.column_names(table_cells.line_and_header()[1])
         self.places = order_table.Places({name: at for at, name in reversed(list(enumerate(names)))})  # the first of each name
         self.table = order_table.require_order_table("", table_cells, self.needed_columns(order_table.Below(table_cells)), (*needed, WHAT))
         for name in needed:
@@ -52,7 +52,7 @@ class Columns:
 
 def is_command_table(table_cells):
     """Whether a table, given by its cells, has the column `what`."""
-    return WHAT in sheets.column_names(table_cells.line_and_header()[1])
+    return WHAT in table_files.column_names(table_cells.line_and_header()[1])
 
 
 def add_other_faults(row, word):

@@ -10,9 +10,9 @@ from ..base import rules, text
 from ..journal import book, fields, journal
 from ..workbooks.cells import Struck, Styled, Uncomputed, Unseen
 from ..workbooks.first_rows import ALIKE
-from . import cell_values, kinds, shapes, sheets
+from . import cell_values, kinds, table_files, table_operations
 from .cell_values import BadOrders
-from .tables import ORDER, REPLY, RESULT
+from .day_tables import ORDER, REPLY, RESULT
 
 # The columns that a row may leave empty, or a table out.
 OPTIONAL = ["parent", "group"]
@@ -49,13 +49,13 @@ class Places(dict):
 
     def cell_text(self, cells, name):
         """The same without spaces around it, and without the apostrophes that keep it from being taken for a formula."""
-        return sheets.unescaped(self.given_cell(cells, name).strip())
+        return table_files.unescaped(self.given_cell(cells, name).strip())
 
 
 def places_and_unused_or_refuse(line, header, needed, further):
     """Where each column stands, and the headings of those that aren't used, by their columns; if not, all that is wrong with the columns,
     a line each. Those that are needed have to be there; the further ones are used, and read by others."""
-    names = sheets.column_names(header)
+    names = table_files.column_names(header)
     missing = [name for name in ORDER if name not in names]
     places, wrong, unused = Places(), [], {}
     for at, (name, cell) in enumerate(zip(names, header), 1):
@@ -81,7 +81,7 @@ def places_and_unused_or_refuse(line, header, needed, further):
 
 def column_and_unit_words(name):
     """The name of a column with the unit of its numbers, which a heading that isn't one may have in another."""
-    unit = shapes.unit_or_none(name)
+    unit = table_operations.unit_or_none(name)
     return f"{name}, in {unit}" if unit else name
 
 
@@ -119,7 +119,7 @@ class Row:
         if self.raises and name in NAMES and cell.isascii() and cell != cell.upper() == self.probable_name(name):
             self.raised[cell] = cell = cell.upper()
         try:
-            cell_values.refuse_unlike(self.table.places.given_cell(self.cells, name), name in NAMES, shapes.unit_or_none(name))
+            cell_values.refuse_unlike(self.table.places.given_cell(self.cells, name), name in NAMES, table_operations.unit_or_none(name))
             return parser(cell)
         except BadOrders as fault:
             self.faults.append(f"column {name}: {fault}")
@@ -276,9 +276,9 @@ def parse_cells(data, most=MOST_ROWS, is_long=False):
     if kind in kinds.FILES - {kinds.EXCEL}:
         raise BadOrders(f"this is {kind}: {kinds.ADVICE[kind]}")
     try:
-        rows, separator = sheets.parse_rows_and_add_notes(data, NEEDED, read, most, is_long)
+        rows, separator = table_files.parse_rows_and_add_notes(data, NEEDED, read, most, is_long)
         count = count_rows_or_refuse(rows, most)
-    except sheets.BadTable as fault:
+    except table_files.BadTable as fault:
         raise BadOrders(str(fault)) from None
     if not count:
         raise BadOrders("\n".join([f"the table is empty: its first line should name the columns {', '.join(ORDER)}", *read]))
@@ -378,7 +378,7 @@ def refuse_unnamed(header, rows):
 
 def refuse_commands(header, rows):
     """Refuses a table of commands with one that no order of a table can be, or with a word that may be meant for one."""
-    names = sheets.column_names(header)
+    names = table_files.column_names(header)
     at = names.index(WHAT) if WHAT in names else None
     for line, cells in rows if at is not None else []:
         word = cells[at].strip().lower() if at < len(cells) and cells != header else ""

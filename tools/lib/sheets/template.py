@@ -3,9 +3,9 @@
 import io
 
 from ..base import rules, text
-from . import sheets
+from . import table_files
 from .order_table import NAMES
-from .tables import ORDER
+from .day_tables import ORDER
 
 ORDERS, EXAMPLES = "orders", "examples"  # the sheets
 WIDTH = 16
@@ -33,7 +33,7 @@ ROWS = [
 
 def template_bytes():
     """The bytes of the workbook."""
-    book = sheets.import_openpyxl().Workbook()
+    book = table_files.import_openpyxl().Workbook()
     sheet = book.active
     sheet.title = ORDERS
     fill_sheet(sheet, [])

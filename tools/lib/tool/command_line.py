@@ -2,6 +2,7 @@
 
 import argparse
 import inspect
+import re
 import sys
 
 from ..base import place, text
@@ -23,6 +24,17 @@ def parse_day(word):
     if not heads.DAY.fullmatch(word):
         raise argparse.ArgumentTypeError(f"{text.quoted(word)} should be {heads.A_DAY}")
     return word
+
+
+def whole_number_function(least, most, words=None, form=r"\d{1,99}"):
+    """A function that takes a word of the command line to a whole number, if it has the form."""
+
+    def parse(word):
+        if not re.fullmatch(form, word) or not least <= int(word) <= most:
+            raise argparse.ArgumentTypeError(f"{text.quoted(word)} should be {words or f'a number from {least} to {most}'}")
+        return int(word)
+
+    return parse
 
 
 def add_command_parser(commands, epilog, call, name, words):

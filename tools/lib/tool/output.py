@@ -1,6 +1,6 @@
 """A table as a tool writes it: comma-separated values, JSON or an Excel workbook."""
 
-from ..sheets import shapes, sheets
+from ..sheets import table_files, table_operations
 from . import command, file_io, modules
 
 WORKBOOK, CSV = ".xlsx", ".csv"
@@ -46,8 +46,8 @@ def aligned_lines(rows, to_the_left):
 def workbook_bytes_or_stop(tables):
     """The bytes of a workbook with a sheet for each table, by name."""
     try:
-        return sheets.workbook_bytes_or_refuse(tables)
-    except sheets.BadTable as fault:
+        return table_files.workbook_bytes_or_refuse(tables)
+    except table_files.BadTable as fault:
         raise command.Stop(f"{fault}: write it as {CSV}", command.COMMAND_LINE) from None
 
 
@@ -57,7 +57,7 @@ def write_table(tool, args, name, rows, periods):
     if is_workbook_name(args.out):
         data = workbook_bytes_or_stop({name: rows})
     elif args.json:
-        data = shapes.json_text(name, rows, shapes.day_record(periods)).encode()
+        data = table_operations.json_text(name, rows, table_operations.day_record(periods)).encode()
     else:
-        data = sheets.table_text(rows, args.decimal_comma).encode()
+        data = table_files.table_text(rows, args.decimal_comma).encode()
     file_io.write_file_or_stdout(tool, args.out, data)

@@ -7,6 +7,10 @@ from ..base import rules, text
 from ..tool import command, command_line, output
 from . import scenarios
 
+COUNT = "[1-9][0-9]{0,6}"
+parse_jobs = command_line.whole_number_function(1, 999, form=COUNT)
+parse_sample_count = command_line.whole_number_function(1, 9_999_999, form=COUNT)
+
 
 def parse_price(word):
     """A price of the command line in cents per MWh."""
@@ -24,12 +28,6 @@ def order_name_and_advice(word):
     if text.parse_name_or_none(word.encode(errors="surrogateescape")) is None:
         raise argparse.ArgumentTypeError(f"{text.quoted(word)} should be {text.A_NAME}")
     return word
-
-
-def parse_jobs(word):
-    if not re.fullmatch(r"[1-9][0-9]{0,2}", word):
-        raise argparse.ArgumentTypeError(f"{text.quoted(word)} should be a number from 1 to 999")
-    return int(word)
 
 
 def add_command_parser(commands, call, name, epilog, words):
@@ -86,12 +84,6 @@ def add_scenarios_command(commands, call, epilog):
     add("--cluster", metavar="ADDRESS", help="the scheduler of a dask cluster to run on, such as tcp://10.0.0.1:8786; with tls:// the"
         " certificates are those of ~/.config/dask or /etc/dask")
     add_quiet_option(parser)
-
-
-def parse_sample_count(word):
-    if not re.fullmatch(r"[1-9][0-9]{0,6}", word):
-        raise argparse.ArgumentTypeError(f"{text.quoted(word)} should be a number from 1 to 9999999")
-    return int(word)
 
 
 def parse_standard_deviation(word):

@@ -12,7 +12,7 @@ from ..base import rules, text
 from ..results import selection
 from ..runs.cleared import NO_RESULTS, journal_bytes
 from ..runs.errors import Fault, Wrong
-from ..sheets import cell_values, order_table, sheets
+from ..sheets import cell_values, order_table, table_files
 from ..sheets.command_table import Columns
 from . import changes
 
@@ -135,7 +135,7 @@ class Table:
             if CONTROL.search(scenario):
                 words = f"{text.quoted(scenario)} has a control character: remove it"
                 raise Fault(f"{self.name}: line {first[0]}, column {SCENARIO}: {words}")
-            if not sheets.fits_cell(scenario):
+            if not table_files.fits_cell(scenario):
                 words = f"{text.quoted(scenario)} would be too long for a cell of the output: shorten it"
                 raise Fault(f"{self.name}: line {first[0]}, column {SCENARIO}: {words}")
             if scenario in seen:

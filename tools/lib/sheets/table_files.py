@@ -12,7 +12,7 @@ import re
 from ..base import ending, text
 from ..workbooks import limits, reading
 from ..workbooks.cells import escaped, trimmed
-from . import shapes
+from . import table_operations
 
 XLSX = b"PK\x03\x04"  # the first bytes of a workbook
 PART, LONGEST_ROW = 1 << 20, 1 << 20  # bytes that are decoded at once, and characters of a row of a text
@@ -217,7 +217,7 @@ def table_text(rows, decimal_comma=False):
     cells are separated by semicolons."""
     rows = iter(rows)
     heads = next(rows)
-    kinds = [shapes.column_description(name, heads)["type"] for name in heads]
+    kinds = [table_operations.column_description(name, heads)["type"] for name in heads]
     out = io.StringIO()
     writer = csv.writer(out, lineterminator="\n", delimiter=";" if decimal_comma else ",")
     writer.writerow(heads)
@@ -275,7 +275,7 @@ def workbook_bytes_or_refuse(tables):
     for name, rows in tables.items():
         sheet = book.create_sheet(name)
         heads, *rows = rows
-        kinds = [shapes.column_description(head, heads)["type"] for head in heads]
+        kinds = [table_operations.column_description(head, heads)["type"] for head in heads]
         for at, values in enumerate([heads, *rows], 1):
             for place, (head, kind, value) in enumerate(zip(heads, kinds, values), 1):
                 fill_cell(sheet.cell(at, place), "string" if at == 1 else cell_kind(head, kind, value), value)
