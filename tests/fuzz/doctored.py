@@ -28,7 +28,7 @@ sys.dont_write_bytecode = True
 sys.path[:0] = [str(Path(__file__).resolve().parents[2] / name) for name in ("tests", "tools")]
 
 import compare
-from lib.audit import checks, recursive_enumeration
+from lib.audit import day_audit, recursive_enumeration
 from lib.journal import book, journal
 from lib.results import results, selection
 from lib.sheets import kinds
@@ -99,7 +99,7 @@ def write_and_audit(folder, data, text):
         journal=str(paths[0]), results=str(paths[1]), best=True, by=None, seconds=60, jobs=None, replies=False, sent=None, head=None,
         quiet=True,
     )
-    audit = checks.Audit(options)
+    audit = day_audit.Audit(options)
     try:
         with contextlib.redirect_stderr(io.StringIO()):
             audit.read_inputs_and_check_or_stop()

@@ -51,7 +51,7 @@ from .checks import (
 )
 from .given import JournalSource, Source, is_text, read_journal, read_one_of_many, read_or_return_journal
 from .given import read_source_bytes, turning_into_faults
-from .lib.audit import checks as audit_checks
+from .lib.audit import day_audit
 from .lib.journal import book, journal
 from .lib.runs import by_library, by_program, engine, which
 from .lib.sheets import day_tables, order_table, table_operations
@@ -238,7 +238,7 @@ def replay(source: JournalSource, program: Program | None = None, timeout: float
     found = capture_output(read, [by_program.require_program(program), "replay"], timeout)
     reasons = book.book_and_refusals(read)[1]
     if found != book.replies_text_of(read.periods, reasons).encode():
-        first, *_ = audit_checks.reply_faults(read.periods, reasons, found)
+        first, *_ = day_audit.reply_faults(read.periods, reasons, found)
         raise Fault(f"the program printed other replies than those of the journal ({first})")
     return [Reply(number, reason) for number, reason in enumerate(reasons, 1)]
 

@@ -7,7 +7,7 @@ import types
 from dataclasses import dataclass
 
 from .given import JournalSource, Source, read_or_return_journal, read_source_bytes, source_name, read_journal_bytes
-from .lib.audit import better, checks, inputs
+from .lib.audit import better, day_audit, inputs
 from .lib.audit import recursive_enumeration
 from .lib.journal.journal import Journal
 from .lib.lint import lint as lint_of
@@ -146,7 +146,7 @@ class Sources(inputs.Inputs):
         return self.sources[role]
 
 
-class Audited(checks.Audit):
+class Audited(day_audit.Audit):
     """An audit in a program, which isn't started again."""
 
     def search_for_better_and_note(self, problem: selection.Problem, published: object) -> object:
@@ -164,7 +164,7 @@ def audit(
     *,
     best: bool = False,
     by: str | None = None,
-    seconds: float = checks.SECONDS,
+    seconds: float = day_audit.SECONDS,
     jobs: int = 1,
 ) -> Audit:
     """The verdict of tools/audit on a journal and its results, on a `Day`, or on the text of `dam day`; with `best` also on the selection

@@ -17,7 +17,7 @@ from support import AUCTION, AUCTION_RESULTS, FIRST, QUARTERS, journal_of, probl
 from support import draw_small_problems, run_audit, run_tool
 
 from shared import days
-from lib.audit import checks, recursive_enumeration
+from lib.audit import day_audit, recursive_enumeration
 from lib.base import rules
 from lib.journal import book, journal
 from lib.results import check, period, results, selection
@@ -26,7 +26,7 @@ from lib.tool import command, modules
 from lib.base.progress import Progress
 from lib.base.text import exact_eur
 
-NOT_COMPARED = f"{checks.NOT_COMPARED}\n"
+NOT_COMPARED = f"{day_audit.NOT_COMPARED}\n"
 NUMBER = re.compile(rb"(?<=,)-?\d+(?=[,\n])")
 
 
@@ -439,14 +439,14 @@ class CommandLine(unittest.TestCase):
     def test_what_was_not_checked_is_said(self):
         """Without --best, the status of the selection; for a wrong form, the status of the numbers."""
         data, text = AUCTION.read_bytes(), read_results(AUCTION)
-        said = "welfare 3,021,520.00 EUR, 1 of 94 commands refused" + checks.NOT_CHECKED
+        said = "welfare 3,021,520.00 EUR, 1 of 94 commands refused" + day_audit.NOT_CHECKED
         self.assertTrue(run_audit(data, text)[1].decode().splitlines()[0].endswith(said))
         self.assertNotIn(b"not checked", run_audit(data, text, "--best")[1])
         self.assertNotIn(b"not checked", run_audit(journal_of(), results_of(journal_of(), frozenset()))[1])
         status, out, _ = run_audit(data, text.replace(b"period,20,", b"period,20,+"), "--best")
         number = text.split(b"period,20,")[1].split(b",")[0].decode()
         form = f"results line 22: period 20: '+{number}' isn't a number as dam writes it: no +, no leading zeros, no -0"
-        self.assertEqual((status, out.decode().splitlines()), (command.DIFFERS, [form, checks.NEITHER]))
+        self.assertEqual((status, out.decode().splitlines()), (command.DIFFERS, [form, day_audit.NEITHER]))
 
     def test_files_that_are_no_text_have_no_verdict(self):
         for data, said in (

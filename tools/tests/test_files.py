@@ -8,6 +8,7 @@ import io
 import itertools
 import math
 import os
+import re
 import resource
 import signal
 import subprocess
@@ -30,7 +31,7 @@ NOTE = "table: 1 of 94 commands was refused (of GAS): see --rows commands\n"
 
 
 def run_at_a_terminal(name, *words, cwd):
-    """The lines that a terminal shows in the end of a tool's standard error. A tool that takes long has shown there how far it is."""
+    """The lines of a tool on standard error, if that is a terminal."""
     ours, theirs = os.openpty()
     subprocess.run([sys.executable, TOOLS / name, *words], stderr=theirs, check=True, cwd=cwd)
     os.close(theirs)
@@ -39,15 +40,7 @@ def run_at_a_terminal(name, *words, cwd):
         while data := os.read(ours, 10_000):
             said += data
     os.close(ours)
-    return "\n".join(map(shown_line, said.decode().replace("\r\n", "\n").split("\n")))
-
-
-def shown_line(line):
-    """A line as a terminal shows it, where what follows a carriage return is written over its beginning."""
-    shown = ""
-    for part in line.split("\r"):
-        shown = part + shown[len(part) :]
-    return shown.rstrip(" ")
+    return re.sub(r"(\r[^\r\n]+)*\r +\r", "", said.decode().replace("\r\n", "\n"))  # without a bar that is erased
 
 
 class Files(unittest.TestCase):

@@ -26,7 +26,7 @@ from lib.seal import heads
 
 try:
     from lib.office import folder, guards, observed, published, refusals, requests, serve
-    from lib.office import tables as reader
+    from lib.office import table_reader as reader
 except ImportError:  # without python3-aiohttp and the like, whose tests are skipped
     pass
 
@@ -169,7 +169,7 @@ class Requests(unittest.TestCase):
             read(table % 8)
         with tempfile.TemporaryDirectory() as room:
             shutil.copytree(TOOLS / "lib", Path(room, "lib"), ignore=shutil.ignore_patterns("__pycache__"))
-            path = Path(room, "lib", "office", "tables.py")
+            path = Path(room, "lib", "office", "table_reader.py")
             path.write_text(path.read_text().replace("MOST_MEMORY = 1 << 29", "MOST_MEMORY = 1"))
             head, _, row = (table % 8).replace(b"block", b"hour").partition(b"\n")
             long = head + b"\n" + row.replace(b",A,", b",A%d,") * 4_000 % tuple(range(4_000))

@@ -20,7 +20,7 @@ from lib.tool import command
 try:
     from lib.office import budgets, folder, guards, observed, programs, refusals, tokens, web
     from lib.office import serve as serving
-    from lib.office import tables as reader
+    from lib.office import table_reader as reader
 except ImportError:  # without python3-aiohttp and the like, whose tests are skipped
     pass
 

@@ -17,7 +17,7 @@ from pathlib import Path
 
 from support import AUCTION, AUCTION_RESULTS, QUARTERS, TOOLS, TOP, journal_of, read_cleared_cases, read_results, results_of, run_audit, run_tool
 
-from lib.audit import checks, verdict
+from lib.audit import day_audit, verdict
 from lib.base import rules
 from lib.results import encodings, faults
 from lib.tool import command
@@ -32,7 +32,7 @@ class Encoding(unittest.TestCase):
 
     RIGHT = (
         "as the rules say: 24 periods, 80 hourly orders, 6 of 9 blocks accepted, welfare 3,021,520.00 EUR, 1 of 94 commands refused"
-        f"{checks.NOT_CHECKED}\n"
+        f"{day_audit.NOT_CHECKED}\n"
         "by adding: buyers pay 1,238,670.00 EUR, sellers receive 1,238,670.00 EUR; the surpluses add up to the welfare, and nobody loses\n"
     )
 

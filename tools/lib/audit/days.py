@@ -11,7 +11,7 @@ from ..base import audit_record, ending, text
 from ..base.progress import StepBar
 from ..runs.by_program import Running
 from ..tool import command, day_files, file_io, modules, output
-from . import checks, day_pairs, verdict
+from . import day_audit, day_pairs, verdict
 
 MORE_SECONDS = 600  # that the audit of a day may take besides its search, before it is taken for one that hangs
 MOST_SECONDS = 2_000_000  # that it may take at all: the system waits for no more than 2**31 ms
@@ -40,7 +40,7 @@ def argument_of_path(path):
 
 def seconds_of(args):
     """How long the process of a day may take."""
-    return min(MORE_SECONDS + (checks.SECONDS if args.seconds is None else args.seconds) * args.best, MOST_SECONDS)
+    return min(MORE_SECONDS + (day_audit.SECONDS if args.seconds is None else args.seconds) * args.best, MOST_SECONDS)
 
 
 def run_audit_and_return_kept_record(pair, options, running, seconds=MORE_SECONDS, is_json=False):

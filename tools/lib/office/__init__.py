@@ -17,7 +17,8 @@ It may import: base, journal, lint, receipts, report, results, runs, seal, sheet
 | `refusals` | why a request is refused |
 | `programs` | the programs that an office runs |
 | `outcome`, `published` | making the files that are published; what participants see of them |
-| `requests`, `web`, `fixed_files` | commands in a request; the routes; the files that don't change |
+| `requests`, `table_reader` | commands in a request; an uploaded table, read in a process of its own |
+| `web`, `fixed_files` | the routes; the files that don't change |
 | `admission` | whether a request is answered |
 | `guards`, `budgets` | limits on connections; on requests |
 | `observed` | the log and the counts |

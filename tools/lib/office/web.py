@@ -9,7 +9,7 @@ from aiohttp import web
 
 from ..base import clock
 from ..seal import heads
-from . import budgets, fixed_files, folder, requests, tables
+from . import budgets, fixed_files, folder, requests, table_reader
 from .admission import MOST_BODY, Admission, content_type, read_body, require_known, require_length, require_query_number
 from .refusals import RequestFault, Refused
 
@@ -213,7 +213,7 @@ class Web:
                 if request.transport is None:  # the client is gone
                     raise ConnectionResetError
                 orders = [(name, order.kind) for name, order in writer.ledger.own_orders(who)]
-                records, notes = await tables.capture_table_records_and_notes(body, who, writer.terms.periods, orders)
+                records, notes = await table_reader.capture_table_records_and_notes(body, who, writer.terms.periods, orders)
         finally:
             self.reading.discard(who)
         return self.charge_and_answer(who, json.dumps({"records": records, "notes": notes}))
