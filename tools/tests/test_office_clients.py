@@ -130,7 +130,7 @@ class Requests(unittest.TestCase):
             (f"{heads}\n" + f"amend{',x' * 9}\n" * 4_000, 36_000),
             (f"{heads}\n" + "move\n" * 21, 21),
             (",".join([heads, *["what"] * 4_000]), 4_000),
-            (heads.replace(",group", f"{',' * 4_001}group") + "\n" + ",".join(["x"] * 4_010), 4_000),
+            (heads.replace(",group", f"{',' * 4_001}group") + "\n" + ",".join(["x"] * 4_010) + "\n", 4_000),
         ):
             with self.subTest(data=data[:80], count=count), self.assertRaises(requests.BadRequest) as caught:
                 requests.parse_table_records_and_notes(data.encode(), "GAS", 24)
