@@ -1,3 +1,4 @@
+//! A text that may be longer than the caller's buffer: the answer has its whole length.
 ghost use Rattle.std.specs.Prelude.{◌≡◌, ◌++◌, codes, MatchResult};
 ghost use Rattle.dam_engines.specs.Fault.{fault_status, fault_text};
 ghost use Rattle.dam_c.specs.Answer.{HoldsText};

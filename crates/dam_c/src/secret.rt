@@ -1,3 +1,4 @@
+//! The seed with which a book's map hashes, from random bytes of the caller.
 ghost use Rattle.std.specs.Prelude.{length, IsOk};
 ghost use Rattle.dam_c.specs.Answer.{HoldsText};
 

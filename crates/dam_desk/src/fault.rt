@@ -1,3 +1,4 @@
+//! A fault of a line is its answer. A fault of the desk ends the program.
 ghost use Rattle.std.specs.Prelude.{◌≡◌};
 ghost use Rattle.dam_desk.specs.Faults.{fault_after, fault_status};
 

@@ -1,3 +1,4 @@
+//! Each text is flushed once, and a failed write says how many of its bytes were taken.
 ghost use Rattle.std.specs.Prelude.{◌≡◌, true, false, IfErr, OnOk, MatchResult};
 ghost use Rattle.std.specs.Io.KnownBytes.{Appends};
 ghost use Rattle.dam_desk.specs.Device.{IsFlushed};

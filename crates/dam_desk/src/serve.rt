@@ -1,3 +1,4 @@
+//! Answers the lines that one read completes as one batch, before the next read.
 ghost use Rattle.std.specs.Prelude.{◌≡◌, ◌++◌, ℕ, List, true, false, not, IsTrue, IfSome, IfErr, OnOk};
 ghost use Rattle.std.specs.Io.KnownBytes.{Consumes};
 ghost use Rattle.dam_store.specs.Store.{disk_of, held_lines, is_broken};

@@ -1,3 +1,4 @@
+//! From words to a job, or to `clap`'s refusal of them.
 ghost use Rattle.std.specs.Prelude.{◌≡◌, Some, map, IfOk, IfErr};
 ghost use Rattle.clap.specs.Words.{found_of, rows_of};
 ghost use Rattle.std.specs.Int.{IsInRange};

@@ -1,3 +1,5 @@
+//! The numbers of a plan as options, each with its range and its default.
+
 use dam_plan::{MOST_CUT, MOST_NODES, MOST_WORKERS};
 
 /// An option with a number.

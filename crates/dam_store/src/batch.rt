@@ -1,3 +1,4 @@
+//! Lines are marked as they are added, so that a batch is written from its bytes as they are.
 ghost use Rattle.std.specs.Prelude.{◌≡◌, ◌++◌, [], ◌∷◌, ◌==◌, false, length, take, drop, IfOk, IfErr, OnOk, OnErr};
 ghost use Rattle.dam_store.specs.FileLines.{HaveNoNewline, IsLine, has_byte, marked, marked_lines};
 ghost use Rattle.dam_store.specs.inside.Shape.{IsBatch};

@@ -1,3 +1,4 @@
+//! Bytes are written and synced by one call, which never retries, and a file is read whole.
 ghost use Rattle.std.specs.Prelude.{◌≡◌, ◌⊎◌, ◌<◌, ◌≤◌, true, not, length, IsTrue, IfOk, IfErr, OnOk, OnErr};
 ghost use Rattle.sqlite_disk.specs.Disk.{Torn, Holds, Follows, CountsFault};
 ghost use Rattle.dam_store.specs.Limits.{most_file_bytes};

@@ -1,3 +1,4 @@
+//! A fault names its cause: the file or the line that is refused, memory, or a call that failed.
 ghost use Rattle.std.specs.Prelude.{◌≡◌};
 ghost use Rattle.dam_store.specs.Faults.{is_not_a_file};
 

@@ -1,3 +1,4 @@
+//! A file is opened as a disk, and stays locked as long as that lives.
 ghost use Rattle.std.specs.Prelude.{◌≡◌, IsTrue, IfOk, IfErr};
 ghost use Rattle.sqlite_disk.specs.Disk.{Only};
 ghost use Rattle.dam_store.specs.Faults.{IsOpeningFault};

@@ -1,3 +1,4 @@
+//! Repairs the end of a file, or makes the file whole, by writes after each of which it stands for the same lines.
 ghost use Rattle.std.specs.Prelude.{◌≡◌, ◌⊎◌, ◌+◌, ◌∷◌, ◌<◌, ◌≤◌, [], List, ℕ, false, true, not, None, ◌==◌, ◌-◌, ◌++◌, slice_index, length, take, drop, replicate, IsTrue, IfOk, IfErr, OnOk};
 ghost use Rattle.dam_store.specs.Limits.{most_file_bytes};
 ghost use Rattle.dam_store.specs.FileLines.{is_unmade, head_line, lines_in, stands_for, StandsFor};

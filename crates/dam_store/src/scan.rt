@@ -1,3 +1,4 @@
+//! Lines count up to the first that isn't whole or lacks its mark.
 ghost use Rattle.std.specs.Prelude.{◌≡◌, List, ℕ, MatchOption, IfOk};
 ghost use Rattle.dam_store.specs.FileLines.{text_of, marked_lines};
 ghost use Rattle.dam_store.specs.inside.Shape.{BeginsWithLine, IsShut, EndsAt};
