@@ -1,3 +1,5 @@
+//! The number of periods of a day, checked once: 23, 24 or 25 hours, or four times as many quarters.
+
 ghost use Rattle.std.specs.Prelude.{◌≡◌, true, SomeIff};
 ghost use Rattle.dam_book.specs.Book.{is_day};
 

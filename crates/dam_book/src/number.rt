@@ -1,10 +1,12 @@
+//! Whole numbers, read from their decimal form and from no other text.
+
 ghost use Rattle.std.specs.Prelude.{◌≡◌, ◌≢◌, ◌<◌, ◌≤◌, ◌^◌, ℕ, ℤ, true, false, length, decimal, MatchBool, MatchOption, slice_index};
 ghost use Rattle.std.specs.Fmt.{signed_decimal};
 ghost use Rattle.std.specs.Str.{all_ascii_digits};
 ghost use Rattle.dam_book.specs.inside.Digits.{value_from, IsShort};
 
-// Each number in a field of a journal is read by one of these: digit by digit, once. A text is taken only if it is the
-// decimal form of its number. So `007`, `+1`, `-0` and the empty text are refused.
+// Each number in a field of a journal is read by one of these: digit by digit, once. `007`, `+1`, `-0` and the empty
+// text are refused.
 
 // The limit of each number that is read has fewer digits.
 const MOST_DIGITS: usize = 9;

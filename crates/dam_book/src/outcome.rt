@@ -1,3 +1,5 @@
+//! The decision on a command. It is made once, and then carried out without a second look-up.
+
 ghost use Rattle.std.specs.Prelude.{◌≡◌, None, Some};
 ghost use Rattle.dam_book.specs.Book.{reply_of};
 

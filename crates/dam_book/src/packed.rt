@@ -1,3 +1,5 @@
+//! Commands and entries in few bytes: only those that need the room for a block's volumes take memory for it.
+
 ghost use Rattle.std.specs.Prelude.{◌≡◌, ◌≢◌, ◌∷◌, [], true, IfOk, IsOk, MatchBool};
 ghost use Rattle.std.specs.Option.{option_copied};
 ghost use Rattle.dam_book.specs.Command.{giver, is_small};

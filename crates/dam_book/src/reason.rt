@@ -1,3 +1,5 @@
+//! The reasons to refuse a command, in their order, and the test of each.
+
 ghost use Rattle.std.specs.Prelude.{◌≡◌, option_map};
 ghost use Rattle.std.specs.Option.{option_copied};
 ghost use Rattle.dam_book.specs.Book.{reason_word, refusal, is_out_of_day, is_name_taken, is_unknown_order, is_wrong_shape, is_unknown_parent, is_parent_hourly, is_hourly_full, is_blocks_full, has_children};

@@ -1,3 +1,5 @@
+//! A pass after its gate has finished: the record that a settlement compares with the journal.
+
 ghost use Rattle.std.specs.Prelude.{◌≡◌};
 ghost use Rattle.dam_gate.specs.Pass.{IsAccount};
 

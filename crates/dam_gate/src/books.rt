@@ -1,3 +1,5 @@
+//! The book of a keeper, and the one before it, which the next step uses again so that it copies none.
+
 ghost use Rattle.std.specs.Prelude.{◌≡◌, ◌++◌, ◌∷◌, [], length, None, Some, IfOk, IsSome};
 ghost use Rattle.std.specs.Arc.{arc_value};
 ghost use Rattle.dam_book.specs.Book.{book_after, refusal};

@@ -1,3 +1,5 @@
+//! The places of each participant's commands among the day's, found in one pass over them.
+
 ghost use Rattle.std.specs.Prelude.{◌≡◌, ◌++◌, ◌∷◌, [], List, replicate, slice_get, false, Some, IfOk, OnOk, IfSome, IfNone};
 ghost use Rattle.dam_book.specs.declared.command.Command.{Command};
 ghost use Rattle.dam_gate.specs.Day.{is_one_of};

@@ -1,3 +1,5 @@
+//! The gate: one lock, under which commands are entered and passes are given, one after another.
+
 ghost use Rattle.std.specs.Prelude.{◌≡◌, true, Some, None, IfOk, IfErr, OnOk, OnErr};
 ghost use Rattle.dam_book.specs.Book.{is_day};
 ghost use Rattle.dam_gate.specs.Journal.{IsJournal};

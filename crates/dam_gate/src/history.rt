@@ -1,3 +1,5 @@
+//! The one history of a gate: one word counts its entries, and all that anybody has seen is a prefix of it.
+
 ghost use Rattle.std.specs.Prelude.{◌≡◌, ◌<◌, ◌^◌, ◌++◌, ◌∷◌, ◌⊎◌, [], true, length, IfSome, OnSome};
 ghost use mathlib.Core.List.{IsPrefix};
 ghost use Rattle.dam_gate.specs.inside.History.{count_of};

@@ -1,3 +1,5 @@
+//! The journal that a gate leaves: a legal history, with the book that it makes.
+
 ghost use Rattle.std.specs.Prelude.{◌≡◌};
 ghost use Rattle.std.specs.Arc.{arc_value};
 ghost use Rattle.dam_gate.specs.Journal.{IsJournal};

@@ -1,3 +1,5 @@
+//! The passes of a gate: each keeps the history that its holder knows, and no look shows less.
+
 ghost use Rattle.std.specs.Prelude.{◌≡◌, ◌<◌, ◌⊎◌, [], true, false, length, IfOk, IfErr, IfSome, OnOk, OnErr, OnSome, IfNone};
 ghost use Rattle.std.specs.Option.{option_copied};
 ghost use mathlib.Core.List.{IsPrefix};

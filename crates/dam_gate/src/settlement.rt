@@ -1,3 +1,5 @@
+//! The settlement of a closed journal: each entry is the receipt of one call, and each receipt is an entry.
+
 ghost use Rattle.std.specs.Prelude.{◌≡◌, true, IfOk, IfErr};
 ghost use Rattle.dam_gate.specs.Settled.{IsMismatch, IsSettled};
 ghost use Rattle.dam_gate.specs.Headline.{IsWholeAccount};

@@ -1,3 +1,5 @@
+//! The receipts of each entry, counted in one pass over the accounts, so that a settlement doesn't search.
+
 ghost use Rattle.std.specs.Prelude.{◌≡◌, ◌<◌, ◌≤◌, ◌^◌, ◌++◌, ◌∷◌, [], ℕ, List, length, IfOk};
 ghost use Rattle.dam_book.specs.Book.{IsLegalHistory};
 ghost use Rattle.dam_book.specs.declared.command.Entry.{Entry};

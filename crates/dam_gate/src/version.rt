@@ -1,3 +1,5 @@
+//! A book with the history that made it, and the slot in which looks find it.
+
 ghost use Rattle.std.specs.Prelude.{◌≡◌, IfOk};
 ghost use Rattle.std.specs.Arc.{arc_value};
 ghost use Rattle.dam_gate.specs.Journal.{IsJournal};

@@ -1,3 +1,5 @@
+//! The plan of a search: its three numbers share out the work, and don't change the result of a finished search.
+
 ghost use Rattle.std.specs.Prelude.{◌≡◌, ◌≤◌, min, SomeIff};
 ghost use Rattle.dam_plan.specs.Limits.{most_cut};
 ghost use Rattle.dam_plan.specs.Plan.{IsPlan};

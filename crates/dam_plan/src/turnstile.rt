@@ -1,3 +1,5 @@
+//! The callbacks round a job's work, through which a caller sees the jobs at work or makes them wait.
+
 /// Callbacks before and after each job's work, on the thread that does it.
 ///
 /// A search calls them round each piece, with the piece's number. A day at a gate calls them round each participant's

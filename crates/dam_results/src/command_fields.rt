@@ -1,3 +1,5 @@
+//! A day or a command, read from nine fields; or the number of the first field that breaks its rule.
+
 ghost use Rattle.std.specs.Prelude.{◌≡◌, ◌≢◌, ◌<◌, [], ◌∷◌, true, false, codes, drop, IfSome, MatchOption, MatchResult};
 ghost use Rattle.dam_book.specs.Period.{IsPeriod};
 ghost use Rattle.dam_book.specs.Quantity.{IsQuantity};

@@ -1,3 +1,5 @@
+//! The reader of journals: it goes once over the records, up to the first fault.
+
 ghost use Rattle.std.specs.Prelude.{◌≡◌, ◌<◌, ◌≤◌, ◌+◌, ◌⊎◌, ℕ, List, [], ◌∷◌, true, length, None, IfOk, IfErr, MatchResult};
 ghost use Rattle.dam_book.specs.Book.{is_day};
 ghost use Rattle.dam_book.specs.declared.command.Command.{Command};

@@ -1,3 +1,5 @@
+//! The writer of journals: a record of the day, and then one of each command.
+
 ghost use Rattle.std.specs.Prelude.{◌≡◌, ◌≤◌, ◌++◌, ◌∷◌, [], ℕ, List, true, length, map, IfOk, OnOk};
 ghost use Rattle.std.specs.Option.{option_copied};
 ghost use Rattle.csv.specs.Writing.{default_writer, row_text};

@@ -1,3 +1,5 @@
+//! The fields of a record by name, so that no reader counts them.
+
 ghost use Rattle.std.specs.Prelude.{◌≡◌, ◌≢◌, length, MatchOption};
 ghost use Rattle.dam_results.specs.inside.Reader.{fields_of};
 ghost use Rattle.dam_results.specs.inside.NineFields.{field_or_empty, fields_in};

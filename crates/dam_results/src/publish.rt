@@ -1,3 +1,5 @@
+//! The step from a selection of blocks to its published results.
+
 ghost use Rattle.std.specs.Prelude.{pos, IfOk};
 ghost use Rattle.dam_blocks.specs.Eligible.{IsEligible};
 ghost use Rattle.dam_results.specs.Published.{ArePublished};

@@ -1,3 +1,5 @@
+//! The published results as data: the welfare, and then a result for each period and for each order.
+
 use dam_book::{Name, Participant, Price};
 use std::alloc::{Allocator, Global};
 

@@ -1,3 +1,5 @@
+//! The text of the replies: a line for the day, and then one for each entry.
+
 ghost use Rattle.std.specs.Prelude.{◌≡◌, ◌++◌, IfOk, OnOk};
 ghost use Rattle.dam_results.specs.Replies.{reply_line};
 ghost use Rattle.dam_results.specs.Replies;
