@@ -2,3 +2,4 @@
 pub mod Reading
 pub mod Shape
 pub mod Synced
+pub mod Writing

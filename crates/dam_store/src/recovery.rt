@@ -1,12 +1,11 @@
 //! Repairs the end of a file, or makes the file whole, by writes after each of which it stands for the same lines.
-ghost use Rattle.std.specs.Prelude.{◌≡◌, ◌⊎◌, ◌+◌, ◌∷◌, ◌<◌, ◌≤◌, [], List, ℕ, false, true, not, None, ◌==◌, ◌-◌, ◌++◌, slice_index, length, take, drop, replicate, IsTrue, IfOk, IfErr, OnOk};
+ghost use Rattle.std.specs.Prelude.{◌≡◌, ◌+◌, ◌∷◌, ◌<◌, ◌≤◌, [], false, true, None, ◌==◌, ◌-◌, ◌++◌, slice_index, length, take, drop, replicate, IsTrue, IfOk, IfErr, OnOk};
 ghost use Rattle.dam_store.specs.Limits.{most_file_bytes};
 ghost use Rattle.dam_store.specs.FileLines.{is_unmade, head_line, lines_in, stands_for, StandsFor};
 ghost use Rattle.dam_store.specs.inside.Shape.{has_newline, IsAtRest};
 ghost use Rattle.dam_store.specs.inside.Synced.{IsSynced, IsReadWhole, IsReadFrom, IsRest, IsRepaired, CrashLeaves};
-ghost use Rattle.dam_store.specs.Faults.{is_failed_sync, is_failed_write, is_failure};
-ghost use Rattle.dam_store.specs.declared.fault.StoreFault.TheVariants.{Memory};
-ghost use Rattle.sqlite_disk.specs.Disk.{MoreFaults};
+ghost use Rattle.dam_store.specs.inside.Writing.{OnlyWrites};
+ghost use Rattle.dam_store.specs.Faults.{is_failed_write};
 
 use crate::disk::write_and_sync;
 use crate::fault::StoreFault;
@@ -53,13 +52,8 @@ fn write_first_mark<D: Disk>(disk: &mut D, bytes: &[u8]) -> Result<(), StoreFaul
     ensures begun { OnOk result (IsTrue (D.Disk.is_clean disk.new)
         → D.Disk.seen disk.new ≡ 45 ∷ drop 1 bytes.now) }
     ensures crash { CrashLeaves D.Disk disk.new (StandsFor []) }
-    ensures clean { D.Disk.is_clean disk.new ≡ D.Disk.is_clean disk.old }
-    ensures faults { OnOk result (D.Disk.faults disk.new ≡ D.Disk.faults disk.old) }
-    ensures failure { IfErr result (λ fault. is_failure fault ≡ true
-        → MoreFaults (D.Disk.faults disk.old) (D.Disk.faults disk.new)) }
+    ensures writes { OnlyWrites D.Disk disk.old disk.new result }
     ensures failed { IfErr result (λ fault. is_failed_write fault ≡ true) }
-    ensures usable { IfErr result
-        (λ fault. D.Disk.is_usable disk.new ≡ not (is_failed_sync fault)) }
 {
     if begins_uncounted_line(bytes) {
         return Ok(());
@@ -76,13 +70,8 @@ fn write_head_line<D: Disk>(disk: &mut D, bytes: &[u8]) -> Result<(), StoreFault
     ensures at_rest { OnOk result (IsTrue (D.Disk.is_clean disk.new)
         → IsAtRest (D.Disk.seen disk.new) (length head_line) []) }
     ensures crash { CrashLeaves D.Disk disk.new (StandsFor []) }
-    ensures clean { D.Disk.is_clean disk.new ≡ D.Disk.is_clean disk.old }
-    ensures faults { OnOk result (D.Disk.faults disk.new ≡ D.Disk.faults disk.old) }
-    ensures failure { IfErr result (λ fault. is_failure fault ≡ true
-        → MoreFaults (D.Disk.faults disk.old) (D.Disk.faults disk.new)) }
+    ensures writes { OnlyWrites D.Disk disk.old disk.new result }
     ensures failed { IfErr result (λ fault. is_failed_write fault ≡ true) }
-    ensures usable { IfErr result
-        (λ fault. D.Disk.is_usable disk.new ≡ not (is_failed_sync fault)) }
 {
     write_first_mark(disk, bytes)?;
     write_and_sync(disk, 1, &AFTER_FIRST)?;
@@ -110,14 +99,7 @@ fn write_blanks<D: Disk>(disk: &mut D, end: usize, rest: &mut Vec<u8>) -> Result
         → lines_in (D.Disk.seen disk.new) ≡ lines_in (D.Disk.seen disk.old)) }
     ensures last { OnOk result (has_newline (drop 1 rest.new.items) ≡ false) }
     ensures crash { CrashLeaves D.Disk disk.new (StandsFor (lines_in (D.Disk.seen disk.old))) }
-    ensures clean { D.Disk.is_clean disk.new ≡ D.Disk.is_clean disk.old }
-    ensures faults { OnOk result (D.Disk.faults disk.new ≡ D.Disk.faults disk.old) }
-    ensures failure { IfErr result (λ fault. is_failure fault ≡ true
-        → MoreFaults (D.Disk.faults disk.old) (D.Disk.faults disk.new)) }
-    ensures failed { IfErr result (λ fault. (is_failed_write fault ≡ true)
-        ⊎ ((fault ≡ Memory) × (disk.new ≡ disk.old))) }
-    ensures usable { IfErr result
-        (λ fault. D.Disk.is_usable disk.new ≡ not (is_failed_sync fault)) }
+    ensures writes { OnlyWrites D.Disk disk.old disk.new result }
 {
     if !has_newline_after(rest, 1) {
         return Ok(());
@@ -135,13 +117,8 @@ fn write_end_mark<D: Disk>(disk: &mut D, end: usize, rest: &[u8]) -> Result<(), 
     ensures at_rest { OnOk result (IsTrue (D.Disk.is_clean disk.new)
         → IsAtRest (D.Disk.seen disk.new) end (lines_in (D.Disk.seen disk.old))) }
     ensures crash { CrashLeaves D.Disk disk.new (StandsFor (lines_in (D.Disk.seen disk.old))) }
-    ensures clean { D.Disk.is_clean disk.new ≡ D.Disk.is_clean disk.old }
-    ensures faults { OnOk result (D.Disk.faults disk.new ≡ D.Disk.faults disk.old) }
-    ensures failure { IfErr result (λ fault. is_failure fault ≡ true
-        → MoreFaults (D.Disk.faults disk.old) (D.Disk.faults disk.new)) }
+    ensures writes { OnlyWrites D.Disk disk.old disk.new result }
     ensures failed { IfErr result (λ fault. is_failed_write fault ≡ true) }
-    ensures usable { IfErr result
-        (λ fault. D.Disk.is_usable disk.new ≡ not (is_failed_sync fault)) }
 {
     if begins_uncounted_line(rest) {
         return Ok(());
@@ -158,14 +135,7 @@ fn tidy_end<D: Disk>(disk: &mut D, end: usize, mut rest: Vec<u8>) -> Result<(), 
         → IsRepaired D.Disk disk.new (D.Disk.seen disk.old) end) }
     ensures crash { CrashLeaves D.Disk disk.new (λ file. stands_for file
         ≡ stands_for (D.Disk.seen disk.old)) }
-    ensures clean { D.Disk.is_clean disk.new ≡ D.Disk.is_clean disk.old }
-    ensures faults { OnOk result (D.Disk.faults disk.new ≡ D.Disk.faults disk.old) }
-    ensures failure { IfErr result (λ fault. is_failure fault ≡ true
-        → MoreFaults (D.Disk.faults disk.old) (D.Disk.faults disk.new)) }
-    ensures failed { IfErr result (λ fault. (is_failed_write fault ≡ true)
-        ⊎ ((fault ≡ Memory) × (disk.new ≡ disk.old))) }
-    ensures usable { IfErr result
-        (λ fault. D.Disk.is_usable disk.new ≡ not (is_failed_sync fault)) }
+    ensures writes { OnlyWrites D.Disk disk.old disk.new result }
 {
     write_blanks(disk, end, &mut rest)?;
     write_end_mark(disk, end, &rest)?;
@@ -185,14 +155,7 @@ pub(crate) fn repair<D: Disk>(
     ensures room { IfOk result (λ end. end < most_file_bytes) }
     ensures crash { CrashLeaves D.Disk disk.new (λ file. stands_for file
         ≡ stands_for (D.Disk.seen disk.old)) }
-    ensures clean { D.Disk.is_clean disk.new ≡ D.Disk.is_clean disk.old }
-    ensures faults { OnOk result (D.Disk.faults disk.new ≡ D.Disk.faults disk.old) }
-    ensures failure { IfErr result (λ fault. is_failure fault ≡ true
-        → MoreFaults (D.Disk.faults disk.old) (D.Disk.faults disk.new)) }
-    ensures failed { IfErr result (λ fault. (is_failed_write fault ≡ true)
-        ⊎ ((fault ≡ Memory) × (disk.new ≡ disk.old))) }
-    ensures usable { IfErr result
-        (λ fault. D.Disk.is_usable disk.new ≡ not (is_failed_sync fault)) }
+    ensures writes { OnlyWrites D.Disk disk.old disk.new result }
 {
     match end {
         Some(end) => {
