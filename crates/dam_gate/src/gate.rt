@@ -146,7 +146,7 @@ impl<J: GateName, R: Wait + Drop> Gate<J, R> {
         requires day { opening.periods ≡ periods }
     {
         Ok(Gate {
-            locked: Mutex::new(Locked::begin(rt, alloc, opening, periods, seed)?),
+            locked: Mutex::new(Locked::for_day(rt, alloc, opening, periods, seed)?),
         })
     }
 

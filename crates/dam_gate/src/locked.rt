@@ -201,7 +201,7 @@ fn extend_history_and_show<J: GateName, R: Wait + Drop>(
 
 impl<J: GateName, R: Wait + Drop> Locked<J, R> {
     /// A day without entries, whose first version is shown.
-    pub(crate) fn begin(
+    pub(crate) fn for_day(
         rt: R,
         alloc: Global,
         opening: Opening,

@@ -19,6 +19,8 @@ pub trait GateName {
     ghost opening: { OpeningState };
 }
 
+// Any opening is sound here: a function that is generic in the name is proved for every opening, and the proof of a
+// caller that passes `Brand` picks the one of its gate.
 impl GateName for Brand {
     ghost opening = { record {
       history = record { number = 0; log_name = 0; cells_name = 0 };
