@@ -1,3 +1,5 @@
+//! Parents are found by their names, and a block descends from those to which the chain of its parents leads.
+
 ghost use Rattle.std.specs.Prelude.{◌≡◌, ◌↔◌, true, false, IsTrue};
 ghost use Rattle.dam_blocks.specs.Problem.{IsParent};
 ghost use Rattle.dam_blocks.specs.Family.{names, parent_place, descends};

@@ -1,3 +1,5 @@
+//! The places of a block's parent and group, found once for a problem, so that no search compares names.
+
 ghost use Rattle.std.specs.Prelude.{◌≡◌, ◌≤◌, length, IfOk};
 ghost use Rattle.dam_book.specs.Limits.{most_blocks};
 ghost use Rattle.dam_blocks.specs.inside.Hindrances.{parent_places, group_places, count_accepted, AreAllHindrances};

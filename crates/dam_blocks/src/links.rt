@@ -1,3 +1,5 @@
+//! The rules of parents and groups: a selection is admissible if each place that it accepts is allowed.
+
 ghost use Rattle.std.specs.Prelude.{◌≡◌, ◌↔◌, true, IsTrue};
 ghost use Rattle.dam_blocks.specs.Selection.{accepts, are_of_one_group, IsAllowed, IsAdmissible};
 

@@ -1,3 +1,5 @@
+//! A closed book as it is cleared: the hourly orders of each period, and the blocks at places from 0.
+
 ghost use Rattle.std.specs.Prelude.{◌≡◌, ◌<◌, ◌≤◌, ◌-◌, ◌↔◌, true, false, length, slice_get, option_map, IfOk, IfSome, IfNone, IsErrOf};
 ghost use Rattle.std.specs.Option.{option_copied};
 ghost use Rattle.dam_book.specs.Terms.{IsBlockOrder};

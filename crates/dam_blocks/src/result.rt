@@ -1,3 +1,5 @@
+//! The order of results, by welfare and then by book order, and the best one by a try of every selection.
+
 ghost use Rattle.std.specs.Prelude.{◌≡◌, ◌⊎◌, ℤ, pos, MatchBool};
 ghost use Rattle.dam_blocks.specs.Selection.{empty_selection};
 ghost use Rattle.dam_blocks.specs.Eligible.{IsEligible};

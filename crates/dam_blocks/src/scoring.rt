@@ -1,3 +1,5 @@
+//! A selection is eligible, with its welfare, or has a first fault: links, then balance, then a loss.
+
 ghost use Rattle.std.specs.Prelude.{◌≡◌, ◌≤◌, length, take, Some, MatchResult, MatchOption};
 ghost use Rattle.dam_book.specs.Limits.{last_period};
 ghost use Rattle.dam_blocks.specs.Eligible.{ArePrices, HasNoLoss, selection_welfare};

@@ -1,3 +1,5 @@
+//! A set of places as the bits of one number.
+
 ghost use Rattle.std.specs.Prelude.{◌≡◌, ◌↔◌, ◌<◌, ◌≤◌, ◌^◌, true, not, IsTrue, length, slice_set};
 ghost use Rattle.dam_book.specs.Limits.{most_blocks};
 ghost use Rattle.dam_blocks.specs.Selection.{accepts, padded, empty_selection, choice, Meets};

@@ -1,3 +1,5 @@
+//! The surplus of a block at the prices of a day, alone and together with its accepted descendants.
+
 ghost use Rattle.std.specs.Prelude.{◌≡◌, ◌≤◌, ◌-ℤ◌, ◌*ℤ◌, ◌≤ℤ◌, pos, neg_ℤ, ◌*◌, length};
 ghost use Rattle.dam_book.specs.Limits.{greatest_volume, last_period, most_blocks};
 ghost use Rattle.dam_hour.specs.Limits.{price_span};

@@ -1,3 +1,5 @@
+//! The prices at which a selection clears, as one sum for each class of periods.
+
 ghost use Rattle.std.specs.Prelude.{◌≡◌, pos, replicate};
 ghost use Rattle.dam_book.specs.Limits.{last_period};
 

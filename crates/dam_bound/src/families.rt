@@ -1,3 +1,5 @@
+//! The descendants and the ancestors of each block as sets of places, so that later steps compare no names.
+
 ghost use Rattle.std.specs.Prelude.{◌≡◌, ◌≤◌, ◌&&◌, ℕ, nat_lt, length, IfOk};
 ghost use Rattle.dam_book.specs.Limits.{most_blocks};
 ghost use Rattle.dam_blocks.specs.Selection.{accepts};

@@ -1,3 +1,5 @@
+//! The hours of a period at each depth, each made from the one before it without one block, with nothing to sort.
+
 ghost use Rattle.std.specs.Prelude.{◌≡◌, ◌≤◌, ◌++◌, List, length, IfOk, MatchOption};
 ghost use Rattle.dam_book.specs.Limits.{most_hourly, most_blocks};
 ghost use Rattle.dam_hour.specs.Execution.{IsHour};

@@ -1,3 +1,5 @@
+//! A bound on a prefix: its undecided blocks may be executed in part, and in each period apart from the others.
+
 ghost use Rattle.std.specs.Prelude.{◌≡◌, ◌<◌, ◌≤◌, ◌++◌, List, Bool, Some, None, length, drop, map, IfOk, IfSome};
 ghost use Rattle.dam_book.specs.Limits.{most_blocks};
 ghost use Rattle.dam_blocks.specs.Problem.{AreBlocks};

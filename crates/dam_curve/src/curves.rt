@@ -1,3 +1,5 @@
+//! All curves stand in one list of segments, and hints say near which segment a look-up begins.
+
 ghost use Rattle.std.specs.Prelude.{◌≡◌, ◌+◌, ◌-◌, ◌*◌, ◌^◌, ◌≤◌, ◌<◌, ℤ, pos, neg_ℤ, ◌≤ℤ◌, ◌<ℤ◌, Some, List, [], length, IsOk, IfOk, OnErr, IfSome, option_map, slice_index_or};
 ghost use Rattle.dam_book.specs.Limits.{last_period};
 ghost use Rattle.dam_hour.specs.Limits.{greatest_price};

@@ -1,3 +1,5 @@
+//! A price counted from the least one, so that it has no sign.
+
 ghost use Rattle.std.specs.Prelude.{◌≡◌, ◌≤◌};
 ghost use Rattle.dam_hour.specs.Limits.{price_span};
 ghost use Rattle.dam_curve.specs.Supply.{height_of};

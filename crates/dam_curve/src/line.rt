@@ -1,3 +1,5 @@
+//! Any prices of periods give a line that their greatest welfare never exceeds.
+
 ghost use Rattle.std.specs.Prelude.{◌≡◌, ◌^◌, pos, neg_ℤ, ◌≤ℤ◌};
 ghost use Rattle.dam_book.specs.Limits.{last_period};
 ghost use Rattle.dam_curve.specs.Line.{line_value, IsSmallLine};

@@ -1,3 +1,5 @@
+//! The ends of a curve: past them some period doesn't balance.
+
 ghost use Rattle.std.specs.Prelude.{◌≡◌, ◌⊎◌, ℤ, ◌≤ℤ◌, ◌<ℤ◌, Some, None, List};
 ghost use Rattle.dam_hour.specs.declared.step.Step.{Step};
 ghost use Rattle.dam_curve.specs.Curve.{CurvesState, IsCurveAt, joint_welfare};

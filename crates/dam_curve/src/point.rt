@@ -1,3 +1,5 @@
+//! The result of a look-up: a welfare, and the clearing prices as one sum.
+
 /// The welfare and the prices that a curve gives at a net volume.
 #[derive(Clone, Copy, PartialEq, Eq, Debug)]
 pub struct Point {

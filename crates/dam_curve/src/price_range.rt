@@ -1,3 +1,5 @@
+//! Prices fall as the net volume rises, so the two ends of a curve bound its prices.
+
 ghost use Rattle.std.specs.Prelude.{ℤ, List};
 ghost use Rattle.dam_book.specs.Limits.{last_period};
 ghost use Rattle.dam_hour.specs.declared.step.Step.{Step};

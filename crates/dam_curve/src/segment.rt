@@ -1,3 +1,5 @@
+//! A straight piece of a curve, with one price along it and one at its greatest net volume.
+
 ghost use Rattle.std.specs.Prelude.{◌≡◌};
 ghost use Rattle.dam_curve.specs.declared.line.Line.{Line};
 ghost use Rattle.dam_curve.specs.inside.Segments.{price_at};

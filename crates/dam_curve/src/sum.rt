@@ -1,3 +1,5 @@
+//! Curves are added one period at a time, by a merge of their segments.
+
 ghost use Rattle.std.specs.Prelude.{◌≡◌, ◌⊎◌, ℕ, ◌+◌, ◌*◌, ◌<◌, ◌≤◌, ◌≤ℤ◌, ◌<ℤ◌, ℤ, pos, Option, List, [], ◌∷◌, length, slice_index_or, OnOk, OnErr};
 ghost use Rattle.dam_book.specs.declared.order.Side.TheVariants.{Buy};
 ghost use Rattle.dam_book.specs.Limits.{last_period, lowest_price, greatest_volume};

@@ -1,3 +1,5 @@
+//! The sells and buys of a period in one order by limit: a buy that isn't served counts as supply.
+
 ghost use Rattle.std.specs.Prelude.{◌≡◌, ◌≤◌, ◌<◌, List, length, IfOk};
 ghost use Rattle.dam_hour.specs.Execution.{IsHour};
 ghost use Rattle.dam_hour.specs.Limits.{most_steps};

@@ -1,3 +1,5 @@
+//! The engine of `dam clear`, from a reader to a writer.
+
 ghost use Rattle.std.specs.Prelude.{◌≡◌, ◌≤◌, ◌+◌, ◌-◌, ◌↔◌, ℕ, List, false, IfOk, IfErr, IfSome, IsErrOf};
 ghost use Rattle.dam_book.specs.Book.{run};
 ghost use Rattle.dam_book.specs.declared.command.Command.{Command};

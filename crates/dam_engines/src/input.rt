@@ -1,3 +1,5 @@
+//! At most one byte more than a journal may have is read, which shows that it has too many.
+
 ghost use Rattle.std.specs.Prelude.{◌≡◌, ◌≤◌, ◌+◌, false, take, IfOk, IfErr, IfSome, MatchResult};
 ghost use Rattle.dam_engines.specs.Device.{HasServed, IsReaderAfter, most_asked};
 ghost use Rattle.dam_engines.specs.Engine.{most_read};

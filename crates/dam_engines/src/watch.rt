@@ -1,3 +1,5 @@
+//! Calls at the stages of a run, for a caller that shows its progress.
+
 use dam_search::{FreeTurn, Turnstile};
 
 /// A turnstile that is also called with the number of refused commands, and when a search begins and when it ends.

@@ -1,3 +1,5 @@
+//! The last buy that is served, found by bisection, gives both ends of the supporting prices.
+
 ghost use Rattle.std.specs.Prelude.{◌≡◌, ◌≤◌, ◌*◌, ◌↔◌, pos, ◌+ℤ◌, ◌-ℤ◌, IsTrue};
 ghost use Rattle.std.specs.Int.{int_div_euclid, int_min, int_max};
 ghost use Rattle.dam_book.specs.Limits.{greatest_volume};

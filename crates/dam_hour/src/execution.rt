@@ -1,3 +1,5 @@
+//! The steps at the price execute the volume that the better ones leave, in book order.
+
 ghost use Rattle.std.specs.Prelude.{◌≡◌, ◌-◌, IfOk};
 ghost use Rattle.dam_book.specs.declared.order.Side.TheVariants.{Buy, Sell};
 ghost use Rattle.dam_hour.specs.inside.Volumes.{at_part, total_on, fill};

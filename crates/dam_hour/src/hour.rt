@@ -1,3 +1,5 @@
+//! The steps of a period, sorted once, so that each net volume is cleared by bisection.
+
 ghost use Rattle.std.specs.Prelude.{◌≡◌, ◌≤◌, ◌<◌, ◌-◌, ◌+◌, ◌*◌, ◌-ℤ◌, take, pos, ◌*ℤ◌, ◌+ℤ◌, ℕ, ℤ, List, length, slice_get, IfOk, IfSome, IfNone, MatchOption, IsTrue, ◌↔◌, [], None};
 ghost use Rattle.std.specs.List.{remove};
 ghost use Rattle.std.specs.Option.{option_map};

@@ -1,3 +1,5 @@
+//! An hourly order as its side, limit and volume, and its execution at a price.
+
 ghost use Rattle.std.specs.Prelude.{◌≡◌, ◌≤◌, pos, neg_ℤ, ◌*ℤ◌, ◌≤ℤ◌};
 ghost use Rattle.dam_book.specs.Limits.{greatest_volume};
 ghost use Rattle.dam_book.specs.Price.{IsPrice};

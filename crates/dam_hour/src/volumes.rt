@@ -1,3 +1,5 @@
+//! The volumes that each side may execute at a price, and the surplus there, from the sums of the better steps.
+
 ghost use Rattle.std.specs.Prelude.{◌≡◌, ◌+◌, ◌*◌, ◌≤◌, pos, neg_ℤ, ◌*ℤ◌, ◌≤ℤ◌};
 ghost use Rattle.dam_book.specs.Limits.{greatest_volume};
 ghost use Rattle.dam_hour.specs.Limits.{most_steps, price_span, greatest_price};

@@ -1,3 +1,5 @@
+//! An answer about a piece may leave out selections with less welfare than some incumbent that was read.
+
 ghost use Rattle.std.specs.Prelude.{◌≡◌, None, true};
 
 use dam_blocks::Solution;

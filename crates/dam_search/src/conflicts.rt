@@ -1,3 +1,5 @@
+//! For each block the blocks that it needs or excludes, as sets, so that a walk asks for them at every node.
+
 ghost use Rattle.std.specs.Prelude.{◌≡◌, ◌<◌, ◌≤◌, ℤ, true, false, List, Bool, length};
 ghost use Rattle.dam_book.specs.Limits.{most_blocks};
 ghost use Rattle.dam_blocks.specs.Problem.{ProblemState};

@@ -1,3 +1,5 @@
+//! Why a search has no result: no memory, a piece without just one answer, or a piece that is unfinished.
+
 use dam_plan::Nodes;
 use std::alloc::AllocError;
 use thiserror::Error;

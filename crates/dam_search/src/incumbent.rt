@@ -1,3 +1,5 @@
+//! The greatest welfare known, by which pieces are pruned: one worker's own, or one that workers share.
+
 ghost use Rattle.std.specs.Prelude.{◌≡◌, ◌≤◌, ℕ, max};
 
 /// The greatest welfare known to a search, by which its pieces are pruned: a node whose bound is less than the value

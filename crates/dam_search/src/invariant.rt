@@ -1,3 +1,5 @@
+//! A call that computes nothing, and gives proofs the invariant of a problem.
+
 ghost use Rattle.dam_blocks.specs.Problem.{IsProblem};
 
 use dam_blocks::Problem;

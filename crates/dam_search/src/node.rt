@@ -1,3 +1,5 @@
+//! Decisions on blocks in any order, and a bound that each of them keeps, or lowers by the size of the block's gain.
+
 ghost use Rattle.std.specs.Prelude.{◌≡◌, ◌<◌, pos, ◌≤ℤ◌, not, All};
 ghost use Rattle.dam_book.specs.Limits.{most_blocks};
 ghost use Rattle.dam_bound.specs.Prices.{greatest_priced_gain};

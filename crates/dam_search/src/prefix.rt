@@ -1,3 +1,5 @@
+//! Decisions on the first blocks, in book order, as a walk with a limit on nodes makes them.
+
 ghost use Rattle.std.specs.Prelude.{◌≡◌, ◌^◌, ◌+◌, ◌-◌, ◌<◌, ◌≤◌, false};
 ghost use Rattle.std.specs.Prelude.{List, Bool, [], ◌∷◌, ◌++◌, length, take, IsTrue, ◌↔◌};
 ghost use Rattle.dam_book.specs.Limits.{most_blocks};

@@ -1,3 +1,5 @@
+//! The walk by relaxed welfares, with which a search walks a piece if its limit on nodes can bind.
+
 ghost use Rattle.std.specs.Prelude.{◌≡◌, ◌⊎◌, ◌-◌, ◌^◌, ◌<◌, ◌≤◌, max, true, false, Some, length, MatchOption};
 ghost use Rattle.dam_blocks.specs.Selection.{choice};
 ghost use Rattle.dam_bound.specs.Relaxed.{without_rows, relaxed_welfare, reaches};

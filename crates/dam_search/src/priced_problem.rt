@@ -1,3 +1,5 @@
+//! A walk finds no prices itself: it asks a problem for them, for welfares and for losses.
+
 ghost use Rattle.std.specs.Prelude.{◌≡◌, ◌<◌, ◌≤ℤ◌, ◌<ℤ◌, ◌↔◌, ℤ, List, Bool, Some, None, true, false, length, All, IfSome};
 ghost use Rattle.dam_book.specs.Limits.{most_blocks};
 ghost use Rattle.dam_blocks.specs.Problem.{ProblemState};

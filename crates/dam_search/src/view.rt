@@ -1,3 +1,5 @@
+//! The numbers that the rule of the words knows of a seat. They exist only in proofs.
+
 ghost use Rattle.std.specs.Prelude.{ℕ, List};
 ghost use Rattle.std.specs.Borrow.{ftrue};
 

@@ -1,3 +1,5 @@
+//! The best selection, the greatest value read and the count of visits, which both walks keep as they go on.
+
 ghost use Rattle.std.specs.Prelude.{◌≡◌, pos, Some, IsTrue, ◌↔◌, ◌≤ℤ◌, MatchBool};
 ghost use Rattle.dam_search.specs.Piece.{IsMatched, Rises};
 

@@ -1,3 +1,5 @@
+//! One worker's loop: it draws a piece, walks it and keeps the answer, until no piece is left.
+
 ghost use Rattle.std.specs.Prelude.{◌≡◌, ◌^◌, IfOk, IfErr};
 ghost use Rattle.dam_search.specs.Answer.{greatest_found};
 ghost use Rattle.dam_search.specs.inside.Work.{IsFresh, AreAnswersOf};

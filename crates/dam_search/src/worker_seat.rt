@@ -1,3 +1,5 @@
+//! Each step of a worker on the shared words is one atomic operation, for which its view accounts.
+
 ghost use Rattle.std.specs.Prelude.{◌≡◌, ◌<◌, ◌≤◌, length, [], ◌∷◌, ◌++◌, None, IfSome};
 ghost use Rattle.atomic_table.specs.Seated.{TableId};
 ghost use Rattle.dam_search.specs.declared.view.View.{View};
