@@ -17,7 +17,8 @@ use std::sync::Wait;
 use std::thread;
 use std::thread::Threads;
 
-/// Enters the commands at these places in their order, up to the first that is refused.
+/// Enters the commands at these places in their order, up to the first that is refused. The fault of that call isn't
+/// kept: a day has only one for it, `DayFault::Memory`, which says why.
 fn enter_commands<J: GateName, H: Wait + Drop>(
     rt: &impl Wait,
     gate: &Gate<J, H>,
