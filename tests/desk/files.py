@@ -255,10 +255,12 @@ class FileTests:
         lines = [[], ["a", "b"], ["a", "--journal"], ["--journal"], ["--journal", "a", "b"], ["--journal"] * 3, ["--other"], ["-h"], ["-"],
                  ["--help", "a"], ["a", ""], ["", "a"], ["--journal", "a", ""], ["", "--help"], [NO_TEXT],
                  ["--journal", NO_TEXT]]  # fmt: skip
+        complete = [["a"], ["--journal", "a"], ["--help"]]
+        lines += [[*words, *["extra"] * count] for words in complete for count in (1, 2, 1_000)]
         for word in ("A" * length for length in LONG_WORDS):
             lines += [["-" + word], ["--" + word], [word, "a"], ["a", word], ["--journal", word, "a"], ["--journal=" + word]]
         for words in lines:
-            folder, about = self.desk.make_folder(), f"the words {[word[:20] for word in words]} of {[*map(len, words)]} letters"
+            folder, about = self.desk.make_folder(), f"the words {[word[:20] for word in words][:4]} of {[*map(len, words)][:4]} letters, {len(words)} in all"
             self.check_run(about, self.run_on_text(words, cwd=folder), 2, b"", b"command line\n" + HELP)
             self.counts.check(f"{about} make no file", not list(folder.iterdir()))
         for words, length in itertools.product(([], ["--journal"]), LONG_WORDS):
