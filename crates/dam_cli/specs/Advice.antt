@@ -111,8 +111,8 @@ first_file is_number (word ∷ words) =
     else if is_option word then first_file (not (has_number word)) words
     else Some word
 
--- the quote on each side of a file's name, with which a shell takes it for one word. A name has it if it is empty or has a
--- blank, unless it has such a quote itself. The bytes of a blank and of the quote are 32 and 39
+-- the quote on each side of a file's name. A name has it if it is empty or has a blank, unless it has such a quote
+-- itself. No other character that a shell reads calls for it. The bytes of a blank and of the quote are 32 and 39
 abbrev pub quote_of : List ℕ → List ℕ
 quote_of name =
     if (length name == 0 || list_any (λ byte. byte == 32) name)

@@ -215,7 +215,8 @@ fn has_number(word: &str) -> bool
     word.as_bytes().contains(&b'=')
 }
 
-/// The quote that a file's name needs on each side, so that a shell takes it for one word.
+/// The quote that is printed on each side of a file's name: `'` for an empty name and for one with a space, unless it
+/// has a `'` itself. No other character that a shell reads, such as `&`, calls for it.
 pub fn quote_of(file: &str) -> &'static str
     ensures { result.now ≡ quote_of file.now }
 {
