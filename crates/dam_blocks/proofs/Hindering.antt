@@ -175,7 +175,7 @@ counted_group g bs sel = counted g bs 0 sel sel (from_first sel)
 
 -- ---- their effect
 pub allowed_by : (blocks : List Block) (sel : List Bool) (i : ℕ) (own : Hindrances) (parents group : List ℕ) → AreHindrances blocks i own
-    → parents ≡ own.parents.items → group ≡ own.group.items → count_accepted sel parents ≡ length parents
+    → parents ≡ own.parent_places.items → group ≡ own.group_places.items → count_accepted sel parents ≡ length parents
     → count_accepted sel group ≤ most_of_group → IsAllowed blocks sel i
 allowed_by blocks sel i own parents group is e f all few =
     let counts = counted_group is.block blocks sel in
@@ -191,7 +191,7 @@ allowed_by blocks sel i own parents group is e f all few =
     }
 
 pub parents_accepted : (blocks : List Block) (sel : List Bool) (i : ℕ) (own : Hindrances) (parents : List ℕ) → AreHindrances blocks i own
-    → parents ≡ own.parents.items → IsAllowed blocks sel i → count_accepted sel parents ≡ length parents
+    → parents ≡ own.parent_places.items → IsAllowed blocks sel i → count_accepted sel parents ≡ length parents
 parents_accepted blocks sel i own parents is e allowed =
     let stands = is.stands in let here = allowed.stands in
     let same : is.block ≡ allowed.block = cc in
@@ -201,7 +201,7 @@ parents_accepted blocks sel i own parents is e allowed =
     ∙ allowed.parent j other at (subst (λ (b : Block). IsParent other b) same ((named other is.block).0 n))))
 
 pub group_within : (blocks : List Block) (sel : List Bool) (i : ℕ) (own : Hindrances) (group : List ℕ) → AreHindrances blocks i own
-    → group ≡ own.group.items → IsAllowed blocks sel i → count_accepted sel group ≤ most_of_group
+    → group ≡ own.group_places.items → IsAllowed blocks sel i → count_accepted sel group ≤ most_of_group
 group_within blocks sel i own group is f allowed =
     let stands = is.stands in let here = allowed.stands in
     let same : allowed.block ≡ is.block = cc in

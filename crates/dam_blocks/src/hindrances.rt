@@ -16,10 +16,10 @@ use std::alloc::{AllocError, Allocator};
 #[derive(Drop)]
 pub(crate) struct Hindrances {
     /// Its parent, if it has one, which hinders it while rejected.
-    pub(crate) parents: ArrayVec<u8, MOST_BLOCKS>,
+    pub(crate) parent_places: ArrayVec<u8, MOST_BLOCKS>,
     /// The blocks of its group, itself among them, if it has one. They hinder it while too many of them are
     /// accepted.
-    pub(crate) group: ArrayVec<u8, MOST_BLOCKS>,
+    pub(crate) group_places: ArrayVec<u8, MOST_BLOCKS>,
 }
 
 /// The place of the block's parent, if it has one.
@@ -63,7 +63,10 @@ pub(crate) fn all_hindrances<A: Allocator>(
         let block = &blocks[place];
         let parents = parent_places(blocks, block);
         let group = group_places(blocks, block);
-        all.push(Hindrances { parents, group })?;
+        all.push(Hindrances {
+            parent_places: parents,
+            group_places: group,
+        })?;
     }
     Ok(all)
 }

@@ -32,8 +32,8 @@ pub fn is_allowed<A: Allocator>(problem: &Problem<A>, selection: Selection, plac
     let Some(hindrances) = problem.hindrances_at(place) else {
         return false;
     };
-    let parents = hindrances.parents.as_slice();
-    let group = hindrances.group.as_slice();
+    let parents = hindrances.parent_places.as_slice();
+    let group = hindrances.group_places.as_slice();
     count_accepted(selection, parents) == parents.len()
         && count_accepted(selection, group) <= MOST_OF_GROUP
 }

@@ -27,8 +27,8 @@ count_accepted selection (j ∷ places) =
 
 -- the hindrances of the block
 pub record AreHindrancesOf (block : Block) (blocks : List Block) (own : Hindrances) : Type 0 where
-  pub parents : own.parents.items ≡ parent_places block blocks
-  pub group : own.group.items ≡ group_places block blocks
+  pub parents : own.parent_places.items ≡ parent_places block blocks
+  pub group : own.group_places.items ≡ group_places block blocks
 
 -- the hindrances of the block at place i
 pub record AreHindrances (blocks : List Block) (i : ℕ) (own : Hindrances) : Type 0 where

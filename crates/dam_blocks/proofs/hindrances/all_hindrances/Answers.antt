@@ -11,7 +11,7 @@ pub loop-place-preserved : goal.loop-place-preserved
 loop-place-preserved g c =
     let blocks = c.args.blocks.now in let before = c.loop-place.all.items in let place = c.loop-place.place in
     let block = c.index-blocks-place.result in
-    let own : Hindrances = record { parents = c.parent_places-parents.result; group = c.group_places-group.result } in
+    let own : Hindrances = record { parent_places = c.parent_places-parents.result; group_places = c.group_places-group.result } in
     let is : c.push.new.self.items ≡ before ++ own ∷ [] = c.in_ok-push.ensures.items in
     let many = c.loop-place.invariant.as_many in
     let here : AreHindrances blocks place own = record {
