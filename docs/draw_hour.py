@@ -13,7 +13,7 @@ sys.path.insert(0, str(TOP / "tools"))
 from lib.base import text
 from lib.journal import book, journal
 from lib.results import selection
-from lib.tool import command, modules
+from lib.tool import exits, modules
 
 JOURNAL, HOUR = TOP / "examples/guide/1-hour.csv", 8
 
@@ -83,4 +83,4 @@ def main():
 
 
 if __name__ == "__main__":
-    command.run_and_exit("draw_hour.py", main)
+    exits.run_and_exit("draw_hour.py", main)

@@ -17,7 +17,7 @@ from draw_bound import read_sunny_day
 from lib.audit import recursive_enumeration
 from lib.base import rules, text
 from lib.results import selection
-from lib.tool import command, modules
+from lib.tool import exits, modules
 
 BLOCK = "COAL", "UNIT-7"
 LEFT = 0.6  # where the bars of the selections begin, so that one selection is seen
@@ -188,4 +188,4 @@ def main():
 
 
 if __name__ == "__main__":
-    command.run_and_exit("draw_trust.py", main)
+    exits.run_and_exit("draw_trust.py", main)

@@ -9,7 +9,7 @@ import subprocess
 from pathlib import Path
 
 from lib.crates.specs import Repository
-from lib.tool import command
+from lib.tool import exits
 
 from . import navigation, pages
 from .definitions import Definitions, capture_list
@@ -36,7 +36,7 @@ def require_packages():
     """Ends the tool if a package is missing."""
     if lacking := missing_packages():
         words = f"it needs {' and '.join(lacking)}, which Debian has: apt-get install {' '.join(lacking)}"
-        raise command.Stop(words, command.FAILED)
+        raise exits.Stop(words, exits.FAILED)
 
 
 def is_page(name):
@@ -61,7 +61,7 @@ def write_text(path, text):
 def write_staged_pages(own, drawn, folder):
     """Writes the pages as mkdocs takes them. Returns the navigation."""
     if wrong := navigation.faults_of_pages(own):
-        raise command.Stop("; ".join(wrong))
+        raise exits.Stop("; ".join(wrong))
     known = Definitions(TOP, Repository(TOP), capture_list(TOP))
     own = {**own, navigation.NOTATION: known.notation_page_text()}
     below = {f"{navigation.DEFINITIONS}/{crate}.md" for crate in known.modules}
@@ -88,7 +88,7 @@ def run_mkdocs_and_write_site(own, drawn, room):
     line = ["mkdocs", "build", "--quiet", "--config-file", room / "mkdocs.yml"]
     ran = subprocess.run(line, env={**kept, "LC_ALL": "C.UTF-8", "TZ": "UTC", "SOURCE_DATE_EPOCH": "0"}, capture_output=True)
     if ran.returncode:
-        raise command.Stop(f"mkdocs failed: {(ran.stderr + ran.stdout).decode(errors='replace').strip()}", command.FAILED)
+        raise exits.Stop(f"mkdocs failed: {(ran.stderr + ran.stdout).decode(errors='replace').strip()}", exits.FAILED)
     write_index_and_remove_unneeded(made)
     return made
 
@@ -111,7 +111,7 @@ def write_index_and_remove_unneeded(made):
 def refuse_other_files(folder):
     """Ends the tool if a folder has files, and they are no site of its own."""
     if folder.exists() and not (folder / INDEX).is_file() and (not folder.is_dir() or any(folder.iterdir())):
-        raise command.Stop(f"{command.shown(folder)} has other files: name a folder that is empty or missing")
+        raise exits.Stop(f"{exits.shown(folder)} has other files: name a folder that is empty or missing")
 
 
 def replace_folder(made, folder):
@@ -122,4 +122,4 @@ def replace_folder(made, folder):
         folder.parent.mkdir(parents=True, exist_ok=True)
         shutil.copytree(made, folder)
     except OSError as fault:
-        raise command.Stop(f"{command.shown(folder)} can't be written: {fault.strerror}") from None
+        raise exits.Stop(f"{exits.shown(folder)} can't be written: {fault.strerror}") from None

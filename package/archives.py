@@ -16,7 +16,7 @@ import zlib
 from typing import NamedTuple
 
 from lib.base import text
-from lib.tool import command, file_io
+from lib.tool import exits, file_io
 
 from . import clone as made_of
 from .tree import PROVENANCE
@@ -46,7 +46,7 @@ def capture_output(line, folder=None, seconds=0):
     """The output of a command."""
     ran = subprocess.run(line, cwd=folder, env=made_of.environment_at(seconds), capture_output=True)
     if ran.returncode:
-        raise command.Stop(f"{line[0]} failed: {ran.stderr.decode(errors='replace').strip()}", command.FAILED)
+        raise exits.Stop(f"{line[0]} failed: {ran.stderr.decode(errors='replace').strip()}", exits.FAILED)
     return ran.stdout
 
 
@@ -131,7 +131,7 @@ def write_plain_archive(tree, clone, target):
 def refuse_large(path, size):
     """Ends the tool if an archive unpacks to more than any package of dam."""
     if size > file_io.MOST_BYTES:
-        raise command.Stop(f"{command.shown(path)} isn't a package of dam: it unpacks to more than {file_io.MOST_BYTES:,} bytes")
+        raise exits.Stop(f"{exits.shown(path)} isn't a package of dam: it unpacks to more than {file_io.MOST_BYTES:,} bytes")
 
 
 def read_or_refuse_large(path, file):
@@ -205,7 +205,7 @@ def read_package_or_stop(path):
             return {**parse_entries(path, told, "", CONTROL), **parse_entries(path, files, "usr")}
         return parse_entries(path, decompress_or_refuse_large(path, data))
     except (OSError, tarfile.TarError, EOFError, ValueError, lzma.LZMAError, zlib.error):
-        raise command.Stop(f"{command.shown(path)} isn't a package of dam: it is neither a Debian package nor a tar archive") from None
+        raise exits.Stop(f"{exits.shown(path)} isn't a package of dam: it is neither a Debian package nor a tar archive") from None
 
 
 def parse_provenance_or_stop(path, files):
@@ -216,7 +216,7 @@ def parse_provenance_or_stop(path, files):
             raise ValueError
         return {**found, "commit": str(found["commit"]), "check": found["check"]}
     except (KeyError, ValueError, TypeError, RecursionError):
-        raise command.Stop(f"{command.shown(path)} isn't a package of dam: it has no {PROVENANCE}") from None
+        raise exits.Stop(f"{exits.shown(path)} isn't a package of dam: it has no {PROVENANCE}") from None
 
 
 def is_nested_too_deep(value):
@@ -241,7 +241,7 @@ def differing_entries(there, here):
 def differences(there, here):
     """What differs between two packages: a line for each file. Names and words of the one that is given may be anything."""
     for it in sorted({*there, *here}):
-        ours, theirs, name = here.get(it), there.get(it), text.safe(it, command.LONGEST_PATH)
+        ours, theirs, name = here.get(it), there.get(it), text.safe(it, exits.LONGEST_PATH)
         if ours is None:
             yield f"{name} is not made here"
         elif theirs is None:
@@ -258,7 +258,7 @@ def differences(there, here):
 
 def read_and_compare(path, made):
     """Compares a package with one that was made here. Returns the lines to print, and whether they are the same."""
-    name = text.safe(path.name, command.LONGEST_PATH)
+    name = text.safe(path.name, exits.LONGEST_PATH)
     if file_io.read_bytes(path) == made.read_bytes():
         return [f"{name}: the same, byte for byte"], True
     found = list(differences(read_package_or_stop(path), read_package_or_stop(made)))

@@ -9,7 +9,7 @@ import subprocess
 from pathlib import Path
 
 from lib.crates import sources
-from lib.tool import command
+from lib.tool import exits
 from lib.base.rules import VERSION
 from manual import site
 
@@ -45,7 +45,7 @@ def run_git(*words):
     """The output of git."""
     ran = subprocess.run(["git", *words], cwd=TOP, capture_output=True)
     if ran.returncode:
-        raise command.Stop(f"git {words[0]} failed: {ran.stderr.decode(errors='replace').strip()}")
+        raise exits.Stop(f"git {words[0]} failed: {ran.stderr.decode(errors='replace').strip()}")
     return ran.stdout.decode(errors="surrogateescape")
 
 
@@ -73,7 +73,7 @@ def refuse_changes():
     changed = [line[3:] for line in lines if not line.startswith("??") or re.match(r"crates/.*/(src|specs|proofs)/", line[3:].strip('"'))]
     if changed:
         more = f" and {len(changed) - SHOWN} more" if len(changed) > SHOWN else ""
-        raise command.Stop(f"the clone has changes: commit or remove {', '.join(changed[:SHOWN])}{more}")
+        raise exits.Stop(f"the clone has changes: commit or remove {', '.join(changed[:SHOWN])}{more}")
 
 
 def require_present_builds():
@@ -81,7 +81,7 @@ def require_present_builds():
     for name, crate in BUILT.items():
         fault = sources.read_stale_words_or_none(TOP / name, crate)
         if fault:
-            raise command.Stop(f"{fault}: run {MADE_BY[name]}")
+            raise exits.Stop(f"{fault}: run {MADE_BY[name]}")
 
 
 def read_totals_or_raise(path):
@@ -104,9 +104,9 @@ def read_totals_or_stop(path, commit):
     try:
         totals, of = read_totals_or_raise(path)
     except NOT_TOTALS:
-        raise command.Stop(f"{command.shown(path)} isn't what ./check writes to out/check.json") from None
+        raise exits.Stop(f"{exits.shown(path)} isn't what ./check writes to out/check.json") from None
     if of != commit:
-        raise command.Stop(f"{command.shown(path)} is of {'changed files' if of is None else f'commit {of}'}, and this clone of {commit}")
+        raise exits.Stop(f"{exits.shown(path)} is of {'changed files' if of is None else f'commit {of}'}, and this clone of {commit}")
     return totals
 
 
@@ -115,7 +115,7 @@ def require_commands():
     for name, debian in NEEDED.items():
         if not shutil.which(name):
             words = f"it needs {name}, which Debian has in the package {debian}: apt-get install {debian}"
-            raise command.Stop(words, command.FAILED)
+            raise exits.Stop(words, exits.FAILED)
     site.require_packages()
 
 

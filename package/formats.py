@@ -4,7 +4,7 @@ import re
 import subprocess
 
 from lib.base.place import with_installed_commands
-from lib.tool import command
+from lib.tool import exits
 from manual import pages
 
 from .clone import TOP, environment_at
@@ -54,7 +54,7 @@ def capture_man_page(name, version):
     text = f"# {name}\n\n# NAME\n\n{name} - {about}\n\n# DESCRIPTION\n\n{read_page_for_man(source)}\n# SEE ALSO\n\n{see}\n\n{MANUAL}\n"
     ran = subprocess.run(["go-md2man"], input=text.encode(), capture_output=True, env=environment_at())
     if ran.returncode:
-        raise command.Stop(f"go-md2man failed: {ran.stderr.decode(errors='replace')}", command.FAILED)
+        raise exits.Stop(f"go-md2man failed: {ran.stderr.decode(errors='replace')}", exits.FAILED)
     head = f'.TH {name.upper()} 5 "" "dam {version}" "Formats of dam"'
     return re.sub(r"^\.TH .*$", lambda _: head, ran.stdout.decode(), count=1, flags=re.MULTILINE).encode()
 

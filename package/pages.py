@@ -5,7 +5,7 @@ import re
 import subprocess
 import textwrap
 
-from lib.tool import command
+from lib.tool import exits
 from lib.base.place import TOOLS
 
 from . import formats, shells
@@ -48,7 +48,7 @@ def capture_help(bin_folder, words):
     """The help of a command, which is given with its words."""
     ran = subprocess.run([bin_folder / words[0], *words[1:], "--help"], capture_output=True, env=environment_at())
     if ran.returncode:
-        raise command.Stop(f"{' '.join(words)} --help failed: {ran.stderr.decode(errors='replace')}", command.FAILED)
+        raise exits.Stop(f"{' '.join(words)} --help failed: {ran.stderr.decode(errors='replace')}", exits.FAILED)
     return ran.stdout.decode()
 
 
@@ -155,7 +155,7 @@ def write_help_and_capture_man_page(words, helps, clone, room):
     line = ["help2man", "--no-info", "--section=1", f"--version-string={clone.version}", f"--name={about}", f"--include={more.name}"]
     ran = subprocess.run([*line, f"./{name}"], cwd=room, capture_output=True, env=environment_at(clone.seconds))
     if ran.returncode:
-        raise command.Stop(f"help2man failed: {ran.stderr.decode(errors='replace')}", command.FAILED)
+        raise exits.Stop(f"help2man failed: {ran.stderr.decode(errors='replace')}", exits.FAILED)
     return ran.stdout
 
 

@@ -32,7 +32,7 @@ from lib.audit import day_audit, recursive_enumeration
 from lib.journal import book, journal
 from lib.results import results, selection
 from lib.sheets import kinds
-from lib.tool import command
+from lib.tool import exits
 from shared import days
 from shared.arguments import parser_of_cases
 from shared.counts import Counts
@@ -40,7 +40,7 @@ from shared.counts import Counts
 MOST_BLOCKS = 6
 # The bytes that somebody who doctors a text, or a broken program, would put there.
 INTERESTING = b"0123456789,-\n\r\" ;ABKacejr\x00\xff"
-RIGHT, WRONG, UNREAD, ENCODING = command.DONE, command.DIFFERS, command.NO_INPUT, command.ENCODING
+RIGHT, WRONG, UNREAD, ENCODING = exits.DONE, exits.DIFFERS, exits.NO_INPUT, exits.ENCODING
 
 
 def parse_arguments():
@@ -103,7 +103,7 @@ def write_and_audit(folder, data, text):
     try:
         with contextlib.redirect_stderr(io.StringIO()):
             audit.read_inputs_and_check_or_stop()
-    except command.Stop as stop:
+    except exits.Stop as stop:
         return stop.status, audit.found.record(stop.status, str(stop))
     return audit.found.status, audit.found.record(audit.found.status)
 

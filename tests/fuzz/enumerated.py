@@ -25,7 +25,7 @@ from shared.counts import Counts
 from lib.audit import better
 from lib.journal import book, journal
 from lib.results import check, results, selection
-from lib.tool import command, modules
+from lib.tool import exits, modules
 from lib.base.progress import Progress
 
 BENCH = Path(__file__).resolve().parents[2] / "bench"
@@ -149,4 +149,4 @@ def main():
     return counts.print_totals_and_return_status()
 
 
-command.run_and_exit("fuzz", main)
+exits.run_and_exit("fuzz", main)

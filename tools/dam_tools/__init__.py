@@ -55,7 +55,7 @@ from .lib.audit import day_audit
 from .lib.journal import book, journal
 from .lib.runs import by_library, by_program, engine, which
 from .lib.sheets import day_tables, order_table, table_operations
-from .lib.tool import command, modules
+from .lib.tool import exits, modules
 from .lib.tool.day_files import Day
 from .lib.runs.errors import Fault, TimedOut
 from .lib.runs.which import find_engine_or_none as where
@@ -110,7 +110,7 @@ def journal_of_orders(*sources: Source, periods: int = 24, close: bool = True) -
     """The journal of tables of orders, as tools/table --journal makes it of names in capitals. Each is a file (CSV or an Excel workbook) or
     bytes."""
     with turning_into_faults():
-        named = [("" if is_text(source) else command.shown(source), read_source_bytes(source)) for source in sources]
+        named = [("" if is_text(source) else exits.shown(source), read_source_bytes(source)) for source in sources]
         orders = order_table.parse_tables(named, periods)
         made = TableJournal(*order_table.journal_of(orders, periods, close))
         made.notes = orders.notes

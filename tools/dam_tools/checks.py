@@ -14,7 +14,7 @@ from .lib.lint import lint as lint_of
 from .lib.results import selection
 from .lib.runs.errors import Fault
 from .lib.sheets import table_operations
-from .lib.tool import command, linted, modules
+from .lib.tool import exits, linted, modules
 from .lib.tool.day_files import Day
 from .lib.whatif import changes, limits, whatif
 
@@ -154,7 +154,7 @@ class Audited(day_audit.Audit):
         by_highs = self.options.by == better.HIGHS
         module = "scipy" if by_highs else "numpy"
         if (by_highs or len(problem.blocks) > recursive_enumeration.ENUMERABLE) and not modules.has_module(module):
-            raise command.Stop(modules.missing_message(module), command.FAILED)
+            raise exits.Stop(modules.missing_message(module), exits.FAILED)
         return super().search_for_better_and_note(problem, published)
 
 
@@ -183,8 +183,8 @@ def audit(
     message, status = None, None
     try:
         made.read_inputs_and_check_or_stop()
-    except command.Stop as stop:
-        if stop.status != command.UNDECIDED:
+    except exits.Stop as stop:
+        if stop.status != exits.UNDECIDED:
             raise Fault(str(stop)) from None
         message, status = str(stop), stop.status
     told = made.found.record(made.found.status if status is None else status, message)

@@ -11,7 +11,7 @@ from .lib.journal import journal
 from .lib.journal.journal import Journal
 from .lib.runs.errors import Fault
 from .lib.sheets import order_table, table_operations
-from .lib.tool import command, day_files, file_io
+from .lib.tool import day_files, exits, file_io
 
 REFUSED = 1  # the program's status for a text that it doesn't take
 Source = str | os.PathLike[str] | bytes
@@ -23,7 +23,7 @@ def turning_into_faults() -> Iterator[None]:
     """The tools' message about a text, a table or a date is a fault here."""
     try:
         yield
-    except (command.Stop, order_table.BadOrders, table_operations.BadDate) as fault:
+    except (exits.Stop, order_table.BadOrders, table_operations.BadDate) as fault:
         raise Fault(str(fault)) from None
 
 
@@ -70,7 +70,7 @@ def read_journal(source: Source) -> Journal:
     data = read_source_bytes(source)
     try:
         return day_files.require_journal(source_name(source, "the text"), data)
-    except command.Stop as fault:
+    except exits.Stop as fault:
         raise Fault(str(fault), REFUSED) from None
 
 

@@ -9,7 +9,7 @@ from support import AUCTION, AUCTION_RESULTS, make_folder_for_case, run_tool
 
 from lib.journal import book, journal
 from lib.seal import heads
-from lib.tool import command, file_io
+from lib.tool import exits, file_io
 
 try:
     from lib.receipts import receipts
@@ -56,7 +56,7 @@ class InFolder(unittest.TestCase):
         """The output of `tools/receipts`, which ends with a status. A verdict is on standard output alone."""
         ran = run_tool("receipts", *map(str, words))
         self.assertEqual(ran[0], status, ran)
-        if status == command.DIFFERS:
+        if status == exits.DIFFERS:
             self.assertTrue(ran[1])
             self.assertEqual(ran[2], "")
         return ran[1].decode()

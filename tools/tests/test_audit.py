@@ -22,7 +22,7 @@ from lib.base import rules
 from lib.journal import book, journal
 from lib.results import check, period, results, selection
 from lib.sheets import day_tables, table_files
-from lib.tool import command, modules
+from lib.tool import exits, modules
 from lib.base.progress import Progress
 from lib.base.text import exact_eur
 
@@ -146,7 +146,7 @@ class Results(unittest.TestCase):
         data = journal_of(*hourly, f"submit,A,K,block,sell,4000,{volumes},,")
         status, out, _ = run_audit(data, results_of(data, frozenset()).replace(b"rejected", b"accepted"))
         lines = out.decode().splitlines()
-        self.assertEqual((status, len(lines)), (command.DIFFERS, 21))
+        self.assertEqual((status, len(lines)), (exits.DIFFERS, 21))
         self.assertRegex(lines[0], r"^results line 75: block A,K: it is accepted and loses \d+$")
         self.assertRegex(lines[1], r"^results line 2: the welfare is ")
         self.assertRegex(lines[2], r"^results line 3: period 1: the price is ")
@@ -382,20 +382,20 @@ class Best(unittest.TestCase):
 
 class CommandLine(unittest.TestCase):
     def test_statuses(self):
-        self.assertEqual(run_audit(AUCTION.read_bytes(), read_results(AUCTION))[0], command.DONE)
-        self.assertEqual(run_audit(AUCTION.read_bytes(), b"day,24\n")[0], command.DIFFERS)
-        self.assertEqual(run_tool("audit")[0], command.COMMAND_LINE)
+        self.assertEqual(run_audit(AUCTION.read_bytes(), read_results(AUCTION))[0], exits.DONE)
+        self.assertEqual(run_audit(AUCTION.read_bytes(), b"day,24\n")[0], exits.DIFFERS)
+        self.assertEqual(run_tool("audit")[0], exits.COMMAND_LINE)
         status, _, err = run_audit(b"day,24\n", b"")
-        self.assertEqual((status, "input: FieldCount in record 1" in err), (command.NO_INPUT, True))
+        self.assertEqual((status, "input: FieldCount in record 1" in err), (exits.NO_INPUT, True))
         status, _, err = run_tool("audit", "/nowhere/journal", "/nowhere/results")
         self.assertEqual(
-            (status, err), (command.NO_INPUT, "audit: /nowhere/journal can't be read: No such file or directory\n")
+            (status, err), (exits.NO_INPUT, "audit: /nowhere/journal can't be read: No such file or directory\n")
         )
-        self.assertEqual(run_audit(b"day,24,,,,,,,\n", b"day,24\n")[0], command.DIFFERS)
+        self.assertEqual(run_audit(b"day,24,,,,,,,\n", b"day,24\n")[0], exits.DIFFERS)
 
     def test_replies(self):
         data, text = journal_of("cancel,A,B,,,,,,"), b"day,24\n1,refused,UnknownOrder\n2,done\n"
-        self.assertEqual(run_audit(data, text, "--replies")[0], command.DONE)
+        self.assertEqual(run_audit(data, text, "--replies")[0], exits.DONE)
         for other, said in (
             (text + b"3,done\n", "replies line 4: '3,done' is not a line of these replies"),
             (b"1,done\n" + text, "replies line 1: '1,done' is not a line of these replies"),
@@ -405,36 +405,36 @@ class CommandLine(unittest.TestCase):
                 "replies line 2: it is '1,done' and should be '1,refused,UnknownOrder'",
             ),
         ):
-            self.assertEqual(run_audit(data, other, "--replies"), (command.DIFFERS, f"{said}\n".encode(), ""))
-        self.assertEqual(run_audit(data, b"", "--replies")[0], command.DIFFERS)
+            self.assertEqual(run_audit(data, other, "--replies"), (exits.DIFFERS, f"{said}\n".encode(), ""))
+        self.assertEqual(run_audit(data, b"", "--replies")[0], exits.DIFFERS)
         said = b"the encoding differs: the last line has no line end\nas the rules say: 2 replies, 1 of 2 commands refused\n"
-        self.assertEqual(run_audit(data, text[:-1], "--replies"), (command.ENCODING, said, ""))
+        self.assertEqual(run_audit(data, text[:-1], "--replies"), (exits.ENCODING, said, ""))
 
     def test_the_text_of_a_day(self):
         day = AUCTION.read_bytes() + b"results\n" + read_results(AUCTION)
-        self.assertEqual(run_tool("audit", "-", data=day)[0], command.DONE)
-        self.assertEqual(run_tool("audit", "-", data=day.replace(b"welfare,3", b"welfare,4"))[0], command.DIFFERS)
-        self.assertEqual(run_tool("audit", "-", data=day.replace(b"day,24,", b'"day",24,'))[0], command.ENCODING)
-        self.assertEqual(run_tool("audit", "-", data=AUCTION.read_bytes())[0], command.NO_INPUT)
+        self.assertEqual(run_tool("audit", "-", data=day)[0], exits.DONE)
+        self.assertEqual(run_tool("audit", "-", data=day.replace(b"welfare,3", b"welfare,4"))[0], exits.DIFFERS)
+        self.assertEqual(run_tool("audit", "-", data=day.replace(b"day,24,", b'"day",24,'))[0], exits.ENCODING)
+        self.assertEqual(run_tool("audit", "-", data=AUCTION.read_bytes())[0], exits.NO_INPUT)
         for other in (b"\xef\xbb\xbf" + day, day.replace(b"\n", b"\r"), day.replace(b"\nresults\n", b'\n"results"\n')):
-            self.assertEqual(run_tool("audit", "-", data=other)[:2], (command.NO_INPUT, b""))
+            self.assertEqual(run_tool("audit", "-", data=other)[:2], (exits.NO_INPUT, b""))
 
     def test_the_most_blocks(self):
         blocks = [f"submit,A,K{number},block,sell,1,1:1,," for number in range(rules.MOST_BLOCKS)]
         data = journal_of(*blocks)
         text = results_of(data, frozenset())
-        wanted = command.DONE if modules.has_module("numpy") or modules.run_and_see_if_debian_has("numpy") else command.FAILED
+        wanted = exits.DONE if modules.has_module("numpy") or modules.run_and_see_if_debian_has("numpy") else exits.FAILED
         self.assertEqual(run_audit(data, text, "--best")[0], wanted)
 
     def test_a_tool_without_its_parts_has_no_verdict(self):
         """If Python leaves the tool's folder out, the tool finds it; a copy without it says so, and never that the results are wrong."""
         words = [AUCTION, AUCTION_RESULTS, "--quiet"]
-        self.assertEqual(run_tool("audit", *words, python=(sys.executable, "-I")), (command.DONE, b"", ""))
+        self.assertEqual(run_tool("audit", *words, python=(sys.executable, "-I")), (exits.DONE, b"", ""))
         with tempfile.TemporaryDirectory() as folder:
             copy = shutil.copy(support.TOOLS / "audit", folder)
             ran = subprocess.run([sys.executable, copy, *words], capture_output=True)
             said = f"audit: it can't start: [Errno 2] No such file or directory: '{os.path.realpath(folder)}/lib/start.py'\n"
-            self.assertEqual((ran.returncode, ran.stdout, ran.stderr.decode()), (command.FAILED, b"", said))
+            self.assertEqual((ran.returncode, ran.stdout, ran.stderr.decode()), (exits.FAILED, b"", said))
 
     def test_what_was_not_checked_is_said(self):
         """Without --best, the status of the selection; for a wrong form, the status of the numbers."""
@@ -446,7 +446,7 @@ class CommandLine(unittest.TestCase):
         status, out, _ = run_audit(data, text.replace(b"period,20,", b"period,20,+"), "--best")
         number = text.split(b"period,20,")[1].split(b",")[0].decode()
         form = f"results line 22: period 20: '+{number}' isn't a number as dam writes it: no +, no leading zeros, no -0"
-        self.assertEqual((status, out.decode().splitlines()), (command.DIFFERS, [form, day_audit.NEITHER]))
+        self.assertEqual((status, out.decode().splitlines()), (exits.DIFFERS, [form, day_audit.NEITHER]))
 
     def test_files_that_are_no_text_have_no_verdict(self):
         for data, said in (
@@ -455,26 +455,26 @@ class CommandLine(unittest.TestCase):
             (b"\n<!DOCTYPE html>\n", "is a web page (HTML) instead of results"),
         ):
             status, out, err = run_audit(AUCTION.read_bytes(), data)
-            self.assertEqual((status, out, err.endswith(f"{said}\n")), (command.NO_INPUT, b"", True))
+            self.assertEqual((status, out, err.endswith(f"{said}\n")), (exits.NO_INPUT, b"", True))
 
     def test_what_a_spreadsheet_changes_besides_the_encoding_is_wrong(self):
         """Padding to a rectangle, and other separators: docs/FORMATS.md says so."""
         data, text = AUCTION.read_bytes(), read_results(AUCTION)
         tabs = text.replace(b",", b"\t").decode().encode("utf-16")
         for other in (text.replace(b"day,24\n", b"day,24,,,\n"), text.replace(b",", b";"), tabs, text.replace(b"\n", b"\r\r\n")):
-            self.assertEqual(run_audit(data, other)[0], command.DIFFERS)
+            self.assertEqual(run_audit(data, other)[0], exits.DIFFERS)
 
     def test_other_encodings_are_named_right(self):
         """UTF-32 isn't UTF-16, and a tab somewhere isn't a separator."""
         for data in (read_results(AUCTION).decode().encode("utf-32"), b"\x07\tday,24\n"):
             status, out, _ = run_audit(AUCTION.read_bytes(), data)
-            self.assertEqual((status, b"none of the lines of the results belongs" in out), (command.DIFFERS, True), out)
+            self.assertEqual((status, b"none of the lines of the results belongs" in out), (exits.DIFFERS, True), out)
             self.assertNotIn(b"separated", out)
             self.assertNotIn(b"UTF-16", out)
 
     def test_repeated_results_are_of_this_journal(self):
         status, out, _ = run_audit(AUCTION.read_bytes(), read_results(AUCTION) * 3)
-        self.assertEqual((status, b"another journal" in out), (command.DIFFERS, False))
+        self.assertEqual((status, b"another journal" in out), (exits.DIFFERS, False))
 
     def test_too_little_time(self):
         """The other rules have been checked, and it is said how far the search is."""
@@ -484,13 +484,13 @@ class CommandLine(unittest.TestCase):
         for method, far in methods.items():
             status, out, err = run_audit(AUCTION.read_bytes(), read_results(AUCTION), "--best", "--by", method, "--seconds", "0")
             said = f"audit: the results obey the other rules, but after 0 seconds, {far}: --seconds gives more time\n"
-            self.assertEqual((status, out, err), (command.UNDECIDED, b"", said))
+            self.assertEqual((status, out, err), (exits.UNDECIDED, b"", said))
 
     @unittest.skipUnless(modules.has_module("scipy"), "scipy is missing (Debian's python3-scipy)")
     def test_highs_without_blocks(self):
         """The day has one selection, and the answer is as without HiGHS."""
         found = [run_audit(FIRST, results_of(FIRST, frozenset()), "--best", *words) for words in ((), ("--by", "highs"))]
-        self.assertEqual((found[0][0], found[0]), (command.DONE, found[1]))
+        self.assertEqual((found[0][0], found[0]), (exits.DONE, found[1]))
         self.assertIn(b"; no selection is better: there is no block to select\n", found[1][1])
 
     @unittest.skipUnless(modules.has_module("scipy"), "scipy is missing (Debian's python3-scipy)")
@@ -516,12 +516,12 @@ class CommandLine(unittest.TestCase):
     def test_empty_lines_are_an_encoding_at_the_end_alone(self):
         for ends in (b"\n", b"\n\n\n", b"\r\n"):
             status, out, _ = run_audit(AUCTION.read_bytes(), read_results(AUCTION) + ends)
-            self.assertEqual(status, command.ENCODING)
+            self.assertEqual(status, exits.ENCODING)
             self.assertIn(b"the encoding differs: empty lines follow the last line\n", out)
-        self.assertEqual(run_audit(AUCTION.read_bytes(), b"\n\n")[0], command.DIFFERS)
+        self.assertEqual(run_audit(AUCTION.read_bytes(), b"\n\n")[0], exits.DIFFERS)
         said = f"results line 4: the line is empty, and should not be there\n{NOT_COMPARED}".encode()
         edited = read_results(AUCTION).replace(b"period,2,", b"\nperiod,2,")
-        self.assertEqual(run_audit(AUCTION.read_bytes(), edited), (command.DIFFERS, said, ""))
+        self.assertEqual(run_audit(AUCTION.read_bytes(), edited), (exits.DIFFERS, said, ""))
 
     def test_a_text_in_the_place_of_another_is_named(self):
         journal_data, text = AUCTION.read_bytes(), read_results(AUCTION)
@@ -537,7 +537,7 @@ class CommandLine(unittest.TestCase):
             ([], orders, text, "journal has a table of orders instead of a journal; tools/table --journal makes a journal of it"),
         ):
             status, out, err = run_audit(one, other, *words)
-            self.assertEqual((status, out), (command.NO_INPUT, b""))
+            self.assertEqual((status, out), (exits.NO_INPUT, b""))
             self.assertTrue(err.startswith("audit: /") and err.endswith(f"/{said}\n"), err)
 
     def test_one_stray_or_missing_line_is_one_message(self):
@@ -545,12 +545,12 @@ class CommandLine(unittest.TestCase):
         for at in (0, 1, 2, 30, len(lines)):
             stray = b"".join([*lines[:at], b"stray,\xff\x0b\x1b,line\n", *lines[at:]])
             said = f"results line {at + 1}: 'stray,\\xff\\x0b\\x1b,line' doesn't belong here\n{NOT_COMPARED}".encode()
-            self.assertEqual(run_audit(data, stray), (command.DIFFERS, said, ""))
+            self.assertEqual(run_audit(data, stray), (exits.DIFFERS, said, ""))
         for at, about in (0, "the day"), (1, "the welfare"), (4, "period 3"), (len(lines) - 1, "block OLD,UNIT-7"):
             missing = b"".join(lines[:at] + lines[at + 1 :])
             where = f"before results line {at + 1}" if at + 1 < len(lines) else f"at the end of the results, as line {at + 1}"
             said = f"the line for {about} is missing {where}\n{NOT_COMPARED}".encode()
-            self.assertEqual(run_audit(data, missing), (command.DIFFERS, said, ""))
+            self.assertEqual(run_audit(data, missing), (exits.DIFFERS, said, ""))
         twice = b"".join(lines[:5] + lines[4:])
         self.assertEqual(run_audit(data, twice)[1].count(b"\n"), 2)
 
@@ -588,7 +588,7 @@ class CommandLine(unittest.TestCase):
         status, out, _ = run_audit(data, renamed)
         said = "these seem to be the results of another journal: 89 of their 89 lines of orders are"
         said += " of orders that this journal doesn't have"
-        self.assertEqual((status, out.decode().splitlines()[0]), (command.DIFFERS, said))
+        self.assertEqual((status, out.decode().splitlines()[0]), (exits.DIFFERS, said))
         another = re.sub(rb"^((?:welfare|period|hour|block),(?:.*,)?)-?(\d+)$", rb"\g<1>1\2", text, flags=re.MULTILINE)
         status, out, _ = run_audit(data, another)
         said = r"^these seem to be the results of another journal: \d+ of their 115 lines are wrong$"
@@ -603,7 +603,7 @@ class CommandLine(unittest.TestCase):
     def test_no_better_selection_is_looked_for_if_the_results_are_wrong(self):
         wrong = read_results(AUCTION).replace(b"welfare,3", b"welfare,4")
         status, out, err = run_audit(AUCTION.read_bytes(), wrong, "--best")
-        self.assertEqual((status, out.count(b"\n"), err), (command.DIFFERS, 3, ""))
+        self.assertEqual((status, out.count(b"\n"), err), (exits.DIFFERS, 3, ""))
         self.assertTrue(out.endswith(b"\nno better selection was looked for, since the results break other rules\n"), out)
         self.assertNotIn(b"no better selection", run_audit(AUCTION.read_bytes(), wrong)[1])
 
@@ -618,16 +618,16 @@ class CommandLine(unittest.TestCase):
         junk = b"".join(b"%d\n" % number for number in range(500))
         status, out, _ = run_audit(data, read_results(AUCTION) + junk)
         lines = out.decode().splitlines()
-        self.assertEqual((status, len(lines), lines[-2]), (command.DIFFERS, 22, "and 480 more: --all prints every line"))
+        self.assertEqual((status, len(lines), lines[-2]), (exits.DIFFERS, 22, "and 480 more: --all prints every line"))
         self.assertEqual(len(run_audit(data, read_results(AUCTION) + junk, "--all")[1].splitlines()), 501)
         said = f"none of the lines of the results belongs to this journal: the first is '0'\n{NOT_COMPARED}".encode()
-        self.assertEqual(run_audit(data, junk), (command.DIFFERS, said, ""))
+        self.assertEqual(run_audit(data, junk), (exits.DIFFERS, said, ""))
         for comma, name in (b";", b"semicolons"), (b"\t", b"tabs"):
             other = read_results(AUCTION).replace(b",", comma)
             shown = other.split(b"\n")[0].replace(b"\t", b"\\t")
             said = b"the fields of the results are separated by %s instead of commas: the first line is '%s'\n" % (name, shown)
-            self.assertEqual(run_audit(data, other), (command.DIFFERS, said + NOT_COMPARED.encode(), ""))
-        self.assertEqual(run_audit(data, b""), (command.DIFFERS, f"the results are empty\n{NOT_COMPARED}".encode(), ""))
+            self.assertEqual(run_audit(data, other), (exits.DIFFERS, said + NOT_COMPARED.encode(), ""))
+        self.assertEqual(run_audit(data, b""), (exits.DIFFERS, f"the results are empty\n{NOT_COMPARED}".encode(), ""))
         self.assertEqual(len(run_audit(data, b"day,24\n" + junk, "--replies")[1].splitlines()), 21)
 
     def test_refused_commands_are_counted(self):
@@ -635,10 +635,10 @@ class CommandLine(unittest.TestCase):
         for command_line, said in (b"cancel,A,C,,,,,,\n", b"welfare 0.00 EUR, 1 of 3 commands refused"), (b"", b"welfare 0.00 EUR"):
             data = journal_of("submit,A,B,hour,buy,1,24:1,,").replace(b"close", command_line + b"close")
             status, out, _ = run_audit(data, text)
-            self.assertEqual((status, out.splitlines()[0].endswith(said)), (command.DONE, True), out)
+            self.assertEqual((status, out.splitlines()[0].endswith(said)), (exits.DONE, True), out)
         data = journal_of("submit,A,B,hour,buy,1,25:1,,")
         status, out, _ = run_audit(data, b"day,24\n1,refused,PeriodOutOfDay\n2,done\n", "--replies")
-        self.assertEqual((status, out), (command.DONE, b"as the rules say: 2 replies, 1 of 2 commands refused\n"))
+        self.assertEqual((status, out), (exits.DONE, b"as the rules say: 2 replies, 1 of 2 commands refused\n"))
 
     def test_no_option_is_ignored_or_short(self):
         for words in (
@@ -657,10 +657,10 @@ class CommandLine(unittest.TestCase):
             ["--best", "--replies"],
         ):
             status, out, err = run_audit(AUCTION.read_bytes(), read_results(AUCTION), *words)
-            self.assertEqual((status, out), (command.COMMAND_LINE, b""), words)
+            self.assertEqual((status, out), (exits.COMMAND_LINE, b""), words)
             self.assertIn("audit: error: ", err)
         for words in (["-", "-"], ["--replies", "-"]):
-            self.assertEqual(run_tool("audit", *words)[0], command.COMMAND_LINE)
+            self.assertEqual(run_tool("audit", *words)[0], exits.COMMAND_LINE)
 
     def test_amounts_have_the_digits_that_they_need(self):
         for amount, hours, said in (
@@ -690,9 +690,9 @@ class CommandLine(unittest.TestCase):
     def test_quiet_and_help(self):
         self.assertEqual(run_audit(AUCTION.read_bytes(), read_results(AUCTION), "--quiet"), (0, b"", ""))
         doctored = read_results(AUCTION).replace(b"welfare,3", b"welfare,4")
-        self.assertEqual(run_audit(AUCTION.read_bytes(), doctored, "--quiet"), (command.DIFFERS, b"", ""))
+        self.assertEqual(run_audit(AUCTION.read_bytes(), doctored, "--quiet"), (exits.DIFFERS, b"", ""))
         status, out, err = run_audit(AUCTION.read_bytes(), AUCTION.read_bytes(), "--quiet")
-        self.assertEqual((status, out, "has a journal instead of results" in err), (command.NO_INPUT, b"", True))
+        self.assertEqual((status, out, "has a journal instead of results" in err), (exits.NO_INPUT, b"", True))
         status, out, _ = run_tool("audit", "--help")
         self.assertEqual((status, b"JOURNAL" in out), (0, True))
         self.assertIn(b"don't print the verdict and the faults", out)

@@ -20,7 +20,7 @@ from lib.audit import day_pairs, days, verdict
 from lib.base import audit_record, text
 from lib.results import faults
 from lib.runs import by_program
-from lib.tool import command, file_io
+from lib.tool import exits, file_io
 
 DATA, TEXT = AUCTION.read_bytes(), read_results(AUCTION)
 
@@ -63,7 +63,7 @@ class Days(unittest.TestCase):
         status, out, err = self.audit("--best")
         found = {line.split()[0]: line.split()[1] for line in out.splitlines()[1:-1]}
         kinds = [verdict.WRONG, verdict.UNREAD, verdict.ENCODING, verdict.UNREAD, verdict.WRONG, verdict.RIGHT, verdict.UNREAD]
-        self.assertEqual((status, err, list(found.values())), (command.DIFFERS, "", kinds))
+        self.assertEqual((status, err, list(found.values())), (exits.DIFFERS, "", kinds))
         self.assertEqual("".join(found), "abcdefg")
         self.assertTrue(out.replace("\n", "").isprintable())
         self.assertIn("7 days  1 right, 2 wrong, 1 encoding, 3 unread", out)
@@ -83,15 +83,15 @@ class Days(unittest.TestCase):
             (self.folder / name).write_bytes(content)
         status, out, _ = self.audit()
         found = [line.split()[:2] for line in out.splitlines()[1:4]]
-        self.assertEqual((status, found), (command.NO_INPUT, [["A", "right"], ["B", "unread"], ["C", "unread"]]))
+        self.assertEqual((status, found), (exits.NO_INPUT, [["A", "right"], ["B", "unread"], ["C", "unread"]]))
         for name, others in (("A.csv", ["unread", "unread", "unread"]), ("C.txt", ["unread", "unread", "unread"])):
             (self.folder / name).write_bytes(DATA)
             status, out, err = self.audit()
-            self.assertEqual((status, err, [line.split()[1] for line in out.splitlines()[1:4]]), (command.NO_INPUT, "", others))
+            self.assertEqual((status, err, [line.split()[1] for line in out.splitlines()[1:4]]), (exits.NO_INPUT, "", others))
         self.assertEqual([out.count(f"{self.folder}/{name} have one name: rename one of them") for name in ("A.csv", "C.txt")], [1, 1])
         self.write(D=(DATA, TEXT))
         status, out, _ = self.audit()
-        self.assertEqual((status, out.splitlines()[4].split()[:2]), (command.NO_INPUT, ["D", "right"]))
+        self.assertEqual((status, out.splitlines()[4].split()[:2]), (exits.NO_INPUT, ["D", "right"]))
 
     def test_a_file_that_would_wait(self):
         """Some files of the system have no end, and a read of them waits for more."""
@@ -100,21 +100,21 @@ class Days(unittest.TestCase):
         (self.folder / "b.txt").write_bytes(TEXT)
         status, out, err = self.audit()
         found = [line.split()[1] for line in out.splitlines()[1:3]]
-        self.assertEqual((status, err, found), (command.NO_INPUT, "", ["right", "unread"]))
+        self.assertEqual((status, err, found), (exits.NO_INPUT, "", ["right", "unread"]))
         reading, writing = os.pipe()
         self.addCleanup(os.close, reading)
         self.addCleanup(os.close, writing)
         os.write(writing, b"x" * 9)
         words = f"{reading} can't be read: {os.strerror(errno.EAGAIN)}$"
-        with unittest.mock.patch.object(file_io.stat, "S_ISREG", return_value=True), self.assertRaisesRegex(command.Stop, words):
+        with unittest.mock.patch.object(file_io.stat, "S_ISREG", return_value=True), self.assertRaisesRegex(exits.Stop, words):
             file_io.read_bytes(f"/proc/self/fd/{reading}")
 
     def test_the_status_is_that_of_the_worst(self):
         self.write(a=(DATA, TEXT))
         for texts, wanted in (
-            ({"b": (DATA, TEXT[:-1])}, command.ENCODING),
-            ({"c": (b"", TEXT)}, command.NO_INPUT),
-            ({"d": (DATA, b"")}, command.DIFFERS),
+            ({"b": (DATA, TEXT[:-1])}, exits.ENCODING),
+            ({"c": (b"", TEXT)}, exits.NO_INPUT),
+            ({"d": (DATA, b"")}, exits.DIFFERS),
         ):
             self.write(**texts)
             self.assertEqual(self.audit()[0], wanted)
@@ -124,7 +124,7 @@ class Days(unittest.TestCase):
     def test_the_time_that_each_may_take(self):
         self.write(a=(DATA, TEXT))
         status, out, _ = self.audit("--best", "--seconds", "0")
-        self.assertEqual((status, out.splitlines()[1].split()[1]), (command.UNDECIDED, "undecided"))
+        self.assertEqual((status, out.splitlines()[1].split()[1]), (exits.UNDECIDED, "undecided"))
 
     def test_amounts_for_readers(self):
         for number, shown in (("-1234567.500", "-1,234,567.50"), ("-0.001", "-0.001"), ("0.000", "0.00"), ("12.12500", "12.125")):
@@ -147,12 +147,12 @@ class Days(unittest.TestCase):
         (self.folder / "list").write_text("\ufeffday,journal,results\nMonday,a.csv,a.txt\n,b.csv,\n\nnone,c.csv,a.txt\n")
         status, out, _ = self.audit(place=self.folder / "list")
         self.assertEqual([line.split()[:2] for line in out.splitlines()[1:4]], [["Monday", "right"], ["b", "right"], ["none", "unread"]])
-        self.assertEqual(status, command.NO_INPUT)
+        self.assertEqual(status, exits.NO_INPUT)
         (self.folder / "list").write_text("\n \n;;\njournal;results\na.csv;a.txt\n")
         self.assertEqual(self.audit("--quiet", place=self.folder / "list"), (0, "", ""))
         (self.folder / "list").write_text("journal\na.csv\n")
         said = f"audit: {self.folder / 'list'} isn't a table of days: its first line should name the columns journal, results\n"
-        self.assertEqual(self.audit(place=self.folder / "list"), (command.NO_INPUT, "", said))
+        self.assertEqual(self.audit(place=self.folder / "list"), (exits.NO_INPUT, "", said))
 
     def test_a_manifest_in_another_code_or_form(self):
         self.write(a=(DATA, TEXT))
@@ -164,7 +164,7 @@ class Days(unittest.TestCase):
         for data, kind in ((b"PK\x03\x04\x81", "an Excel workbook (.xlsx)"), (b"\x1f\x8b", "a compressed file (.gz)")):
             path.write_bytes(data)
             said = f"audit: {path} is {kind}: save the table of days as CSV\n"
-            self.assertEqual(self.audit(place=path), (command.NO_INPUT, "", said))
+            self.assertEqual(self.audit(place=path), (exits.NO_INPUT, "", said))
 
     def test_two_rows_of_a_manifest_with_one_name(self):
         """Neither is read: a reader could take the verdict of one for the other's. Names that no row gives may be equal."""
@@ -180,7 +180,7 @@ class Days(unittest.TestCase):
         extra = "line 8 of the table has 4 cells, but the header has 3"
         wanted = [("Monday", "unread", said), ("b", "right", None), ("Monday", "unread", said), ("a", "right", None), ("a", "right", None)]
         wanted += [("Monday", "unread", extra), ("MONDAY", "right", None)]
-        self.assertEqual((status, err, found), (command.NO_INPUT, "", wanted))
+        self.assertEqual((status, err, found), (exits.NO_INPUT, "", wanted))
 
     def test_a_manifest_with_many_columns(self):
         """Cells that aren't used take no memory."""
@@ -200,7 +200,7 @@ class Days(unittest.TestCase):
         (self.folder / "list").write_text(f"day,journal,results\nmore,a,b.csv,a.txt\nother,a.csv,a.txt\n,,,note\n{right}")
         status, out, _ = self.audit(place=self.folder / "list")
         more, other, last, empty = out.splitlines()[1:5]
-        self.assertEqual((status, other.split()[1]), (command.NO_INPUT, verdict.RIGHT))
+        self.assertEqual((status, other.split()[1]), (exits.NO_INPUT, verdict.RIGHT))
         for line, number in ((more, 2), (last, 4), (empty, 5)):
             self.assertTrue(line.endswith(f"  line {number} of the table has 4 cells, but the header has 3"), line)
         (self.folder / "list").write_text(f"day,journal,results, ,note\nb,a.csv,a.txt,x\n{right}")
@@ -210,7 +210,7 @@ class Days(unittest.TestCase):
         for name in ("day", "journal", "results"):
             (self.folder / "list").write_text(f"day,journal,results,{name.upper()}\n{right}")
             said = f"audit: {self.folder / 'list'} isn't a table of days: its first line names the column {name} twice\n"
-            self.assertEqual(self.audit(place=self.folder / "list"), (command.NO_INPUT, "", said))
+            self.assertEqual(self.audit(place=self.folder / "list"), (exits.NO_INPUT, "", said))
 
     def test_a_day_on_the_line_of_the_header(self):
         """It would be lost."""
@@ -221,7 +221,7 @@ class Days(unittest.TestCase):
             said = f"audit: {self.folder / 'list'} isn't a table of days: "
             said += "line 1, column 4" if between and not between.isascii() or between == "\v" else "'a.csv' of its first line is no heading"
             status, out, err = self.audit(place=self.folder / "list")
-            self.assertEqual((status, out, err[: len(said)]), (command.NO_INPUT, "", said))
+            self.assertEqual((status, out, err[: len(said)]), (exits.NO_INPUT, "", said))
         (self.folder / "list").write_text(f"day,journal,results,note{',x' * 3}\n{row},note\v{row}\n")
         said = f"audit: {self.folder / 'list'} isn't a table of days: line 2, column 4: 'note\\x0bright' has a character"
         self.assertIn(said, self.audit(place=self.folder / "list")[2])
@@ -238,7 +238,7 @@ class Days(unittest.TestCase):
     def test_a_manifest_of_many_days(self):
         (self.folder / "list").write_text("journal,results\n" + "x,y\n" * (day_pairs.MOST_DAYS + 1))
         said = f"audit: {self.folder / 'list'} has more than 20,000 days\n"
-        self.assertEqual(self.audit(place=self.folder / "list"), (command.NO_INPUT, "", said))
+        self.assertEqual(self.audit(place=self.folder / "list"), (exits.NO_INPUT, "", said))
 
     def test_a_folder_named_like_the_end_of_options(self):
         (self.folder / "--").mkdir()
@@ -255,7 +255,7 @@ class Days(unittest.TestCase):
         named.chmod(0o755)
         for name in ("./python", str(named), "/bin/false"):
             ran = subprocess.run([TOOLS / "audit", "--days", "."], cwd=self.folder, capture_output=True, text=True, env={"PATH": "/usr/bin:/bin", "PYTHONEXECUTABLE": name})
-            self.assertEqual((ran.returncode, ran.stdout.splitlines()[1].split()[:2]), (command.DIFFERS, ["a", "wrong"]), ran.stderr)
+            self.assertEqual((ran.returncode, ran.stdout.splitlines()[1].split()[:2]), (exits.DIFFERS, ["a", "wrong"]), ran.stderr)
         self.assertFalse((self.folder / "ran").exists())
 
     def test_rows_of_a_manifest_that_name_no_files(self):
@@ -263,7 +263,7 @@ class Days(unittest.TestCase):
         (self.folder / "list").write_bytes(b"day,journal,results\nnul,a\0.csv,a.txt\nempty,,a.txt\nright,a.csv,a.txt\nalone,a.csv,\nfolder,.,\n")
         status, out, err = self.audit(place=self.folder / "list")
         nul, empty, right, alone, folder = out.splitlines()[1:6]
-        self.assertEqual((status, err, right.split()[1]), (command.NO_INPUT, "", verdict.RIGHT))
+        self.assertEqual((status, err, right.split()[1]), (exits.NO_INPUT, "", verdict.RIGHT))
         self.assertEqual((nul.split()[1], empty.split()[1]), (verdict.UNREAD, verdict.UNREAD))
         self.assertTrue(nul.endswith("the name 'a\\x00.csv' has a NUL"), nul)
         self.assertTrue(empty.endswith("its row names no journal"), empty)
@@ -282,7 +282,7 @@ class Days(unittest.TestCase):
         own = {**os.environ, "LOCPATH": str(self.folder), "LC_ALL": locale.name}
         ran = subprocess.run([sys.executable, "-I", TOOLS / "audit", "--days", self.folder / "list"], env=own, capture_output=True)
         lacks, right = ran.stdout.decode().splitlines()[1:3]
-        self.assertEqual((ran.returncode, ran.stderr, right.split()[1]), (command.NO_INPUT, b"", verdict.RIGHT))
+        self.assertEqual((ran.returncode, ran.stderr, right.split()[1]), (exits.NO_INPUT, b"", verdict.RIGHT))
         self.assertTrue(lacks.endswith(".csv can't be read: its name has a NUL, or a character that this locale lacks"), lacks)
 
     def test_a_process_that_cannot_be_started(self):
@@ -290,7 +290,7 @@ class Days(unittest.TestCase):
         with unittest.mock.patch.object(days.subprocess, "Popen", side_effect=full):
             made = days.run_audit_and_return_kept_record(pair, [], by_program.Running())
         said = "its process can't be started: Too many open files"
-        self.assertEqual((made["status"], made["verdict"], made["message"]), (command.FAILED, verdict.FAILED, said))
+        self.assertEqual((made["status"], made["verdict"], made["message"]), (exits.FAILED, verdict.FAILED, said))
 
     def test_a_process_that_hangs(self):
         """It's ended, and another day has its record."""
@@ -305,7 +305,7 @@ class Days(unittest.TestCase):
         with unittest.mock.patch.object(days, "TOOL", hanging), unittest.mock.patch.object(subprocess, "Popen", side_effect=start):
             found = days.run_audits_and_return_kept_records([hung, hung._replace(unread="x")], [], 2, unittest.mock.Mock(), 0.5)
         self.assertEqual([made["message"] for made in found], ["its process didn't end in 0.5 seconds", "x"])
-        self.assertEqual([made["status"] for made in found], [command.FAILED, command.NO_INPUT])
+        self.assertEqual([made["status"] for made in found], [exits.FAILED, exits.NO_INPUT])
         self.assertEqual([process.returncode for process in begun], [-signal.SIGKILL])
 
     def test_a_process_that_is_left(self):
@@ -356,7 +356,7 @@ class Days(unittest.TestCase):
         limit = functools.partial(resource.setrlimit, resource.RLIMIT_AS, (1 << 30, 1 << 30))
         ran = subprocess.run(words, capture_output=True, preexec_fn=limit)
         made = json.loads(ran.stdout)
-        self.assertEqual((ran.returncode, made["status"], ran.stderr), (command.NO_INPUT, command.NO_INPUT, b""))
+        self.assertEqual((ran.returncode, made["status"], ran.stderr), (exits.NO_INPUT, exits.NO_INPUT, b""))
         return [(day["name"], day["verdict"], day["message"] and day["message"].rpartition("/")[2]) for day in made["days"]]
 
     def test_a_name_that_would_be_standard_input(self):
@@ -365,10 +365,10 @@ class Days(unittest.TestCase):
         for name in ("-", "--", "---", "-o", "--json"):
             for row, others in ((f"a.csv,{name}", b""), (f"{name},a.txt", QUARTERS.read_bytes())):
                 (self.folder / "list").write_text(f"day,journal,results\nno file,{row}\n")
-                self.assertEqual(self.run_manifest(), (command.NO_INPUT, f"{name} is missing"), row)
+                self.assertEqual(self.run_manifest(), (exits.NO_INPUT, f"{name} is missing"), row)
                 (self.folder / name).write_bytes(others)
                 status, said = self.run_manifest()
-                self.assertEqual((status, said == "the results are empty"), (command.DIFFERS, not others), row)
+                self.assertEqual((status, said == "the results are empty"), (exits.DIFFERS, not others), row)
                 (self.folder / name).unlink()
 
     def run_manifest(self):
@@ -389,7 +389,7 @@ class Days(unittest.TestCase):
         for patched, faults in (("capture_status_and_outputs", [MemoryError]), ("record_without_verdict", [MemoryError, unittest.mock.DEFAULT])):
             with unittest.mock.patch.object(days, patched, side_effect=faults * 2, wraps=getattr(days, patched)):
                 found = days.run_audits_and_return_kept_records(pairs, ["--none"], 1, bar)
-            self.assertEqual([(made["name"], made["status"]) for made in found], [("a", command.FAILED), ("b", command.FAILED)])
+            self.assertEqual([(made["name"], made["status"]) for made in found], [("a", exits.FAILED), ("b", exits.FAILED)])
             self.assertIn("out of memory", [made["message"] for made in found])
         with unittest.mock.patch.object(days.threading.Thread, "start", side_effect=RuntimeError("can't start new thread")):
             found = days.run_audits_and_return_kept_records([pairs[0]._replace(unread="x")] * 2, [], 2, bar)
@@ -398,22 +398,22 @@ class Days(unittest.TestCase):
     def test_days_with_many_faults(self):
         """The faults of all days aren't in memory together. The record is the same as if they were."""
         wrong = [faults.line_fault("'hour,A,NAME,1' doesn't belong here", "stray", line, None).record() for line in range(3_000)]
-        made = {**audit_record.unread_record(verdict.WRONG, command.DIFFERS, None), "faults": wrong}
+        made = {**audit_record.unread_record(verdict.WRONG, exits.DIFFERS, None), "faults": wrong}
         out = json.dumps(made, indent=1).encode() + b"\n"
         pairs = [day_pairs.Pair(f"{number}\udcff", Path("a.csv"), None, "x" if number == 3 else None) for number in range(8)]
-        unread = {"name": "3\\xff", **audit_record.unread_record(verdict.UNREAD, command.NO_INPUT, "x", [("journal", "a.csv")])}
+        unread = {"name": "3\\xff", **audit_record.unread_record(verdict.UNREAD, exits.NO_INPUT, "x", [("journal", "a.csv")])}
         wanted = [unread if number == 3 else {"name": f"{number}\\xff", **made} for number in range(8)]
         for words in ({}, {"is_json": True}):
             tracemalloc.start()
             self.addCleanup(tracemalloc.stop)
-            with unittest.mock.patch.object(days, "capture_status_and_outputs", return_value=(command.DIFFERS, out, b"")):
+            with unittest.mock.patch.object(days, "capture_status_and_outputs", return_value=(exits.DIFFERS, out, b"")):
                 found = days.run_audits_and_return_kept_records(pairs, [], 2, unittest.mock.Mock(), **words)
             self.assertLess(tracemalloc.get_traced_memory()[0], len(out))
             tracemalloc.stop()
             self.assertIn("  3000      0.0  results line 0: 'hour,A,NAME,1' doesn't belong here", list(days.table_lines(found))[1])
-        parts = list(days.record_parts(command.DIFFERS, found))
+        parts = list(days.record_parts(exits.DIFFERS, found))
         self.assertLessEqual(max(map(len, parts)), days.PART)
-        self.assertEqual(b"".join(parts).decode(), f"{json.dumps(audit_record.record_of_days(command.DIFFERS, wanted), indent=1)}\n")
+        self.assertEqual(b"".join(parts).decode(), f"{json.dumps(audit_record.record_of_days(exits.DIFFERS, wanted), indent=1)}\n")
 
     def test_the_time_grows_with_the_number_of_days(self):
         """While days are audited, the records of others aren't gone through again."""
@@ -424,7 +424,7 @@ class Days(unittest.TestCase):
                 reads.append(name)
                 return super().__getitem__(name)
 
-        with unittest.mock.patch.object(days, "run_audit_and_return_kept_record", side_effect=lambda *_: Counted(status=command.DIFFERS)):
+        with unittest.mock.patch.object(days, "run_audit_and_return_kept_record", side_effect=lambda *_: Counted(status=exits.DIFFERS)):
             found = days.run_audits_and_return_kept_records([day_pairs.Pair("a", Path("a.csv"), None)] * 50, [], 2, bar)
         self.assertEqual((len(found), len(reads), bar.count_and_show.call_args.args), (50, 50, (1, "50 wrong")))
 
@@ -455,15 +455,15 @@ class Days(unittest.TestCase):
                     before = path.read_bytes()
                     ran = subprocess.run([sys.executable, TOOLS / "audit", *words, "--days", place], stdout=out, stderr=subprocess.PIPE)
                     said = f"audit: standard output goes to {path}, which is one of the inputs: write to another file\n"
-                    self.assertEqual((ran.returncode, ran.stderr.decode(), path.read_bytes()), (command.NO_INPUT, said, before))
+                    self.assertEqual((ran.returncode, ran.stderr.decode(), path.read_bytes()), (exits.NO_INPUT, said, before))
 
     def test_command_lines(self):
         said = f"audit: {self.folder} has no days: a day is NAME.csv with its results NAME.txt\n"
-        self.assertEqual(self.audit(), (command.NO_INPUT, "", said))
-        self.assertEqual(self.audit(place="/nowhere")[0], command.NO_INPUT)
+        self.assertEqual(self.audit(), (exits.NO_INPUT, "", said))
+        self.assertEqual(self.audit(place="/nowhere")[0], exits.NO_INPUT)
         (self.folder / "list").write_text("journal,results\n,\n")
         said = f"audit: {self.folder / 'list'} has no days: it has no row below its header\n"
-        self.assertEqual(self.audit(place=self.folder / "list"), (command.NO_INPUT, "", said))
+        self.assertEqual(self.audit(place=self.folder / "list"), (exits.NO_INPUT, "", said))
         for words, said in (
             ([AUCTION], "--days can't be used with a journal"),
             (["--replies"], "--days can't be used with --replies"),
@@ -472,7 +472,7 @@ class Days(unittest.TestCase):
             (["--seconds", "3"], "--seconds goes with --best"),
         ):
             status, out, err = self.audit(*words)
-            self.assertEqual((status, out, err.splitlines()[-1]), (command.COMMAND_LINE, "", f"audit: error: {said}"))
+            self.assertEqual((status, out, err.splitlines()[-1]), (exits.COMMAND_LINE, "", f"audit: error: {said}"))
 
 
 if __name__ == "__main__":

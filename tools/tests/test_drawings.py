@@ -12,7 +12,7 @@ from support import TOP
 from lib.crates import crates
 from lib.results import selection
 from lib.seal import merkle
-from lib.tool import command, modules
+from lib.tool import exits, modules
 
 sys.path[:0] = [str(TOP / "docs"), str(TOP / "tests" / "desk")]
 import draw_bound
@@ -170,7 +170,7 @@ class Trust(unittest.TestCase):
     def test_they_need_matplotlib(self):
         words = [sys.executable, "-S", TOP / "docs" / "draw_trust.py", "unit-7", "--draw"]  # -S leaves out Debian's packages
         ran = subprocess.run(words, capture_output=True, text=True)
-        self.assertEqual((ran.returncode, ran.stdout), (command.FAILED, ""))
+        self.assertEqual((ran.returncode, ran.stdout), (exits.FAILED, ""))
         self.assertRegex(ran.stderr, r"^\S*draw_trust\.py: it needs matplotlib, .*: apt-get install python3-matplotlib\n$")
 
 

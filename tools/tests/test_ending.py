@@ -26,12 +26,12 @@ from support import AUCTION, AUCTION_RESULTS, TOOLS, TOP, journal_of, results_of
 
 from lib.audit import better
 from lib.base import child_call, children, ending, place
-from lib.tool import command, modules
+from lib.tool import exits, modules
 from lib.base.progress import Progress
 from lib.runs import by_program, errors
 
 GUARD = "from lib.base import ending; ending.guard_tool('audit')"
-CODE_OF_CALL = f"{GUARD}; from lib.tool import command; command.run_and_exit('audit', lambda: CALL)"
+CODE_OF_CALL = f"{GUARD}; from lib.tool import exits; exits.run_and_exit('audit', lambda: CALL)"
 IGNORING_SIGCHLD = "import os, signal, sys; signal.signal(signal.SIGCHLD, signal.SIG_IGN); os.execv(sys.argv[1], sys.argv[1:])"
 SECONDS = 60
 # A run of a tool that gets Ctrl-C as soon as it imports a module.
@@ -51,7 +51,7 @@ CODE_OF_SIGNALS = """
 import os, sys, time, weakref
 from lib.base import ending
 ending.guard_tool("audit")
-from lib.tool import command
+from lib.tool import exits
 class Object: pass
 def going(_):
     os.kill(os.getpid(), int(sys.argv[1]))
@@ -62,7 +62,7 @@ def main():
         held = weakref.ref(a, going)
         del a
     time.sleep(60)
-command.run_and_exit("audit", main)
+exits.run_and_exit("audit", main)
 """
 # A run that begins what a signal has to end.
 CODE_OF_AUDITS = """
@@ -73,13 +73,13 @@ ending.guard_tool("audit")
 from lib.audit import day_pairs, days
 from lib.base.progress import StepBar
 from lib.pictures import drawing
-from lib.tool import command
+from lib.tool import exits
 days.TOOL = Path(sys.argv[1])
 pairs = [day_pairs.Pair(str(number), Path(sys.argv[1]), None) for number in range(8)]
 def main():
     with drawing.empty_settings():
         days.run_audits_and_return_kept_records(pairs, [], 3, StepBar("audit", 8, "days"))
-command.run_and_exit("audit", main)
+exits.run_and_exit("audit", main)
 """
 # A run that has no memory for the rows of a sheet, and prints how many temporary files there are then.
 CODE_WITHOUT_MEMORY = """
@@ -87,7 +87,7 @@ import os
 from lib.base import ending
 ending.guard_tool("table")
 from lib.sheets import table_files
-from lib.tool import command
+from lib.tool import exits
 def fail(_):
     print(len(os.listdir(os.environ["TMPDIR"])), flush=True)
     raise MemoryError
@@ -96,7 +96,7 @@ def main():
     from openpyxl.worksheet import _writer
     _writer.WorksheetWriter.write_rows = fail
     table_files.workbook_bytes_or_refuse({"periods": [["period"], [1]]})
-command.run_and_exit("table", main)
+exits.run_and_exit("table", main)
 """
 SLEEPING_TOOL = "import os, sys, time; open(os.path.dirname(sys.argv[0]) + '/pids', 'a').write(f'{os.getpid()}\\n'); time.sleep(600)"
 PACKAGES = {"audit": [], "lint": [], "plot": ["matplotlib"], "report": ["matplotlib", "jinja2"], "table": []}
@@ -145,9 +145,9 @@ class Failing(unittest.TestCase):
 
     def test_a_defect(self):
         said = "audit: a defect of this tool, please report it: KeyError: 'no' (DAM_DEBUG=1 shows where)\n"
-        self.assertEqual(self.run_failing("{}['no']"), (command.FAILED, "", said))
+        self.assertEqual(self.run_failing("{}['no']"), (exits.FAILED, "", said))
         status, out, err = self.run_failing("{}['no']", DAM_DEBUG="1")
-        self.assertEqual((status, out), (command.FAILED, ""))
+        self.assertEqual((status, out), (exits.FAILED, ""))
         self.assertTrue(err.startswith("Traceback (most recent call last):\n") and err.endswith(said), err)
         self.assertIn("\\x1b[31m", self.run_failing("{}['\\x1b[31m']")[2])
 
@@ -163,7 +163,7 @@ class Failing(unittest.TestCase):
                 ast.parse((TOOLS / "lib" / f"{folder}.py").read_text(), feature_version=(3, 8))
 
     def test_memory(self):
-        said = (command.FAILED, "", "audit: out of memory\n")
+        said = (exits.FAILED, "", "audit: out of memory\n")
         for call in (
             "[0] * 10**15",
             "(_ for _ in ()).throw(OSError(12, 'Cannot allocate memory'))",
@@ -180,7 +180,7 @@ class Failing(unittest.TestCase):
         with tempfile.TemporaryDirectory() as room:
             words = [sys.executable, "-B", "-c", CODE_WITHOUT_MEMORY]
             ran = subprocess.run(words, cwd=TOOLS, capture_output=True, text=True, env={**os.environ, "TMPDIR": room})
-            self.assertEqual((ran.returncode, ran.stdout, ran.stderr), (command.FAILED, "1\n", "table: out of memory\n"))
+            self.assertEqual((ran.returncode, ran.stdout, ran.stderr), (exits.FAILED, "1\n", "table: out of memory\n"))
             self.assertEqual(os.listdir(room), [])
 
     def test_memory_before_a_tool_is_watched(self):
@@ -191,7 +191,7 @@ class Failing(unittest.TestCase):
             enough = next(size for size in sizes if not any(run_in_little_memory(read, size + more)[0] for more in (0, 0.5, 1)))
             for more in range(4, 12):
                 status, out, err = run_in_little_memory(["-I", "-S", TOOLS / name, *words], enough + more / 4)
-                self.assertEqual((status, out, err.splitlines()[-1:]), (command.FAILED, b"", [f"{name}: out of memory"]))
+                self.assertEqual((status, out, err.splitlines()[-1:]), (exits.FAILED, b"", [f"{name}: out of memory"]))
                 self.assertNotIn("Traceback", err)
 
     def test_a_small_stack(self):
@@ -202,7 +202,7 @@ class Failing(unittest.TestCase):
                 words = [sys.executable, "-I", "-S", TOOLS / name, "--version"]
                 ran = subprocess.run(words, capture_output=True, text=True, preexec_fn=limit)
                 said = "" if is_enough else f"{name}: its stack may have {kib} KiB: raise the limit (ulimit -s)\n"
-                self.assertEqual((ran.returncode, ran.stderr), (command.FAILED * (not is_enough), said))
+                self.assertEqual((ran.returncode, ran.stderr), (exits.FAILED * (not is_enough), said))
 
     def test_a_tool_without_its_parts(self):
         with tempfile.TemporaryDirectory() as folder:
@@ -211,13 +211,13 @@ class Failing(unittest.TestCase):
                 path.write_bytes((TOOLS / name).read_bytes())
                 ran = subprocess.run([sys.executable, "-I", "-S", path], capture_output=True, text=True)
                 said = f"{name}: it can't start: [Errno 2] No such file or directory: '{folder}/lib/start.py'\n"
-                self.assertEqual((ran.returncode, ran.stdout, ran.stderr), (command.FAILED, "", said))
+                self.assertEqual((ran.returncode, ran.stdout, ran.stderr), (exits.FAILED, "", said))
             Path(folder, "lib").mkdir()
             Path(folder, "lib", "start.py").write_bytes((TOOLS / "lib" / "start.py").read_bytes())
             for name in place.TOOLS:
                 ran = subprocess.run([sys.executable, "-I", "-S", Path(folder, name)], capture_output=True, text=True)
                 said = f"{name}: it can't start: No module named 'lib.base'\n"
-                self.assertEqual((ran.returncode, ran.stdout, ran.stderr), (command.FAILED, "", said))
+                self.assertEqual((ran.returncode, ran.stdout, ran.stderr), (exits.FAILED, "", said))
 
     def test_right_results_are_never_called_wrong(self):
         """The search for a better selection needs far more memory than the rest."""
@@ -229,18 +229,18 @@ class Failing(unittest.TestCase):
         for megabytes in (40, 60, 80, 120, 180, 270, 400):
             status, out, err = run_in_little_memory([TOOLS / "audit", "--best", "-"], megabytes, text)
             found.add(status)
-            if status != command.DONE:
-                self.assertEqual((status, out, err), (command.FAILED, b"", "audit: out of memory\n"), megabytes)
-        self.assertIn(command.FAILED, found)
+            if status != exits.DONE:
+                self.assertEqual((status, out, err), (exits.FAILED, b"", "audit: out of memory\n"), megabytes)
+        self.assertIn(exits.FAILED, found)
 
     def test_a_journal_with_more_faults_than_memory(self):
         data = b"day,24,,,,,,,\n" + b"cancel,A,B,,,,,,\n" * 9_000
         for megabytes in (40, 1_000):
             status, out, err = run_in_little_memory([TOOLS / "lint", "-"], megabytes, data * 400 if megabytes == 40 else data)
             if megabytes == 40:
-                self.assertEqual((status, out, err), (command.FAILED, b"", "lint: out of memory\n"))
+                self.assertEqual((status, out, err), (exits.FAILED, b"", "lint: out of memory\n"))
             else:
-                self.assertEqual((status, out.count(b"\n"), err), (command.FAULTY, 9_002, ""))
+                self.assertEqual((status, out.count(b"\n"), err), (exits.FAULTY, 9_002, ""))
 
     def test_a_record_of_more_faults_than_memory(self):
         """The faults have room, and their record doesn't."""
@@ -249,12 +249,12 @@ class Failing(unittest.TestCase):
             status, out, err = run_in_little_memory([TOOLS / "lint", "--json", "-"], megabytes, data)
             made = json.loads(out)
             found = made["verdict"], made["status"], made["message"], made["faults"]
-            self.assertEqual((status, err, found), (command.FAILED, "lint: out of memory\n", ("failed", command.FAILED, "out of memory", [])))
+            self.assertEqual((status, err, found), (exits.FAILED, "lint: out of memory\n", ("failed", exits.FAILED, "out of memory", [])))
 
     def test_a_failed_import(self):
         run = "import sys; from lib.base import ending; ending.guard_tool('lint'); raise MemoryError"
         ran = subprocess.run([sys.executable, "-B", "-c", run], cwd=TOOLS, capture_output=True, text=True)
-        self.assertEqual((ran.returncode, ran.stderr), (command.FAILED, "lint: out of memory\n"))
+        self.assertEqual((ran.returncode, ran.stderr), (exits.FAILED, "lint: out of memory\n"))
 
 
 class Start(unittest.TestCase):
@@ -323,7 +323,7 @@ class Interrupted(unittest.TestCase):
         for words, limit in ((["--json", ""], None), (["--json", AUCTION], few)):
             ran = subprocess.run([sys.executable, "-I", "-S", TOOLS / "lint", *words], capture_output=True, preexec_fn=limit)
             found.append((ran.returncode, ran.stdout))
-        self.assertEqual([status for status, out in found if not out], [129, 130, 143, command.COMMAND_LINE, command.FAILED])
+        self.assertEqual([status for status, out in found if not out], [129, 130, 143, exits.COMMAND_LINE, exits.FAILED])
 
     def test_while_it_imports(self):
         """At its first module, then with one line: in the midst of an import that may take the exception for its own."""
@@ -337,7 +337,7 @@ class Interrupted(unittest.TestCase):
                     words = [sys.executable, "-I", "-S", "-B", "-c", CODE_OF_INTERRUPTED_IMPORT, TOOLS / name, module]
                     ran = subprocess.run(words, capture_output=True, text=True, stdin=subprocess.DEVNULL)
                     said = f"{'dam' if name == 'unproved' else name}: interrupted\n"
-                    right = (command.INTERRUPTED, "", said) if module in late else (-signal.SIGINT, "", "")
+                    right = (exits.INTERRUPTED, "", said) if module in late else (-signal.SIGINT, "", "")
                     self.assertEqual((ran.returncode, ran.stdout, ran.stderr), right, module)
                 # Packages of the system may run code before the tool, unless Python is to leave them.
                 self.assertEqual((TOOLS / name).read_text().partition("\n")[0], "#!/usr/bin/env -S python3 -I -S")
@@ -427,7 +427,7 @@ class Interrupted(unittest.TestCase):
         copy = "made = multiprocessing.get_context('fork').Process(target=time.sleep, args=(600,))"
         ends = "made.start(), time.sleep(0.5), made.terminate(), made.join(), print(made.exitcode)"
         main = f"def main():\n    {copy}\n    {ends}\n"
-        code = f"import multiprocessing, time\nfrom lib.tool import command\n{main}command.run_and_exit('report', main)\n"
+        code = f"import multiprocessing, time\nfrom lib.tool import exits\n{main}exits.run_and_exit('report', main)\n"
         ran = subprocess.run([sys.executable, "-B", "-c", code], cwd=TOOLS, capture_output=True, text=True, timeout=SECONDS)
         self.assertEqual((ran.returncode, ran.stdout, ran.stderr), (0, f"{-signal.SIGTERM}\n", ""))
 
@@ -497,15 +497,15 @@ class Interrupted(unittest.TestCase):
 
         said = io.StringIO()
         with self.assertRaises(SystemExit) as end, contextlib.redirect_stderr(said):
-            command.run_and_exit("audit", main)
-        self.assertEqual((end.exception.code, said.getvalue()), (command.INTERRUPTED, "audit: interrupted\n"))
+            exits.run_and_exit("audit", main)
+        self.assertEqual((end.exception.code, said.getvalue()), (exits.INTERRUPTED, "audit: interrupted\n"))
 
     def test_a_call_that_keeps_python_from_everything(self):
         """As HiGHS does; its process ends with the tool."""
         call = "lambda tell: (tell(str(os.getpid())), ctypes.PyDLL(None).sleep(600))"
         shown = "type('', (), {'show_time_or_raise': lambda self, words: print(words, flush=True), 'stop_and_erase': lambda self: None})()"
-        run = f"command.run_and_exit('audit', lambda: child_call.run_in_child({call}, {shown}, ''))"
-        main = f"import ctypes, os; from lib.base import child_call; from lib.tool import command; {run}"
+        run = f"exits.run_and_exit('audit', lambda: child_call.run_in_child({call}, {shown}, ''))"
+        main = f"import ctypes, os; from lib.base import child_call; from lib.tool import exits; {run}"
         words = [sys.executable, "-B", "-c", main]
         running = subprocess.Popen(words, stdout=subprocess.PIPE, stderr=subprocess.PIPE, cwd=TOOLS, text=True)
         try:
@@ -516,7 +516,7 @@ class Interrupted(unittest.TestCase):
         finally:
             running.kill()
             running.communicate()
-        self.assertEqual((running.returncode, err), (command.INTERRUPTED, "audit: interrupted\n"))
+        self.assertEqual((running.returncode, err), (exits.INTERRUPTED, "audit: interrupted\n"))
         self.assertFalse(Path(f"/proc/{child}").exists())
 
     def test_a_call_that_aborts(self):
@@ -524,16 +524,16 @@ class Interrupted(unittest.TestCase):
         shown = "type('', (), {'show_time_or_raise': lambda self, words: None, 'stop_and_erase': lambda self: None})()"
         call = "lambda tell: (os.write(2, b'no memory: ABORT'), os.abort())"
         said = "audit: a defect of this tool, please report it: Died: the search ended without an answer: memory may have run out (DAM_DEBUG=1 shows where)\n"
-        run = f"command.run_and_exit('audit', lambda: child_call.run_in_child({call}, {shown}, ''))"
-        main = f"import os; from lib.base import child_call; from lib.tool import command; {run}"
+        run = f"exits.run_and_exit('audit', lambda: child_call.run_in_child({call}, {shown}, ''))"
+        main = f"import os; from lib.base import child_call; from lib.tool import exits; {run}"
         ran = subprocess.run([sys.executable, "-B", "-c", f"from lib.base import ending; ending.guard_tool('audit'); {main}"], capture_output=True, text=True, cwd=TOOLS)
-        self.assertEqual((ran.returncode, ran.stderr), (command.FAILED, said))
+        self.assertEqual((ran.returncode, ran.stderr), (exits.FAILED, said))
 
     def test_a_call_that_dies(self):
         with self.assertRaisesRegex(child_call.Died, "^the search ended without an answer: memory may have run out$"):
             child_call.run_in_child(lambda tell: os._exit(1), Progress("audit", SECONDS), "")
-        for fault, status in ((child_call.Died("it ended"), command.FAILED), (TimeoutError("it is late"), command.UNDECIDED)):
-            with mock.patch.object(better, "search_by_highs_in_child", side_effect=fault), self.assertRaises(command.Stop) as stop:
+        for fault, status in ((child_call.Died("it ended"), exits.FAILED), (TimeoutError("it is late"), exits.UNDECIDED)):
+            with mock.patch.object(better, "search_by_highs_in_child", side_effect=fault), self.assertRaises(exits.Stop) as stop:
                 better.search_by_method_or_stop(None, None, better.HIGHS, None, 1)
             self.assertEqual((stop.exception.status, str(stop.exception)), (status, f"the results obey the other rules, but {fault}"))
 
@@ -566,20 +566,20 @@ class Written(unittest.TestCase):
                     for redirection, fault in (">/dev/full", "No space left on device"), (">&-", "Bad file descriptor"):
                         with self.subTest(name, words=given[2:], to=redirection):
                             said = f"{name}: standard output can't be written: {fault}"
-                            self.assertEqual(self.run_shell(given, redirection), (command.NO_INPUT, "", [said]))
+                            self.assertEqual(self.run_shell(given, redirection), (exits.NO_INPUT, "", [said]))
 
     def test_other_closed_streams(self):
         words = [sys.executable, TOOLS / "lint", "-"]
         said = "lint: standard input can't be read: Bad file descriptor"
-        self.assertEqual(self.run_shell(words, "<&-"), (command.NO_INPUT, "", [said]))
+        self.assertEqual(self.run_shell(words, "<&-"), (exits.NO_INPUT, "", [said]))
         for redirection in ("2>&-", "2>/dev/full"):
             for given in (["/nowhere/a.csv"], ["--none"]):
                 status, out, _ = self.run_shell([sys.executable, TOOLS / "lint", *given], redirection)
-                self.assertEqual((status in (command.COMMAND_LINE, command.NO_INPUT), out), (True, ""))
+                self.assertEqual((status in (exits.COMMAND_LINE, exits.NO_INPUT), out), (True, ""))
             words = [sys.executable, TOOLS / "table", AUCTION, AUCTION_RESULTS]
             status, out, _ = self.run_shell(words, redirection)
             self.assertEqual((status, len(out.splitlines())), (0, 25))
-        self.assertEqual(self.run_shell([sys.executable, TOOLS / "lint", "--quiet", AUCTION], ">&-"), (command.DIFFERS, "", []))
+        self.assertEqual(self.run_shell([sys.executable, TOOLS / "lint", "--quiet", AUCTION], ">&-"), (exits.DIFFERS, "", []))
 
 
 class Children(unittest.TestCase):
@@ -590,7 +590,7 @@ class Children(unittest.TestCase):
             Path(folder, "a.csv").write_bytes(AUCTION.read_bytes())
             Path(folder, "a.txt").write_bytes(AUCTION_RESULTS.read_bytes().replace(b"welfare,3", b"welfare,4"))
             ran = subprocess.run([sys.executable, "-c", IGNORING_SIGCHLD, TOOLS / "audit", "--days", folder], capture_output=True, text=True)
-            self.assertEqual((ran.stdout.splitlines()[1].split()[:2], ran.returncode), (["a", "wrong"], command.DIFFERS), ran.stderr)
+            self.assertEqual((ran.stdout.splitlines()[1].split()[:2], ran.returncode), (["a", "wrong"], exits.DIFFERS), ran.stderr)
 
     def test_runs_of_the_program(self):
         """A process that isn't a tool's can't see it, and so doesn't begin a run."""

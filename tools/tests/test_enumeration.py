@@ -13,7 +13,7 @@ from lib.audit import recursive_enumeration
 from lib.base import rules
 from lib.journal import book, journal
 from lib.results import period, selection
-from lib.tool import command, modules
+from lib.tool import exits, modules
 from lib.base.progress import Progress
 
 # Of this many days each kind that a test asks for comes up 15 times or more: with all of 20 seeds, so another draw in `days` does no harm.
@@ -252,12 +252,12 @@ class CommandLine(unittest.TestCase):
 
         found, _ = numpy_enumeration.search_with_numpy(day, frozenset(), selection.eligible_welfare_or_none(day, frozenset()), Progress("test", 600))
         status, out, _ = run_audit(data, results_of(data, found.accepted), "--best", "--jobs", "2")
-        self.assertEqual((status, b"each of 4,096 selections was tried" in out), (command.DONE, True))
+        self.assertEqual((status, b"each of 4,096 selections was tried" in out), (exits.DONE, True))
         status, out, _ = run_audit(data, results_of(data, frozenset()), "--best")
         names = " ".join(str(day.blocks[place]) for place in sorted(found.accepted))
         lines = out.decode().splitlines()
         euros = day.euros_text(found.welfare)
-        self.assertEqual(status, command.DIFFERS)
+        self.assertEqual(status, exits.DIFFERS)
         self.assertTrue(lines[0].startswith(f"a better selection accepts {names}: it has a greater welfare, {euros} EUR, which is "))
         self.assertEqual(lines[1], f"unlike the results it accepts {names}")
         better, published = (selection.outcome(day, accepted).cleared for accepted in (found.accepted, frozenset()))
@@ -277,7 +277,7 @@ class CommandLine(unittest.TestCase):
         for accepted in found.accepted, frozenset():
             text = data + b"results\n" + results_of(data, accepted)
             ran = [run_tool("audit", "--best", "-", data=text, python=python) for python in ([sys.executable], [sys.executable, "-S"])]
-            self.assertEqual(ran[0][0], command.DONE if accepted else command.DIFFERS)
+            self.assertEqual(ran[0][0], exits.DONE if accepted else exits.DIFFERS)
             self.assertEqual(ran[0][1].partition(b"; ")[0], ran[1][1].partition(b"; ")[0])
             self.assertEqual((ran[0][0], ran[0][2]), (ran[1][0], ran[1][2]))
 
@@ -287,7 +287,7 @@ class CommandLine(unittest.TestCase):
             data = make_family("market", "200", count)
             accepted = recursive_enumeration.search_recursively(problem_of(data))[0].accepted if count == "6" else frozenset()
             status, out, err = run_audit(data, results_of(data, accepted), "--best", *way, "--seconds", "0")
-            self.assertEqual((status, out), (command.UNDECIDED, b""), (way, err))
+            self.assertEqual((status, out), (exits.UNDECIDED, b""), (way, err))
             self.assertIn("after 0 seconds", err)
 
 

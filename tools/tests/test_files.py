@@ -22,7 +22,7 @@ from support import AUCTION, AUCTION_RESULTS, TOOLS, make_folder_for_case, read_
 
 from lib.base import ending, replacing
 from lib.sheets import day_tables
-from lib.tool import command, file_io, modules
+from lib.tool import exits, file_io, modules
 
 PACKAGES = {"plot": ["matplotlib"], "report": ["matplotlib", "jinja2"], "table": []}
 MARK, OLD = b"\xef\xbb\xbf", b"\xd0\xcf\x11\xe0\xa1\xb1\x1a\xe1"
@@ -60,16 +60,16 @@ class Files(unittest.TestCase):
         for name in TOOLS_HERE:
             for out in [link] if name == "plot" else [link, self.journal]:
                 said = f"{name}: {out} is one of the inputs, and would be lost: write to another file\n"
-                self.assertEqual(run_tool(name, *texts, "-o", out), (command.COMMAND_LINE, b"", said))
+                self.assertEqual(run_tool(name, *texts, "-o", out), (exits.COMMAND_LINE, b"", said))
         orders = self.folder / "orders.csv"
         self.assertEqual(run_tool("table", *texts, "--rows", "orders", "-o", orders)[0], 0)
         made = orders.read_bytes()
         for words in (["--journal", orders, "-o", orders], [self.journal, orders, "--all", self.folder]):
             status, _, err = run_tool("table", *words)
-            self.assertEqual((status, "is one of the inputs" in err, orders.read_bytes()), (command.COMMAND_LINE, True, made))
+            self.assertEqual((status, "is one of the inputs" in err, orders.read_bytes()), (exits.COMMAND_LINE, True, made))
         with orders.open() as given:
             words = [sys.executable, TOOLS / "table", "--journal", "-", "-o", orders]
-            self.assertEqual(subprocess.run(words, stdin=given, stderr=subprocess.DEVNULL).returncode, command.COMMAND_LINE)
+            self.assertEqual(subprocess.run(words, stdin=given, stderr=subprocess.DEVNULL).returncode, exits.COMMAND_LINE)
         self.assertEqual([path.read_bytes() for path in (*texts, orders)], [AUCTION.read_bytes(), read_results(AUCTION), made])
 
     def test_standard_output_is_no_input(self):
@@ -81,10 +81,10 @@ class Files(unittest.TestCase):
                     shown = "standard input" if words[0] == "-" and path == self.journal else path
                     ran = subprocess.run([sys.executable, TOOLS / name, *words], stdin=given, stdout=out, stderr=subprocess.PIPE)
                     said = f"{name}: standard output goes to {shown}, which is one of the inputs: write to another file\n"
-                    self.assertEqual((ran.returncode, ran.stderr.decode()), (command.NO_INPUT, said))
+                    self.assertEqual((ran.returncode, ran.stderr.decode()), (exits.NO_INPUT, said))
                     recorded = [sys.executable, TOOLS / name, "--json", *words]
                     ran = subprocess.run(recorded, stdin=given, stdout=out, stderr=subprocess.PIPE)
-                    self.assertEqual((ran.returncode, ran.stderr.decode()), (command.NO_INPUT, said))
+                    self.assertEqual((ran.returncode, ran.stderr.decode()), (exits.NO_INPUT, said))
         self.assertEqual([path.read_bytes() for path in texts], [AUCTION.read_bytes(), read_results(AUCTION)])
         with self.journal.open("ab") as out:
             said = f"standard output goes to {self.journal}, "
@@ -94,7 +94,7 @@ class Files(unittest.TestCase):
             subprocess.run(["openssl", "pkey", "-in", key, "-pubout", "-out", public], check=True)
             words = [sys.executable, TOOLS / "receipts", "heads", "--json", self.journal, "--key", public]
             ran = subprocess.run(words, stdout=out, stderr=subprocess.PIPE)
-            self.assertEqual((ran.returncode, said in ran.stderr.decode()), (command.NO_INPUT, True), ran.stderr)
+            self.assertEqual((ran.returncode, said in ran.stderr.decode()), (exits.NO_INPUT, True), ran.stderr)
             # also if another fault comes first
             absent = self.folder / "absent"
             for words in (
@@ -108,7 +108,7 @@ class Files(unittest.TestCase):
                 ["audit", "--json", absent, "--head", absent, "--salts", absent, "--key", absent, "--receipts", self.folder],
             ):
                 ran = subprocess.run([sys.executable, TOOLS / words[0], *words[1:]], stdout=out, stderr=subprocess.PIPE)
-                self.assertEqual((ran.returncode, said in ran.stderr.decode()), (command.NO_INPUT, True), ran.stderr)
+                self.assertEqual((ran.returncode, said in ran.stderr.decode()), (exits.NO_INPUT, True), ran.stderr)
         self.assertEqual(self.journal.read_bytes(), AUCTION.read_bytes())
         # a program that has closed it, and reads a file by dam_tools, may give its number to the file
         code = f"import sys; sys.path.insert(0, {str(TOOLS)!r}); import dam_tools; dam_tools.read_results(*sys.argv[1:])"
@@ -121,7 +121,7 @@ class Files(unittest.TestCase):
         out.write_text("old")
         for path in (out, self.folder / "new.csv"):
             ran = subprocess.run([*words, path], capture_output=True, text=True, **small)
-            self.assertEqual((ran.returncode, ran.stderr), (command.NO_INPUT, f"table: {path} can't be written: File too large\n"))
+            self.assertEqual((ran.returncode, ran.stderr), (exits.NO_INPUT, f"table: {path} can't be written: File too large\n"))
         self.assertEqual(out.read_text(), "old")
         self.assertEqual(sorted(path.name for path in self.folder.iterdir()), ["a.csv", "day.csv", "results.txt"])
 
@@ -131,7 +131,7 @@ class Files(unittest.TestCase):
         for out in ("dir/", "a.csv/", "a.csv/.", "a.xlsx/", "day.csv/", "day.csv/.", "."):
             said = f"table: {self.folder}/{out} can't be written: Is a directory\n"
             found = run_tool("table", "--quiet", self.journal, self.results, "-o", f"{self.folder}/{out}")
-            self.assertEqual(found, (command.NO_INPUT, b"", said))
+            self.assertEqual(found, (exits.NO_INPUT, b"", said))
         self.assertEqual(self.journal.read_bytes(), before)
         self.assertEqual(sorted(path.name for path in self.folder.iterdir()), ["day.csv", "results.txt"])
 
@@ -140,7 +140,7 @@ class Files(unittest.TestCase):
         small = {"preexec_fn": lambda: resource.setrlimit(resource.RLIMIT_FSIZE, (1_000, 1_000))}
         for words in (["--all", self.folder / "a.xlsx", self.journal, self.results], ["--template", self.folder / "a.xlsx"]):
             ran = subprocess.run([sys.executable, TOOLS / "table", "--quiet", *words], capture_output=True, text=True, **small)
-            self.assertEqual(ran.returncode, command.NO_INPUT, ran.stderr)
+            self.assertEqual(ran.returncode, exits.NO_INPUT, ran.stderr)
             self.assertTrue(ran.stderr.endswith(": File too large\n"), ran.stderr)
 
     def test_an_old_file_that_cant_be_replaced_stays_on_a_full_disk(self):
@@ -218,7 +218,7 @@ class Files(unittest.TestCase):
             for kind in ("a file", "a link"):
                 own.write_bytes(b"mine") if kind == "a file" else own.symlink_to("gone")
                 said = f"{name}: {out} is there already: name it by --out to replace it\n"
-                self.assertEqual(run_tool(name, *texts, *words), (command.COMMAND_LINE, b"", said), kind)
+                self.assertEqual(run_tool(name, *texts, *words), (exits.COMMAND_LINE, b"", said), kind)
                 self.assertEqual(own.is_symlink() or own.read_bytes(), kind == "a link" or b"mine")
                 own.unlink()
             self.assertEqual(run_tool(name, *texts, *words), (0, b"", ""))
@@ -247,7 +247,7 @@ class Files(unittest.TestCase):
             with mock.patch.object(file_io, "refuse_to_replace", functools.partial(looked, out)):
                 found = run_tool(name, *words)
             said = f"{NOTE if '--all' in words else ''}{name}: {out} is there already{advice}\n"
-            self.assertEqual((found, Path(out).read_bytes()), ((command.COMMAND_LINE, b"", said), b"of another run"))
+            self.assertEqual((found, Path(out).read_bytes()), ((exits.COMMAND_LINE, b"", said), b"of another run"))
         self.assertEqual([path for path in self.folder.rglob(".*")], [])
 
     def test_a_new_file_takes_no_name_that_another_has(self):
@@ -285,7 +285,7 @@ class Files(unittest.TestCase):
         self.assertEqual(run_tool("table", *texts, "--all", folder), (0, b"", NOTE))
         self.assertEqual({path.name for path in folder.iterdir()}, {f"{name}.csv" for name in day_tables.TABLES})
         said = f"{NOTE}table: {self.journal} can't be made: File exists\n"
-        self.assertEqual(run_tool("table", *texts, "--all", self.journal), (command.NO_INPUT, b"", said))
+        self.assertEqual(run_tool("table", *texts, "--all", self.journal), (exits.NO_INPUT, b"", said))
 
     def test_tables_replace_no_file_that_is_there(self):
         """Not by names that the tool gives them: the other tables aren't written either."""
@@ -299,7 +299,7 @@ class Files(unittest.TestCase):
             for words in ([], ["--decimal-comma"]):
                 said = f"table: {own} is there already: name another folder, or replace it by --replace\n"
                 found = run_tool("table", *texts, "--all", self.folder, *words)
-                self.assertEqual(found, (command.COMMAND_LINE, b"", said), kind)
+                self.assertEqual(found, (exits.COMMAND_LINE, b"", said), kind)
         self.assertEqual({path.name for path in self.folder.iterdir()}, {"day.csv", "results.txt", "orders.csv"})
         self.assertEqual(run_tool("table", *texts, "--all", self.folder, "--json"), (0, b"", NOTE))
         self.assertTrue(own.is_symlink())
@@ -317,11 +317,11 @@ class Files(unittest.TestCase):
         finally:
             resource.setrlimit(resource.RLIMIT_FSIZE, limits)
         said = f"{NOTE}table: {folder / 'statement.csv'} can't be written: File too large\n"
-        self.assertEqual((found, [path.read_bytes() for path in folder.iterdir()]), ((command.NO_INPUT, b"", said), [b"old"] * len(names)))
+        self.assertEqual((found, [path.read_bytes() for path in folder.iterdir()]), ((exits.NO_INPUT, b"", said), [b"old"] * len(names)))
         (folder / "figures.csv").unlink()
         (folder / "figures.csv").mkdir()
         said = f"{NOTE}table: {folder / 'figures.csv'} can't be written: Is a directory\n"
-        self.assertEqual(run_tool("table", *texts, "--replace", "--all", folder), (command.NO_INPUT, b"", said))
+        self.assertEqual(run_tool("table", *texts, "--replace", "--all", folder), (exits.NO_INPUT, b"", said))
         self.assertEqual({path.read_bytes() for path in folder.iterdir() if path.is_file()}, {b"old"})
         self.assertEqual(sorted(folder.iterdir()), names)
 
@@ -381,11 +381,11 @@ class Files(unittest.TestCase):
         self.journal.rename(named)
         self.journal.symlink_to(named.name)
         found = run_tool("table", *texts, "--replace", "--all", self.folder)
-        self.assertEqual(found, (command.COMMAND_LINE, b"", said.replace("day.csv", "periods.csv")))
+        self.assertEqual(found, (exits.COMMAND_LINE, b"", said.replace("day.csv", "periods.csv")))
         for words in ([], ["--all", self.folder / "a.xlsx"], ["-o", self.folder / "a.csv"], ["--journal"]):
             status, out, err = run_tool("table", *texts, "--replace", *words)
             said = "--replace goes with --all and the name of a folder"
-            self.assertEqual((status, out, said in err), (command.COMMAND_LINE, b"", True), words)
+            self.assertEqual((status, out, said in err), (exits.COMMAND_LINE, b"", True), words)
 
     def test_what_is_odd_about_results_is_said_in_words(self):
         """They are read nevertheless, and every tool first says the same as the audit."""
@@ -410,12 +410,12 @@ class Files(unittest.TestCase):
         for name in TOOLS_HERE:
             status, _, err = run_tool(name, self.journal, self.results, "-o", "-")
             said = f"{name}: the results break the rules (results line 2: the welfare is 4"
-            self.assertEqual((status, err.removeprefix(NOTE)[: len(said)]), (command.DIFFERS, said))
+            self.assertEqual((status, err.removeprefix(NOTE)[: len(said)]), (exits.DIFFERS, said))
         day = [self.journal, self.results]
         status, _, err = run_tool("compare", *day, AUCTION, AUCTION_RESULTS)
         said = "compare: the results break the rules"
-        self.assertEqual((status, err[: len(said)]), (command.DIFFERS, said))
-        self.assertEqual(run_tool("compare", AUCTION, AUCTION_RESULTS, *day)[0], command.DIFFERS)
+        self.assertEqual((status, err[: len(said)]), (exits.DIFFERS, said))
+        self.assertEqual(run_tool("compare", AUCTION, AUCTION_RESULTS, *day)[0], exits.DIFFERS)
 
 
 class OtherKinds(unittest.TestCase):
@@ -454,7 +454,7 @@ class OtherKinds(unittest.TestCase):
         for (name, words), (data, (kind, advice)) in itertools.product(tools.items(), files.items()):
             with self.subTest(name, kind=kind):
                 status, out, err = run_tool(name, *words, data=data)
-                self.assertEqual(status, command.FAULTY if name == "lint" else command.NO_INPUT)
+                self.assertEqual(status, exits.FAULTY if name == "lint" else exits.NO_INPUT)
                 said = (out.decode() if name == "lint" else err).splitlines()[:2]
                 self.assertTrue(any(kind in line and advice in line for line in said), said)
 
@@ -463,13 +463,13 @@ class OtherKinds(unittest.TestCase):
         for name in ("audit", *TOOLS_HERE):
             status, _, err = run_tool(name, AUCTION, "-", *([] if name == "audit" else ["-o", "-"]), data=packed)
             said = f"{name}: standard input is a compressed file (.gz) instead of results; gunzip FILE unpacks it\n"
-            self.assertEqual((status, err), (command.NO_INPUT, said))
+            self.assertEqual((status, err), (exits.NO_INPUT, said))
         # a workbook isn't results, and no tool makes results of it
         _, _, err = run_tool("table", AUCTION, "-", data=self.archive("xl/workbook.xml"))
         self.assertEqual(err, "table: standard input is an Excel workbook (.xlsx) instead of results\n")
         for data, kind in ((packed, "a compressed file (.gz): gunzip FILE"), (self.archive("a.csv"), "an archive (.zip): unzip FILE")):
             status, _, err = run_tool("table", "--journal", "-", data=data)
-            self.assertEqual((status, err), (command.NO_INPUT, f"table: standard input: this is {kind} unpacks it\n"))
+            self.assertEqual((status, err), (exits.NO_INPUT, f"table: standard input: this is {kind} unpacks it\n"))
         # alone, in place of the text of a day
         _, _, err = run_tool("table", "-", data=packed)
         self.assertEqual(err, "table: standard input is a compressed file (.gz) instead of a journal; gunzip FILE unpacks it\n")

@@ -17,7 +17,7 @@ import doctored
 import fake_dam
 from shared.days import Profiles, periods_by_hour
 from lib.base import rules
-from lib.tool import command, modules
+from lib.tool import exits, modules
 
 
 def write_fake_program(folder, name):
@@ -222,7 +222,7 @@ class Selections(unittest.TestCase):
             status, out = self.selections("--blocks", "7", "--count", "3", defect="lower")
             self.assertEqual((status, "is better" in out), (1, True), out)
             status, out = self.selections("--thin")
-            self.assertEqual((status, out), (command.FAILED, f"fuzz: {modules.missing_message('numpy')}\n"))
+            self.assertEqual((status, out), (exits.FAILED, f"fuzz: {modules.missing_message('numpy')}\n"))
 
 
 class Full(unittest.TestCase):

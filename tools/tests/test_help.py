@@ -12,7 +12,7 @@ from support import TOP, run_tool
 
 from lib.base import place
 from lib.runs import which
-from lib.tool import command, modules
+from lib.tool import exits, modules
 
 TOOLS = {"table": [], "lint": [], "plot": ["matplotlib"], "report": ["matplotlib", "jinja2"], "reading-list": [], "compare": []}
 TOOLS["receipts"] = ["cryptography"]
@@ -48,7 +48,7 @@ class Help(unittest.TestCase):
                     shown = re.sub(r"(?<!\S)tools/", f"{shlex.quote(sys.executable)} -B tools/", line)
                     ran = subprocess.run(["sh", "-c", shown], cwd=folder, capture_output=True, text=True)
                     # The lint finds the commands that the examples' books refuse.
-                    self.assertEqual(ran.returncode, command.DIFFERS if name == "lint" else 0, f"{line}\n{ran.stderr}")
+                    self.assertEqual(ran.returncode, exits.DIFFERS if name == "lint" else 0, f"{line}\n{ran.stderr}")
 
     def test_the_statuses_are_those_of_the_page(self):
         page = (TOP / "docs" / "FORMATS.md").read_text().partition("\n## The statuses of the tools\n")[2].partition("\n## ")[0]
@@ -95,7 +95,7 @@ class Help(unittest.TestCase):
             with self.subTest(words, name=name):
                 status, out, err = run_tool(name, *words)
                 said = f"error: argument {argument}: it is empty"
-                self.assertEqual((status, out, err.splitlines()[-1].split(": ", 1)[1]), (command.COMMAND_LINE, b"", said))
+                self.assertEqual((status, out, err.splitlines()[-1].split(": ", 1)[1]), (exits.COMMAND_LINE, b"", said))
 
     def test_defaults_are_said_to_be(self):
         for name, packages in {**TOOLS, "audit": []}.items():

@@ -17,7 +17,7 @@ from shared import days
 from lib.base import rules
 from lib.journal import book, fields, journal
 from lib.lint import lint
-from lib.tool import command
+from lib.tool import exits
 
 GOOD = b"day,24,,,,,,,\nsubmit,NORD,WIND-8,hour,sell,1200,8:450,,\nsubmit,GAS,UNIT-1,block,sell,6800,8:200;9:200,,\nclose,,,,,,,,\n"
 HOUR, BLOCK = GOOD.splitlines()[1:3]
@@ -106,7 +106,7 @@ class Hand(unittest.TestCase):
             self.check(data, ("line 1", said))
             for words in (["audit", "-", AUCTION], ["audit", AUCTION, "-"], ["table", "-", AUCTION], ["plot", AUCTION, "-"]):
                 status, out, err = run_tool(*words, data=data)
-                self.assertEqual((status, out, err.count("\n") <= 2), (command.NO_INPUT, b"", True), err)
+                self.assertEqual((status, out, err.count("\n") <= 2), (exits.NO_INPUT, b"", True), err)
                 self.assertIn("xcel workbook", err)
 
     def test_other_kinds_of_files(self):
@@ -250,16 +250,16 @@ class CommandLine(unittest.TestCase):
                     self.assertEqual(len(found), case.right_stdout.count(b",refused,"))
 
     def test_statuses(self):
-        self.assertEqual(run_tool("lint", "-", data=GOOD), (command.DONE, b"nothing is wrong\n", ""))
+        self.assertEqual(run_tool("lint", "-", data=GOOD), (exits.DONE, b"nothing is wrong\n", ""))
         status, out, _ = run_tool("lint", AUCTION)
-        self.assertEqual((status, out.splitlines()[-1], b"line 94, order: STAY of line 86" in out), (command.DIFFERS, b"1 refused command", True))
+        self.assertEqual((status, out.splitlines()[-1], b"line 94, order: STAY of line 86" in out), (exits.DIFFERS, b"1 refused command", True))
         self.assertEqual(run_tool("lint", "-", data=b"day,24\nclose\nclose\n")[1].splitlines()[-1], b"3 faults, 1 refused command")
-        self.assertEqual(run_tool("lint", "--quiet", "-", data=FIRST), (command.DIFFERS, b"", ""))
-        self.assertEqual(run_tool("lint", "/nowhere/a.csv")[0], command.NO_INPUT)
-        self.assertEqual(run_tool("lint", "--fo", "day", AUCTION)[0], command.COMMAND_LINE)
-        for data, status in ((b"day,24\n", command.FAULTY), (GOOD.replace(b"close", b"cancel"), command.FAULTY), (FIRST, command.DIFFERS)):
+        self.assertEqual(run_tool("lint", "--quiet", "-", data=FIRST), (exits.DIFFERS, b"", ""))
+        self.assertEqual(run_tool("lint", "/nowhere/a.csv")[0], exits.NO_INPUT)
+        self.assertEqual(run_tool("lint", "--fo", "day", AUCTION)[0], exits.COMMAND_LINE)
+        for data, status in ((b"day,24\n", exits.FAULTY), (GOOD.replace(b"close", b"cancel"), exits.FAULTY), (FIRST, exits.DIFFERS)):
             self.assertEqual(run_tool("lint", "--quiet", "-", data=data), (status, b"", ""))
-        self.assertEqual(run_tool("lint", "--json", "--quiet", AUCTION)[0], command.COMMAND_LINE)
+        self.assertEqual(run_tool("lint", "--json", "--quiet", AUCTION)[0], exits.COMMAND_LINE)
 
     def test_faults_come_before_refused_commands(self):
         """A day whose book refuses thousands of commands, and that has a record too many."""
@@ -267,7 +267,7 @@ class CommandLine(unittest.TestCase):
         data = GOOD.replace(again, again * rules.MOST_RECORDS)
         status, out, _ = run_tool("lint", "-", data=data)
         lines = out.decode().splitlines()
-        self.assertEqual((status, len(lines)), (command.FAULTY, rules.MOST_RECORDS))
+        self.assertEqual((status, len(lines)), (exits.FAULTY, rules.MOST_RECORDS))
         self.assertEqual(lines[0], f"line {rules.MOST_RECORDS + 1}: a journal has at most 10000 commands: remove the rest")
         self.assertTrue(lines[1].startswith("line 3, order: NORD has an order WIND-8 since line 2"))
         self.assertEqual(lines[-1], f"1 fault, {rules.MOST_RECORDS - 2} refused commands")
@@ -282,16 +282,16 @@ class CommandLine(unittest.TestCase):
         digest = hashlib.sha256(GOOD).hexdigest()
         inputs = [{"role": "journal", "file": "-", "bytes": len(GOOD), "sha256": digest}]
         empty = {"message": None, "version": rules.VERSION, "for": "clear", "inputs": inputs, "faults": [], "refused": []}
-        self.assertEqual((status, made, err), (command.DONE, {"verdict": "right", "status": 0, **empty}, ""))
+        self.assertEqual((status, made, err), (exits.DONE, {"verdict": "right", "status": 0, **empty}, ""))
         both = GOOD.replace(BLOCK, HOUR).replace(b"close", b"cancel,NORD,WIND_8,,,,,,\nclose")
         status, made, _ = self.record("--for", "replay", "-", data=both)
-        self.assertEqual([status, made["verdict"], made["status"], made["for"]], [command.FAULTY, "faulty", 7, "replay"])
+        self.assertEqual([status, made["verdict"], made["status"], made["for"]], [exits.FAULTY, "faulty", 7, "replay"])
         self.assertEqual([(one["line"], one["field"]) for one in made["faults"]], [(4, "order")])
         self.assertEqual([(one["line"], one["field"], one["reason"]) for one in made["refused"]], [(3, "order", "NameTaken")])
         self.assertTrue(made["faults"][0]["words"].endswith("write WIND-8"))
         self.assertEqual(self.record("-")[1]["faults"][0]["field"], None)
         status, made, _ = self.record(AUCTION)
-        self.assertEqual((status, made["verdict"], made["faults"], len(made["refused"])), (command.DIFFERS, "refused", [], 1))
+        self.assertEqual((status, made["verdict"], made["faults"], len(made["refused"])), (exits.DIFFERS, "refused", [], 1))
 
     def test_the_fields_of_the_page(self):
         page = (support.TOP / "docs" / "FORMATS.md").read_text().partition("\n`tools/lint --json` prints ")[2]
@@ -302,16 +302,16 @@ class CommandLine(unittest.TestCase):
     def test_a_record_of_a_file_that_cannot_be_read(self):
         status, made, err = self.record("/nowhere/a.csv")
         said = "/nowhere/a.csv can't be read: No such file or directory"
-        self.assertEqual((status, made["verdict"], made["message"], err), (command.NO_INPUT, "unread", said, f"lint: {said}\n"))
+        self.assertEqual((status, made["verdict"], made["message"], err), (exits.NO_INPUT, "unread", said, f"lint: {said}\n"))
         self.assertEqual(made["inputs"], [{"role": "journal", "file": "/nowhere/a.csv", "bytes": None, "sha256": None}])
         with unittest.mock.patch("lib.lint.lint.collect_findings", side_effect=MemoryError):
             status, made, err = self.record(AUCTION)
-        self.assertEqual((status, made["verdict"], made["message"], err), (command.FAILED, "failed", "out of memory", "lint: out of memory\n"))
+        self.assertEqual((status, made["verdict"], made["message"], err), (exits.FAILED, "failed", "out of memory", "lint: out of memory\n"))
 
     def test_a_name_with_bytes_that_are_not_utf_8(self):
         """No reader of JSON has to take half of a character."""
         path = support.make_folder_for_case(self) / os.fsdecode(b"\xff.csv")
-        for status, verdict in ((command.NO_INPUT, "unread"), (command.DONE, "right")):
+        for status, verdict in ((exits.NO_INPUT, "unread"), (exits.DONE, "right")):
             found, made, _ = self.record(path)
             self.assertEqual((found, made["verdict"], made["inputs"][0]["file"]), (status, verdict, f"{path.parent}/\\xff.csv"))
             path.write_bytes(GOOD)
@@ -321,7 +321,7 @@ class CommandLine(unittest.TestCase):
         status, _, err = run_tool("table", "--rows", "commands", "-", data=data)
         lines = err.splitlines()
         said = "table: standard input isn't a journal: input: BadField in record 2 field 6"
-        self.assertEqual((status, lines[0]), (command.NO_INPUT, said))
+        self.assertEqual((status, lines[0]), (exits.NO_INPUT, said))
         self.assertIn("  line 2, price: '12.50': it should be whole cents", lines[1])
         self.assertEqual((len(lines), lines[-1]), (7, "  and 2 more: see tools/lint"))
 

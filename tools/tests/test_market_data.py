@@ -12,7 +12,7 @@ from support import AUCTION, AUCTION_RESULTS, FIRST, QUARTERS, TOP, day_of, read
 from lib.base import clock, rules, text
 from lib.results import market_data, trades
 from lib.sheets import day_tables, table_operations
-from lib.tool import command, modules
+from lib.tool import exits, modules
 
 PAGE = (TOP / "docs" / "TABLES.md").read_text()
 
@@ -180,7 +180,7 @@ class Times(unittest.TestCase):
             (["--only", "8", "--participant", "GAS"], "statement, which has no column of periods: give --rows orders --long"),
         ):
             status, out, err = run_tool("table", *texts, *words)
-            self.assertEqual((status, out, said in err), (command.COMMAND_LINE, b"", True), err)
+            self.assertEqual((status, out, said in err), (exits.COMMAND_LINE, b"", True), err)
 
 
 class Json(unittest.TestCase):

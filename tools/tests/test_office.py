@@ -19,7 +19,7 @@ from support import TOOLS
 from lib.base import rules
 from lib.journal import book, journal
 from lib.seal import heads
-from lib.tool import command
+from lib.tool import exits
 
 try:
     from lib.seal import sealing
@@ -132,7 +132,7 @@ class Crashes(Office):
         def unreadable():
             raise faults.pop()
 
-        faults = [command.Stop("damaged"), OSError(errno.EMFILE, "too many open files")]
+        faults = [exits.Stop("damaged"), OSError(errno.EMFILE, "too many open files")]
         with patch_of_opening(disk):
             given = self.day_writer_of()
             task = asyncio.create_task(given.write_until_published())

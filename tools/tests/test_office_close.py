@@ -14,7 +14,7 @@ from unittest import mock
 from office_support import DAY, NAMES, PAST, Disk, Office, commands_of_records, patch_of_opening
 
 from lib.seal import heads
-from lib.tool import command
+from lib.tool import exits
 
 try:
     from lib.office import admission, day_writer, folder, observed, operate, outcome, published, refusals, web
@@ -273,7 +273,7 @@ class Closing(Office):
         files.path_of(folder.DESK).touch()
         for records, fault in ((["day,24"], "FieldCount in record 1"), (["day,24,,,,,,,", "close,A,,,,,,,"], "BadField in record 2 field 2")):
             shown = mock.patch.object(operate.asyncio, "run", lambda _: records)
-            with mock.patch.object(operate, "capture_records", mock.Mock()), shown, self.assertRaises(command.Stop) as caught:
+            with mock.patch.object(operate, "capture_records", mock.Mock()), shown, self.assertRaises(exits.Stop) as caught:
                 operate.capture_day_record_or_stop(files, "dam-desk")
             self.assertEqual(str(caught.exception), f"the journal of {DAY} can't be read: input: {fault}")
 
@@ -294,12 +294,12 @@ class Closing(Office):
                 mock.patch.multiple(operate, CLOSE_SECONDS=0.2, TELL_SECONDS=0.02, STEP=0.001),
                 mock.patch.object(self.office, "is_served", lambda: served),
                 mock.patch.object(files, "write_trial_or_raise", mock.Mock(side_effect=room)),
-                mock.patch.object(command, "print_note", lambda _, line: said.append(line)),
+                mock.patch.object(exits, "print_note", lambda _, line: said.append(line)),
             ):
                 if served:
-                    with self.assertRaises(command.Stop) as caught:
+                    with self.assertRaises(exits.Stop) as caught:
                         operate.close_and_wait_or_stop(self.office, DAY, files)
-                    self.assertEqual(caught.exception.status, command.UNDECIDED)
+                    self.assertEqual(caught.exception.status, exits.UNDECIDED)
                 else:
                     self.assertFalse(operate.close_and_wait_or_stop(self.office, DAY, files))
             self.assertEqual(len(said), len(words))

@@ -10,7 +10,7 @@ from unittest import mock
 from office_support import DAY, Disk, Office, commands_of_records, patch_of_opening
 
 from lib.seal import heads
-from lib.tool import command
+from lib.tool import exits
 
 try:
     from lib.seal import signing
@@ -128,7 +128,7 @@ class SignedHeads(Office):
                 found = operate.capture_status_record(self.office, "dam-desk")
                 self.assertEqual(found["days"][0]["state"], "stopped")
                 self.assertRegex(list(operate.status_lines(found))[2], "^  stopped: LostEntries: the desk's journal has 2 entries")
-                with self.assertRaisesRegex(command.Stop, f"^{DAY} is stopped, and wasn't closed: LostEntries"):
+                with self.assertRaisesRegex(exits.Stop, f"^{DAY} is stopped, and wasn't closed: LostEntries"):
                     operate.close_and_wait_or_stop(self.office, DAY, given.files)
             self.assertFalse(given.files.has_file(folder.CLOSE_NOW))
             self.assertEqual(operate.capture_status_record(self.office, "dam-desk")["days"][0]["state"], "open")

@@ -21,7 +21,7 @@ from support import AUCTION, TOOLS, TOP, capture_unsaid_members, run_tool
 
 from lib.base import async_child
 from lib.sheets import table_files
-from lib.tool import command, modules
+from lib.tool import exits, modules
 
 try:
     from lib.seal import signing
@@ -72,19 +72,19 @@ class Setup(Office):
             {"zone": "Atlantis"},
             {"zone": "../../etc/passwd"},
         ):
-            with self.subTest(**words), self.assertRaises(command.Stop) as caught:
+            with self.subTest(**words), self.assertRaises(exits.Stop) as caught:
                 self.terms(**words)
-            self.assertEqual(caught.exception.status, command.COMMAND_LINE)
+            self.assertEqual(caught.exception.status, exits.COMMAND_LINE)
 
     def test_a_day_that_is_not_made_makes_no_token(self):
         """Nobody would see it, and a further day prints only new ones."""
         self.write_and_read_participants("participant\nGAS\n")
         words, path = ["--close", "12:00", "--participants", self.office.path.parent / "p.csv"], self.office.path
-        self.assertEqual(run_tool("office", "init", path, "--day", "2099-11-29", *words)[0], command.DONE)
+        self.assertEqual(run_tool("office", "init", path, "--day", "2099-11-29", *words)[0], exits.DONE)
         self.write_and_read_participants("participant\nGAS\nWIND\n")
-        self.assertEqual(run_tool("office", "init", path, "--day", "2099-11-29", *words)[:2], (command.NO_INPUT, b""))
+        self.assertEqual(run_tool("office", "init", path, "--day", "2099-11-29", *words)[:2], (exits.NO_INPUT, b""))
         status, out, _ = run_tool("office", "init", path, "--day", "2099-11-30", *words)
-        self.assertEqual((status, [line[:5] for line in out.splitlines()[-1:]]), (command.DONE, [b"WIND."]))
+        self.assertEqual((status, [line[:5] for line in out.splitlines()[-1:]]), (exits.DONE, [b"WIND."]))
         self.assertEqual(sorted(self.office.list_folders_by_day()), ["2099-11-29", "2099-11-30"])
 
     def test_two_at_once_make_one_office(self):
@@ -116,7 +116,7 @@ class Setup(Office):
             try:
                 with setup.making_day(self.office, terms):
                     seen.append("a token")
-            except command.Stop as fault:
+            except exits.Stop as fault:
                 seen.append(str(fault))
 
         other = threading.Thread(target=make)
@@ -147,24 +147,24 @@ class Setup(Office):
             ran = subprocess.run([TOOLS / "office", *words, day, *more], stdout=stdout, stderr=subprocess.PIPE)
             os.close(stdout)
             said = b"%s was made; renew prints a new token for each participant whose token wasn't printed" % day.encode()
-            self.assertEqual((ran.returncode, ran.stderr.splitlines()), (command.NO_INPUT, [b"office: " + said, *last]))
+            self.assertEqual((ran.returncode, ran.stderr.splitlines()), (exits.NO_INPUT, [b"office: " + said, *last]))
             self.assertIn(day, self.office.list_folders_by_day())
 
     def test_a_public_key_of_another_key_is_seen(self):
         """By a start, and by a further day before it is made and a token is printed."""
         self.write_and_read_participants("participant\nGAS\n")
         words = ["--close", "12:00", "--participants", self.office.path.parent / "p.csv"]
-        self.assertEqual(run_tool("office", "init", self.office.path, "--day", "2099-11-29", *words)[0], command.DONE)
+        self.assertEqual(run_tool("office", "init", self.office.path, "--day", "2099-11-29", *words)[0], exits.DONE)
         public = self.office.path_of(folder.PUBLIC)
         kept = public.read_bytes()
         self.write_and_read_participants("participant\nGAS\nWIND\n")
         for other in (signing.public_bytes(signing.draw_key()), b"", kept[:-30]):
             public.write_bytes(other)
             with self.subTest(other=other):
-                with self.assertRaisesRegex(command.Stop, "operator.pem.pub isn't the public key of operator.pem"):
+                with self.assertRaisesRegex(exits.Stop, "operator.pem.pub isn't the public key of operator.pem"):
                     serving.Office(self.office, programs.Programs("dam", "dam-desk"), observed.Log(io.StringIO()))
                 status, out, err = run_tool("office", "init", self.office.path, "--day", "2099-11-30", *words)
-                self.assertEqual((status, out), (command.NO_INPUT, b""))
+                self.assertEqual((status, out), (exits.NO_INPUT, b""))
                 self.assertIn("isn't the public key of operator.pem", err)
                 self.assertEqual(list(self.office.list_folders_by_day()), ["2099-11-29"])
         public.write_bytes(kept.replace(b"\n", b"\r\n"))
@@ -175,7 +175,7 @@ class Setup(Office):
         found = self.write_and_read_participants("participant,commands\nA,100\nGAS,\nOIL,\n")
         self.assertEqual(setup.require_shares(found), {"A": 100, "GAS": 4_949, "OIL": 4_949})
         self.assertLessEqual(sum(setup.require_shares(dict.fromkeys(map(str, range(7)))).values()), folder.MOST_COMMANDS)
-        with self.assertRaises(command.Stop):
+        with self.assertRaises(exits.Stop):
             setup.require_shares({"A": 9_999, "B": None})
         for text in (
             "",
@@ -186,7 +186,7 @@ class Setup(Office):
             "participant,commands\nA,-1\n",
             "participant\nÄ\n",
         ):
-            with self.subTest(text=text), self.assertRaises(command.Stop):
+            with self.subTest(text=text), self.assertRaises(exits.Stop):
                 self.write_and_read_participants(text)
 
     def test_no_cell_of_the_participants_is_lost(self):
@@ -222,18 +222,18 @@ class Setup(Office):
             ("%PDF-1.4\n", None),
         ):
             said = f"{self.table}: {words}" if words else f"{self.table} is a PDF: save the table as .xlsx or as CSV"
-            with self.subTest(table=table), self.assertRaises(command.Stop) as caught:
+            with self.subTest(table=table), self.assertRaises(exits.Stop) as caught:
                 self.write_and_read_participants(table)
             self.assertEqual(str(caught.exception), said)
 
     def test_a_table_of_excel_is_read(self):
         for text in ("\ufeffparticipant,commands\r\nA,100\r\nGAS,\r\n", "\ufeffparticipant;commands\r\nA;100\r\nGAS;\r\n"):
             self.assertEqual(self.write_and_read_participants(text), {"A": 100, "GAS": None})
-        with self.assertRaisesRegex(command.Stop, "column commands: '²' should be a whole number"):
+        with self.assertRaisesRegex(exits.Stop, "column commands: '²' should be a whole number"):
             self.write_and_read_participants("participant,commands\nA,²\n")
         path = self.office.path.parent / "p.xlsx"
         path.write_bytes(b"PK\x03\x04\xff")
-        with self.assertRaisesRegex(command.Stop, "p.xlsx: line 1: the Excel workbook can't be read"):
+        with self.assertRaisesRegex(exits.Stop, "p.xlsx: line 1: the Excel workbook can't be read"):
             setup.read_shares_and_print_notes(path)
 
     def test_a_workbook_of_participants_is_read(self):
@@ -246,18 +246,18 @@ class Setup(Office):
         made.save(path)
         words = ["--day", "2099-11-29", "--close", "12:00", "--participants", path, "--json"]
         status, out, err = run_tool("office", "init", self.office.path, *words)
-        self.assertEqual((status, err), (command.DONE, f"office: note: {path}: of 2 sheets, 'Sheet' was read, but not 'notes'\n"))
+        self.assertEqual((status, err), (exits.DONE, f"office: note: {path}: of 2 sheets, 'Sheet' was read, but not 'notes'\n"))
         self.assertEqual(list(json.loads(out)["tokens"]), ["A", "GAS"])
         self.assertEqual(self.office.list_folders_by_day()["2099-11-29"].read_terms().shares, {"A": 100, "GAS": 9_899})
         made["Sheet"].append(["OIL", "=1+1"])
         made.save(path)
         said = "line 5, column commands: '=1\\+1' is a formula that was saved without its value: .*\n  of 2 sheets, 'Sheet' was read, but not 'notes'$"
-        with self.assertRaisesRegex(command.Stop, said):
+        with self.assertRaisesRegex(exits.Stop, said):
             setup.read_shares_and_print_notes(path)
 
     def test_a_table_without_the_column_is_named(self):
         for text in ("GAS\nWIND\n", "name,commands\nGAS,1\n", "", "participants\nGAS\n"):
-            with self.subTest(text=text), self.assertRaisesRegex(command.Stop, "no column participant"):
+            with self.subTest(text=text), self.assertRaisesRegex(exits.Stop, "no column participant"):
                 self.write_and_read_participants(text)
 
     def test_a_day_is_added_with_its_new_participants_alone(self):
@@ -270,7 +270,7 @@ class Setup(Office):
         terms, made = setup.make_or_extend_office(self.office, self.args(day=later[1], participants=path))
         self.assertEqual((list(made), list(terms.shares)), (["OIL"], ["A", "OIL"]))
         self.assertEqual(list(self.office.list_folders_by_day()), list(later))
-        with self.assertRaisesRegex(command.Stop, "already"):
+        with self.assertRaisesRegex(exits.Stop, "already"):
             setup.make_or_extend_office(self.office, self.args(day=later[1]))
         self.assertEqual([path.name for path in self.office.path_of(folder.DAYS).iterdir() if path.name.startswith(".")], [])
 
@@ -286,12 +286,12 @@ class Setup(Office):
     def test_a_demo_that_closes_too_early(self):
         """Before the orders are in that are its own."""
         for seconds in ("0", "-1", "86401", "1.5", "x"):
-            self.assertEqual(run_tool("office", "demo", "--no-browser", "--seconds", seconds)[0], command.COMMAND_LINE, seconds)
+            self.assertEqual(run_tool("office", "demo", "--no-browser", "--seconds", seconds)[0], exits.COMMAND_LINE, seconds)
         closed = mock.AsyncMock(side_effect=refusals.Refused(refusals.RequestFault.CLOSED, "closed"))
         writer = mock.Mock(is_ready=mock.Mock(wait=mock.AsyncMock()), submit_or_refuse=closed)
-        with self.assertRaisesRegex(command.Stop, r"^the demo's own orders weren't entered \(closed\): give more --seconds$") as raised:
+        with self.assertRaisesRegex(exits.Stop, r"^the demo's own orders weren't entered \(closed\): give more --seconds$") as raised:
             asyncio.run(demo.enter_orders_or_stop(writer))
-        self.assertEqual(raised.exception.status, command.COMMAND_LINE)
+        self.assertEqual(raised.exception.status, exits.COMMAND_LINE)
 
     def test_the_command_line(self):
         room = self.office.path.parent
@@ -301,19 +301,19 @@ class Setup(Office):
         self.assertEqual((status, err), (0, ""))
         made = json.loads(out)
         self.assertEqual((made["command"], list(made["tokens"]), made["closes"]), ("init", ["GAS"], "2099-11-27T11:00:00+00:00"))
-        self.assertEqual(run_tool("office", "init", self.office.path, *words)[0], command.NO_INPUT)
-        self.assertEqual(run_tool("office", "serve", self.office.path, "--host", "0.0.0.0")[0], command.COMMAND_LINE)
+        self.assertEqual(run_tool("office", "init", self.office.path, *words)[0], exits.NO_INPUT)
+        self.assertEqual(run_tool("office", "serve", self.office.path, "--host", "0.0.0.0")[0], exits.COMMAND_LINE)
         said = f"office: {room} isn't the folder of an office: tools/office init makes one\n"
-        self.assertEqual(run_tool("office", "serve", room), (command.NO_INPUT, b"", said))
+        self.assertEqual(run_tool("office", "serve", room), (exits.NO_INPUT, b"", said))
         held, aside = self.office.path_of(folder.PARTICIPANTS), self.office.path_of("aside")
         held.rename(aside)
         said = f"office: {held} is missing: put it back\n"
-        self.assertEqual(run_tool("office", "serve", self.office.path), (command.NO_INPUT, b"", said))
+        self.assertEqual(run_tool("office", "serve", self.office.path), (exits.NO_INPUT, b"", said))
         aside.rename(held)
-        self.assertEqual(run_tool("office", "revoke", self.office.path, "OIL")[0], command.NO_INPUT)
+        self.assertEqual(run_tool("office", "revoke", self.office.path, "OIL")[0], exits.NO_INPUT)
         status, out, _ = run_tool("office", "renew", self.office.path, "GAS")
         self.assertTrue(tokens.Register(self.office.path_of(folder.PARTICIPANTS)).is_token_of("GAS", out.decode().strip()))
-        self.assertEqual(run_tool("office", "publish", self.office.path)[0], command.NO_INPUT)
+        self.assertEqual(run_tool("office", "publish", self.office.path)[0], exits.NO_INPUT)
         self.assertEqual(run_tool("office", "revoke", self.office.path, "GAS")[0], 0)
         words[1] = "2099-11-29"
         status, out, _ = run_tool("office", "init", self.office.path, *words)
@@ -331,16 +331,16 @@ class Setup(Office):
         for name in ("close", "publish"):
             for words in ([self.office.path, "--", "--"], ["--", self.office.path, "--"]):
                 said = "office: there is no day --: there is 2099-11-29\n"
-                self.assertEqual(run_tool("office", name, *words), (command.NO_INPUT, b"", said), words)
+                self.assertEqual(run_tool("office", name, *words), (exits.NO_INPUT, b"", said), words)
         for name in ("revoke", "renew"):
             status, out, err = run_tool("office", name, self.office.path, "--", "--")
-            self.assertEqual((status, out), (command.COMMAND_LINE, b""))
+            self.assertEqual((status, out), (exits.COMMAND_LINE, b""))
             self.assertIn("argument NAME: '--' should be 1 to 8 letters A to Z\n", err)
         status, out, err = run_tool("office", "close", self.office.path, "--", "--", "--")
-        self.assertEqual((status, out, err.splitlines()[-1]), (command.COMMAND_LINE, b"", "office: error: unrecognized arguments: --"))
+        self.assertEqual((status, out, err.splitlines()[-1]), (exits.COMMAND_LINE, b"", "office: error: unrecognized arguments: --"))
         self.assertFalse(day.has_file(folder.CLOSE_NOW))
         said = b"2099-11-29 will be closed once the office is served\n"
-        self.assertEqual(run_tool("office", "close", self.office.path, "--"), (command.DONE, said, ""))
+        self.assertEqual(run_tool("office", "close", self.office.path, "--"), (exits.DONE, said, ""))
         self.assertTrue(day.has_file(folder.CLOSE_NOW))
 
     def test_the_words_on_a_day_with_results(self):
@@ -352,7 +352,7 @@ class Setup(Office):
             ("close", b"2099-11-29 is closed, and has its results\n"),
             ("publish", b"the journal, the results and the replies of 2099-11-29 are published\n"),
         ):
-            self.assertEqual(run_tool("office", name, self.office.path), (command.DONE, said, ""))
+            self.assertEqual(run_tool("office", name, self.office.path), (exits.DONE, said, ""))
 
     def test_the_members_of_each_record_are_described(self):
         (self.office.path.parent / "p.csv").write_text("participant\nGAS\n")
@@ -417,7 +417,7 @@ class Setup(Office):
             with self.subTest(path=path.name, asked=asked[0]):
                 status, out, err = run_tool("office", *asked)
                 said = f"not served, 1 participant\n{DAY}: can't be read\n".encode() if asked[0] == "status" else b""
-                self.assertEqual((status, out), (command.NO_INPUT, said))
+                self.assertEqual((status, out), (exits.NO_INPUT, said))
                 self.assertIn(f"{path} can't be used: Is a directory", err)
             path.rmdir()
 
@@ -427,8 +427,8 @@ class Setup(Office):
             with mock.patch.object(folder.replacing, "write_replacing", side_effect=fault), self.assertRaises(OSError) as caught:
                 self.write_office()
             self.assertRegex(caught.exception.filename, "operator.pem")
-            self.assertEqual(command.status_and_message(caught.exception)[0], command.NO_INPUT)
-            self.assertIn(f"{caught.exception.filename} can't be used: No space", command.status_and_message(caught.exception)[1])
+            self.assertEqual(exits.status_and_message(caught.exception)[0], exits.NO_INPUT)
+            self.assertIn(f"{caught.exception.filename} can't be used: No space", exits.status_and_message(caught.exception)[1])
         with mock.patch.object(os, "fsync", side_effect=full), self.assertRaises(OSError) as caught:
             folder.sync_folder(self.office.path)
         self.assertEqual(caught.exception.filename, str(self.office.path))
@@ -563,7 +563,7 @@ class Setup(Office):
             for damage in (b"{", b"[" * 100_000, *others(json.loads(kept))):
                 path.write_bytes(damage)
                 status, _, err = run_tool("office", "status", self.office.path, "--desk", "true")
-                self.assertEqual(status, command.NO_INPUT)
+                self.assertEqual(status, exits.NO_INPUT)
                 self.assertIn(f"{path} can't be used: it isn't {kind}", err)
             path.write_bytes(kept)
 
@@ -622,12 +622,12 @@ class Setup(Office):
         path.write_bytes(data)
         said = f"{path} can't be used: it isn't the terms of a day: {words}"
         with self.subTest(words):
-            with self.assertRaises(command.Stop) as fault:
+            with self.assertRaises(exits.Stop) as fault:
                 self.office.list_folders_by_day()[DAY].read_terms()
             self.assertEqual(str(fault.exception), said)
             if by_status:
                 status, _, err = run_tool("office", "status", self.office.path, "--desk", "true")
-                self.assertEqual((status, err), (command.NO_INPUT, f"office: {DAY}: {said}\n"))
+                self.assertEqual((status, err), (exits.NO_INPUT, f"office: {DAY}: {said}\n"))
 
     def test_the_status_has_the_other_days_of_one_that_cant_be_read(self):
         self.addCleanup(os.umask, os.umask(0o077))
@@ -636,12 +636,12 @@ class Setup(Office):
         setup.make_day_or_stop(self.office, folder.Terms(later, 24, FUTURE, "UTC", dict.fromkeys(NAMES, 10)))
         self.office.list_folders_by_day()[DAY].path_of(folder.TERMS).write_bytes(b"{")
         status, out, err = run_tool("office", "status", self.office.path, "--desk", "true")
-        self.assertEqual((status, out.decode().splitlines()[1]), (command.NO_INPUT, f"{DAY}: can't be read"))
+        self.assertEqual((status, out.decode().splitlines()[1]), (exits.NO_INPUT, f"{DAY}: can't be read"))
         self.assertTrue(out.decode().splitlines()[2].startswith(f"{later}: open, 0 entries"))
         self.assertIn(f"{DAY}: ", err)
         status, out, _ = run_tool("office", "status", self.office.path, "--desk", "true", "--json")
         made = json.loads(out)
-        self.assertEqual((status, made["status"], [one["day"] for one in made["days"]]), (command.NO_INPUT,) * 2 + ([DAY, later],))
+        self.assertEqual((status, made["status"], [one["day"] for one in made["days"]]), (exits.NO_INPUT,) * 2 + ([DAY, later],))
         self.assertIn("terms.json can't be used", made["days"][0]["fault"])
 
     def test_what_root_makes_is_the_owners(self):
@@ -662,9 +662,9 @@ class Setup(Office):
 
     def test_a_program_that_cant_be_run_is_seen_at_the_start(self):
         for dam, desk, missing in (("/nowhere/dam", "true", "dam"), ("true", "/nowhere/desk", "dam-desk"), ("true", __file__, "dam-desk")):
-            with self.subTest(dam=dam, desk=desk), self.assertRaisesRegex(command.Stop, f"the program {missing} can't be run: ") as caught:
+            with self.subTest(dam=dam, desk=desk), self.assertRaisesRegex(exits.Stop, f"the program {missing} can't be run: ") as caught:
                 programs.find_programs_and_clear_trial_or_stop(dam, desk)
-            self.assertEqual(caught.exception.status, command.FAILED)
+            self.assertEqual(caught.exception.status, exits.FAILED)
 
     def test_a_program_that_isnt_dam_is_seen_at_the_start(self):
         made = self.office.path.parent / "dam"
@@ -681,9 +681,9 @@ class Setup(Office):
         ):
             made.write_text(lines)
             seconds = mock.patch.object(programs, "TRIAL_SECONDS", 0.2 if "sleep" in lines else SECONDS)
-            with seconds, self.subTest(lines), self.assertRaisesRegex(command.Stop, f"didn't clear an empty day: .*: {fault}$") as caught:
+            with seconds, self.subTest(lines), self.assertRaisesRegex(exits.Stop, f"didn't clear an empty day: .*: {fault}$") as caught:
                 programs.find_programs_and_clear_trial_or_stop(made, "true")
-            self.assertEqual(caught.exception.status, command.FAILED)
+            self.assertEqual(caught.exception.status, exits.FAILED)
         made.write_text(f"#!/bin/sh\n{prints}")
         self.assertEqual(programs.find_programs_and_clear_trial_or_stop(made, "false"), (str(made), "false"))
 

@@ -15,7 +15,7 @@ from unittest import mock
 from office_support import DAY, NAMES, Office
 from support import TOOLS
 
-from lib.tool import command
+from lib.tool import exits
 
 try:
     from lib.office import budgets, folder, guards, observed, programs, refusals, tokens, web
@@ -99,7 +99,7 @@ class Tokens(Office):
         for path in [self.office.path, *self.office.path.rglob("*")]:
             self.assertEqual(stat.S_IMODE(path.stat().st_mode) & 0o077, 0, path)
         self.office.path_of(folder.KEY).chmod(0o644)
-        with self.assertRaisesRegex(command.Stop, "can be read by others"):
+        with self.assertRaisesRegex(exits.Stop, "can be read by others"):
             self.office.require_office()
 
     def test_defects_in_a_library_are_logged_once_a_minute(self):

@@ -13,7 +13,7 @@ from support import AUCTION, AUCTION_RESULTS, FIRST, QUARTERS, day_of, journal_o
 
 from lib.base import rules
 from lib.results import trades
-from lib.tool import command, modules
+from lib.tool import exits, modules
 
 PICTURES = ["day", "prices", "blocks"]
 # runs a tool as if these packages were missing
@@ -40,13 +40,13 @@ class Missing(unittest.TestCase):
         )
         for name, words in (("plot", self.words("matplotlib")), ("report", both)):
             status, out, err = run_tool(name, AUCTION, python=without)
-            self.assertEqual((status, out), (command.FAILED, b""))
+            self.assertEqual((status, out), (exits.FAILED, b""))
             self.assertEqual(err, f"{name}: it needs {words}\n")
         blocks = [f"submit,A,K{number},block,sell,1,1:1,," for number in range(rules.MOST_BLOCKS)]
         day = journal_of(*blocks)
         text = day + b"results\n" + results_of(day, frozenset())
         status, out, err = run_tool("audit", "--best", "-", data=text, python=without)
-        self.assertEqual((status, out), (command.FAILED, b""))
+        self.assertEqual((status, out), (exits.FAILED, b""))
         self.assertEqual(err, f"audit: it needs {self.words('numpy')}\n")
 
     @unittest.skipUnless(modules.is_debian_python(), "this isn't Debian's Python")
@@ -54,7 +54,7 @@ class Missing(unittest.TestCase):
         without = sys.executable, "-c", WITHOUT
         status, out, err = run_tool("office", "status", "folder", "--json", python=without)
         record = json.loads(out)
-        self.assertEqual((status, record["command"], record["status"]), (command.FAILED, "status", command.FAILED))
+        self.assertEqual((status, record["command"], record["status"]), (exits.FAILED, "status", exits.FAILED))
         self.assertIn("which Debian has in the package", record["message"])
         self.assertEqual(err, f"office: {record['message']}\n")
 
@@ -202,15 +202,15 @@ class Pictures(unittest.TestCase):
             self.assertTrue(Path(folder, "a.png").read_bytes().startswith(begins["png"]))
             self.assertEqual(run_tool("plot", *texts, "--period", 19, "-o", "-")[1][:5], begins["svg"])
             status, _, err = run_tool("plot", *texts, "--period", 7, "--picture", "blocks", "-o", f"{folder}/b.svg")
-            self.assertEqual((status, "not allowed with" in err), (command.COMMAND_LINE, True))
-            self.assertEqual(run_tool("plot", *texts, "--pict", "day")[0], command.COMMAND_LINE)
+            self.assertEqual((status, "not allowed with" in err), (exits.COMMAND_LINE, True))
+            self.assertEqual(run_tool("plot", *texts, "--pict", "day")[0], exits.COMMAND_LINE)
             self.assertEqual(run_tool("plot", *texts, "-o", f"{folder}/.PNG"), (0, b"", ""))
             self.assertTrue(Path(folder, ".PNG").read_bytes().startswith(begins["png"]))
             for words in (["-o", f"{folder}/a.gif"], ["-o", "svg"], ["-o", f"{folder}/a.svg/png"], ["--period", 25, "-o", f"{folder}/a.svg"], ["--picture=x"]):
-                self.assertEqual(run_tool("plot", *texts, *words)[0], command.COMMAND_LINE)
-            self.assertEqual(run_tool("plot", *texts, "-o", f"{folder}/none/a.svg")[0], command.NO_INPUT)
+                self.assertEqual(run_tool("plot", *texts, *words)[0], exits.COMMAND_LINE)
+            self.assertEqual(run_tool("plot", *texts, "-o", f"{folder}/none/a.svg")[0], exits.NO_INPUT)
             status, _, err = run_tool("plot", AUCTION, AUCTION, "-o", f"{folder}/a.svg")
-            self.assertEqual((status, "has a journal instead of results" in err), (command.NO_INPUT, True))
+            self.assertEqual((status, "has a journal instead of results" in err), (exits.NO_INPUT, True))
 
 
 @unittest.skipUnless(modules.has_module("matplotlib"), "matplotlib is missing (Debian's python3-matplotlib)")

@@ -8,7 +8,7 @@ from pathlib import Path
 
 from support import TOOLS, load_tool, run_tool
 
-from lib.tool import command
+from lib.tool import exits
 
 CRATES = "upper: lower\nlower:\ndam_engines: upper lower\ndam_gate: lower\ndam_c: dam_engines\n"
 LIB = {"lower": ["Limits", "Sizes", "Unused"], "upper": ["Rule"], "dam_engines": ["Engine"]}
@@ -271,11 +271,11 @@ pub fn law()
     def test_files_that_cannot_be_read_or_written(self):
         with tempfile.TemporaryDirectory() as folder:
             said = f"reading-list: {folder}/crates.txt can't be read: No such file or directory\n"
-            self.assertEqual(run_tool("reading-list", "--top", folder), (command.NO_INPUT, b"", said))
+            self.assertEqual(run_tool("reading-list", "--top", folder), (exits.NO_INPUT, b"", said))
         with open("/dev/full", "wb") as full:
             ran = subprocess.run([sys.executable, TOOLS / "reading-list"], stdout=full, stderr=subprocess.PIPE, text=True)
         said = "reading-list: standard output can't be written: No space left on device\n"
-        self.assertEqual((ran.returncode, ran.stderr), (command.NO_INPUT, said))
+        self.assertEqual((ran.returncode, ran.stderr), (exits.NO_INPUT, said))
 
 
 if __name__ == "__main__":

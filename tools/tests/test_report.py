@@ -15,7 +15,7 @@ import support
 from support import AUCTION, AUCTION_RESULTS, FIRST, QUARTERS, SUNNY, day_of, journal_of, read_results, results_of, run_tool
 
 from lib.results import trades
-from lib.tool import command, modules
+from lib.tool import exits, modules
 
 # Elements that have no end.
 VOID = {"meta", "br", "use", "path", "rect", "stop", "line", "circle"}
@@ -210,8 +210,8 @@ class Page(unittest.TestCase):
         own = [words for words in read.texts if words in ("START", "STAY", "EVENING", "FLEX-1", "FLEX-24")]
         self.assertLess(max(at for at, words in enumerate(own) if words in ("START", "STAY", "EVENING")), own.index("FLEX-1"))
         found = run_tool("report", *texts, "--participant", "NOBODY", "--curves", "none")
-        self.assertEqual(found, (command.NO_INPUT, b"", "report: NOBODY has no command in the journal\n"))
-        self.assertEqual(run_tool("report", *texts, "--participant", "gas")[0], command.COMMAND_LINE)
+        self.assertEqual(found, (exits.NO_INPUT, b"", "report: NOBODY has no command in the journal\n"))
+        self.assertEqual(run_tool("report", *texts, "--participant", "gas")[0], exits.COMMAND_LINE)
 
     def test_a_participants_rejected_block_says_which_limit_it_needed(self):
         """As the page of the day does, with amounts written alike."""
@@ -285,16 +285,16 @@ class Page(unittest.TestCase):
         self.assertEqual(b"Wednesday, 25 November 2026. A delivery day of 24 periods" in out, bool(words))
         with tempfile.TemporaryDirectory() as folder:
             out = Path(folder, "none", "a.html")
-            self.assertEqual(run_tool("report", "-", "--curves", "none", "-o", out, data=day)[0], command.NO_INPUT)
+            self.assertEqual(run_tool("report", "-", "--curves", "none", "-o", out, data=day)[0], exits.NO_INPUT)
 
     def test_wrong_command_lines(self):
         texts = [AUCTION, AUCTION_RESULTS, "-o", "-"]
         for words in ("25", "x", "1-25", "9-8", "0", ""):
-            self.assertEqual(run_tool("report", *texts, "--curves", words)[0], command.COMMAND_LINE)
-        self.assertEqual(run_tool("report", *texts, "--curve", "3")[0], command.COMMAND_LINE)
+            self.assertEqual(run_tool("report", *texts, "--curves", words)[0], exits.COMMAND_LINE)
+        self.assertEqual(run_tool("report", *texts, "--curve", "3")[0], exits.COMMAND_LINE)
         if modules.has_zone("Europe/Berlin"):
             for words in ("2026-03-29", "25.11.2026"):
-                self.assertEqual(run_tool("report", *texts, "--date", words)[0], command.COMMAND_LINE)
+                self.assertEqual(run_tool("report", *texts, "--date", words)[0], exits.COMMAND_LINE)
 
 
 if __name__ == "__main__":

@@ -19,7 +19,7 @@ from lib.base import rules, text
 from lib.journal import book, journal
 from lib.runs import cleared, cluster, errors, which
 from lib.sheets import table_files
-from lib.tool import command, modules
+from lib.tool import exits, modules
 from lib.whatif import changes, scenarios
 
 HEADS = "scenario,participant,order,kind,side,price_eur_mwh,periods,volume_mw,parent,group\n"
@@ -305,7 +305,7 @@ class Tool(unittest.TestCase):
             words = "scenarios", self.journal, self.table, "--program", write_doctored_program(self.folder, which.BUILT, mark, edit)
             for shown in scenarios.TABLES:
                 status, out, err = run_tool("whatif", *words, "--rows", shown)
-                self.assertEqual((status, out, len(err.splitlines())), (command.DIFFERS, b"", 1), err)
+                self.assertEqual((status, out, len(err.splitlines())), (exits.DIFFERS, b"", 1), err)
                 self.assertTrue(err.startswith(f"whatif: the program's results of {name} break the rules ({place}"), err)
 
     @unittest.skipUnless(which.BUILT.exists() and modules.has_module("numpy"), "the program isn't built, or numpy is missing")
@@ -325,7 +325,7 @@ class Tool(unittest.TestCase):
         ):
             program = write_doctored_program(self.folder, which.BUILT, mark, edit)
             status, out, err = run_tool("whatif", "scenarios", "--sample", 17, "--participant", "GEN", self.journal, "--program", program)
-            self.assertEqual((status, out == b""), (command.DIFFERS, True) if name else (0, False), err)
+            self.assertEqual((status, out == b""), (exits.DIFFERS, True) if name else (0, False), err)
             if name:
                 self.assertTrue(err.startswith(f"whatif: the program's results of {name} break the rules ({place}"), err)
 
@@ -352,7 +352,7 @@ class Tool(unittest.TestCase):
             self.table.write_text(f"{COMMANDS}a,,,,,,,,,,\na{character}b,,,,,,,,,,\n")
             said = f"whatif: {self.table}: line 3, column scenario: 'a{text.escaped(character)}b' has a control character: remove it\n"
             found = run_tool("whatif", "scenarios", "--program", "/bin/true", self.journal, self.table)
-            self.assertEqual(found, (command.NO_INPUT, b"", said))
+            self.assertEqual(found, (exits.NO_INPUT, b"", said))
 
     def test_a_name_that_no_cell_holds(self):
         """An apostrophe, or the escape of an escape, makes it longer than it was in the table."""
@@ -360,7 +360,7 @@ class Tool(unittest.TestCase):
             self.table.write_text(f"{COMMANDS}{name[:-1]},,,,,,,,,,\n{name},,,,,,,,,,\n")
             said = f"line 3, column scenario: '{name[:80]}..' ({len(name):,} characters) would be too long for a cell of the output: shorten it"
             found = run_tool("whatif", "scenarios", "--program", "/bin/true", self.journal, self.table)
-            self.assertEqual(found, (command.NO_INPUT, b"", f"whatif: {self.table}: {said}\n"))
+            self.assertEqual(found, (exits.NO_INPUT, b"", f"whatif: {self.table}: {said}\n"))
 
     def test_notes_come_before_a_fault(self):
         self.table.write_text(self.table.read_text().replace("group", "group,note"))
@@ -396,14 +396,14 @@ class Tool(unittest.TestCase):
             program.chmod(0o755)
             for name in ("change", "scenarios"):
                 found = run_tool("whatif", name, "--quiet", "--program", program, self.journal, self.table)
-                self.assertEqual(found, (command.NO_INPUT, b"", f"whatif: {cleared.NO_RESULTS}\n"), printed)
+                self.assertEqual(found, (exits.NO_INPUT, b"", f"whatif: {cleared.NO_RESULTS}\n"), printed)
 
     def test_few_files(self):
         words = [sys.executable, TOOLS / "whatif", "scenarios", "--program", "/bin/true", self.journal, self.table]
         limit = functools.partial(resource.setrlimit, resource.RLIMIT_NOFILE, (5, 5))
         ran = subprocess.run(words, capture_output=True, text=True, preexec_fn=limit)
         said = "whatif: the day as it was: /bin/true can't be run: Too many open files\n"
-        self.assertEqual((ran.returncode, ran.stdout, ran.stderr), (command.FAILED, "", said))
+        self.assertEqual((ran.returncode, ran.stdout, ran.stderr), (exits.FAILED, "", said))
 
     def test_bad_input_is_one_line(self):
         out = Path(self.folder, "out.csv")

@@ -13,7 +13,7 @@ from shared import days
 from lib.base import rules, subsequence
 from lib.journal import book, journal
 from lib.lint import sent
-from lib.tool import command, modules
+from lib.tool import exits, modules
 
 
 def audit(published, own, who="A", *words):
@@ -44,7 +44,7 @@ class Worked(unittest.TestCase):
 
     def differences(self, lines):
         status, out, err = audit(PUBLISHED, days.text_of_lines(lines))
-        self.assertEqual((status, err), (command.DIFFERS, ""))
+        self.assertEqual((status, err), (exits.DIFFERS, ""))
         head, *wrong = out.splitlines()
         count = "1 difference" if len(wrong) == 1 else f"{len(wrong)} differences"
         self.assertEqual(head, f"not as sent: {count} in the commands of A")
@@ -52,7 +52,7 @@ class Worked(unittest.TestCase):
 
     def test_as_sent(self):
         status, out, _ = audit(PUBLISHED, days.text_of_lines(OWN))
-        self.assertEqual(status, command.DONE)
+        self.assertEqual(status, exits.DONE)
         self.assertEqual(
             out.splitlines(),
             [
@@ -73,8 +73,8 @@ class Worked(unittest.TestCase):
         data = PUBLISHED.replace(b"cancel,B", f"{OWN[0]}\ncancel,B".encode())
         status, out, _ = audit(data, days.text_of_lines(OWN))
         said = ["not as sent: 1 difference in the commands of A", f"record 6 (command 5) of the journal repeats what was sent once: {OWN[0]}"]
-        self.assertEqual((status, out.splitlines()), (command.DIFFERS, said))
-        self.assertEqual(audit(data, days.text_of_lines([*OWN[:3], OWN[0], OWN[3]]))[0], command.DONE)
+        self.assertEqual((status, out.splitlines()), (exits.DIFFERS, said))
+        self.assertEqual(audit(data, days.text_of_lines([*OWN[:3], OWN[0], OWN[3]]))[0], exits.DONE)
 
     def test_changed(self):
         other = OWN[2].replace(",300,", ",301,")
@@ -91,7 +91,7 @@ class Worked(unittest.TestCase):
             f"sent record {number} is changed: it was '{was}', and record {number + 1} (command {number}) of the journal is '{now}'"
             for number, (was, now) in enumerate(zip(others, amends), 2)
         ]
-        self.assertEqual((status, out.splitlines()[1:]), (command.DIFFERS, said))
+        self.assertEqual((status, out.splitlines()[1:]), (exits.DIFFERS, said))
 
     def test_moved(self):
         said = f"sent record 1 is moved: record 7 (command 6) of the journal is out of its order: {OWN[3]}"
@@ -106,20 +106,20 @@ class Worked(unittest.TestCase):
         own = journal_of(*OWN)
         status, out, _ = audit(PUBLISHED, own)
         said = f"sent record 2 is record 2 (command 1) of the journal; the book's reply is done: {OWN[0]}"
-        self.assertEqual((status, out.count("\n"), said in out), (command.DONE, 5, True))
-        self.assertEqual(audit(PUBLISHED, own.replace(b"\n", b"\r\n\r\n"))[0], command.DONE)
+        self.assertEqual((status, out.count("\n"), said in out), (exits.DONE, 5, True))
+        self.assertEqual(audit(PUBLISHED, own.replace(b"\n", b"\r\n\r\n"))[0], exits.DONE)
         day = AUCTION.read_bytes() + b"results\n" + read_results(AUCTION)
-        self.assertEqual(audit(day, days.text_of_lines(own_lines(AUCTION.read_bytes(), "GAS")), "GAS")[0], command.DONE)
+        self.assertEqual(audit(day, days.text_of_lines(own_lines(AUCTION.read_bytes(), "GAS")), "GAS")[0], exits.DONE)
         table = b"participant,order,kind,side,price_eur_mwh,periods,volume_mw\nB,H1,hour,sell,0.50,1,1\n"
-        self.assertEqual(audit(PUBLISHED.replace(b"cancel,B,H1,,,,,,\n", b""), table, "B")[0], command.DONE)
+        self.assertEqual(audit(PUBLISHED.replace(b"cancel,B,H1,,,,,,\n", b""), table, "B")[0], exits.DONE)
         said = ["not as sent: 1 difference in the commands of B", "record 6 (command 5) of the journal was not sent: cancel,B,H1,,,,,,"]
         self.assertEqual(audit(PUBLISHED, table, "B")[1].splitlines(), said)
         # A whole market's file: of it, the participant's alone count.
         status, out, _ = audit(PUBLISHED, PUBLISHED)
-        self.assertEqual((status, out.splitlines()[0]), (command.DONE, f"{AS_SENT}, 1 of 4 commands refused (2 of others left out)"))
-        self.assertEqual(audit(PUBLISHED, b"", "C")[0], command.NO_INPUT)
+        self.assertEqual((status, out.splitlines()[0]), (exits.DONE, f"{AS_SENT}, 1 of 4 commands refused (2 of others left out)"))
+        self.assertEqual(audit(PUBLISHED, b"", "C")[0], exits.NO_INPUT)
         said = "as sent: 0 commands of C, each once, in their order, and no others\n"
-        self.assertEqual(audit(PUBLISHED, b"day,24,,,,,,,\n", "C")[:2], (command.DONE, said))
+        self.assertEqual(audit(PUBLISHED, b"day,24,,,,,,,\n", "C")[:2], (exits.DONE, said))
 
     def test_a_table_of_what_the_orders_are_at_the_end(self):
         """A table can't have an amend, and so is compared with the book too."""
@@ -127,19 +127,19 @@ class Worked(unittest.TestCase):
         rows = ["A,H1,hour,buy,3.00,1,1", "A,K1,block,buy,1.00,1-2,1", "C,H9,hour,buy,3.00,1,1"]
         status, out, _ = audit(PUBLISHED, days.text_of_lines([heads, *rows]))
         said = "as in the table: 2 orders of A in the book at the end, and no others, after 4 commands of A, 1 of 4 commands refused"
-        self.assertEqual((status, out), (command.DONE, f"{said} (1 of others left out)\n"))
+        self.assertEqual((status, out), (exits.DONE, f"{said} (1 of others left out)\n"))
         for other in ([rows[1], rows[0]], rows[:1], [rows[0].replace("3.00", "3.01"), rows[1]]):
-            self.assertEqual(audit(PUBLISHED, days.text_of_lines([heads, *other]))[0], command.DIFFERS)
+            self.assertEqual(audit(PUBLISHED, days.text_of_lines([heads, *other]))[0], exits.DIFFERS)
 
     def test_a_table_of_the_end_when_no_order_is_left(self):
         """B cancelled its only order, so a table of the orders at the end has none of it."""
         heads, row = "participant,order,kind,side,price_eur_mwh,periods,volume_mw", "A,H1,hour,buy,3.00,1,1"
         said = "as in the table: 0 orders of B in the book at the end, and no others, after 2 commands of B (1 of others left out)\n"
-        self.assertEqual(audit(PUBLISHED, days.text_of_lines([heads, row]), "B"), (command.DONE, said, ""))
+        self.assertEqual(audit(PUBLISHED, days.text_of_lines([heads, row]), "B"), (exits.DONE, said, ""))
         # Of one that has orders, or that the journal doesn't know, such a table says nothing; nor do records of others.
         uncancelled = PUBLISHED.replace(b"cancel,B,H1,,,,,,\n", b"")
         for data, own, who in ((uncancelled, [heads, row], "B"), (PUBLISHED, [heads, row], "C"), (PUBLISHED, OWN, "B")):
-            self.assertEqual(audit(data, days.text_of_lines(own), who)[:2], (command.NO_INPUT, ""))
+            self.assertEqual(audit(data, days.text_of_lines(own), who)[:2], (exits.NO_INPUT, ""))
 
     def test_a_row_of_no_participant_is_none_of_others(self):
         """A row whose participant can't be read may be of the participant that asks, and so may one that is shifted."""
@@ -154,9 +154,9 @@ class Worked(unittest.TestCase):
             ("C,A,H2,hour,buy,3.00,1,1", ": it has 8 cells, but the header has 7"),
         ):
             found = f"audit: sent isn't what A sent: its table has rows that aren't orders: line 4{said}\n"
-            self.assertEqual(audit(PUBLISHED, days.text_of_lines([*rows, row])), (command.NO_INPUT, "", found))
+            self.assertEqual(audit(PUBLISHED, days.text_of_lines([*rows, row])), (exits.NO_INPUT, "", found))
         others = [f"{who},H1,hour,buy,x,1," for who in ("C", "ABCDEFGH")]
-        self.assertEqual(audit(PUBLISHED, days.text_of_lines([*rows, *others]))[::2], (command.DONE, ""))
+        self.assertEqual(audit(PUBLISHED, days.text_of_lines([*rows, *others]))[::2], (exits.DONE, ""))
 
     def test_a_table_is_compared_both_ways(self):
         """For one with the orders at the end, only the differences there are reported, and not each amend that led to them."""
@@ -165,10 +165,10 @@ class Worked(unittest.TestCase):
         was, now = "submit,A,H1,hour,buy,301,1:10,,", "submit,A,H1,hour,buy,300,1:10,,"
         said = ["not as sent: 1 difference in the commands of A"]
         said.append(f"sent record 1 is changed: it was '{was}', and order 1 in the book at the end is '{now}'")
-        self.assertEqual((status, out.splitlines()), (command.DIFFERS, said))
+        self.assertEqual((status, out.splitlines()), (exits.DIFFERS, said))
         rows = ["A,H1,hour,buy,3.00,1,1", "A,K1,block,buy,1.00,1-2,1", "A,K2,block,buy,1,1,1"]
         status, out, _ = audit(PUBLISHED, days.text_of_lines([heads, *rows]))
-        self.assertEqual((status, "sent record 3 is missing in the book at the end: submit,A,K2," in out), (command.DIFFERS, True))
+        self.assertEqual((status, "sent record 3 is missing in the book at the end: submit,A,K2," in out), (exits.DIFFERS, True))
         status, out, _ = audit(PUBLISHED, days.text_of_lines([heads, "A,H1,hour,buy,3.00,1,1"]))
         self.assertIn("\norder 2 in the book at the end was not sent: submit,A,K1,", out)
 
@@ -177,11 +177,11 @@ class Worked(unittest.TestCase):
         heads = "what,participant,order,kind,side,price_eur_mwh,periods,volume_mw"
         rows = ["submit,A,H1,hour,buy,3.00,1,1", "cancel,A,K1,block,buy,1.00,1-2,1"]
         said = "it is a table of commands, with the column what: give records of a journal, or a table of orders"
-        wanted = (command.NO_INPUT, "", f"audit: sent isn't what A sent: {said}\n")
+        wanted = (exits.NO_INPUT, "", f"audit: sent isn't what A sent: {said}\n")
         self.assertEqual(audit(PUBLISHED, days.text_of_lines([heads, *rows])), wanted)
         heads, rows = heads.removeprefix("what,"), ["A,H1,hour,bye,3.00,1,1"]
         said = "audit: sent isn't what A sent: its table has rows that aren't orders: line 2, column side: 'bye' should be buy or sell\n"
-        self.assertEqual(audit(PUBLISHED, days.text_of_lines([heads, *rows])), (command.NO_INPUT, "", said))
+        self.assertEqual(audit(PUBLISHED, days.text_of_lines([heads, *rows])), (exits.NO_INPUT, "", said))
 
     @unittest.skipUnless(modules.has_module("openpyxl"), "openpyxl is missing (Debian's python3-openpyxl)")
     def test_a_workbook(self):
@@ -190,15 +190,15 @@ class Worked(unittest.TestCase):
             run_tool("table", "--quiet", "--rows", "orders", AUCTION, AUCTION_RESULTS, "-o", path)
             status, out, err = run_tool("audit", AUCTION, "--sent", path, "--participant", "STAD")
             said = "as sent: 24 commands of STAD, each once, in their order, and no others (65 of others left out)"
-            self.assertEqual((status, out.decode().splitlines()[0], err), (command.DONE, said, ""))
+            self.assertEqual((status, out.decode().splitlines()[0], err), (exits.DONE, said, ""))
 
     def test_notes_say_how_a_table_was_read(self):
         heads, row = "participant,order,kind,side,price_eur_mwh,periods,volume_mw,region", "A,H1,hour,buy,3.00,1,1,\u00fc"
         data = f"{heads}\n{row}\nA,K1,block,buy,1.00,1-2,1\n".encode("cp1252")
         notes = ["sent: line 2: the table isn't in UTF-8, and was read as Windows-1252", "sent: the column 'region' isn't used"]
         status, out, err = audit(PUBLISHED, data)
-        self.assertEqual((status, err.splitlines()), (command.DONE, [f"audit: {note}" for note in notes]))
-        self.assertEqual(audit(PUBLISHED, data, "A", "--quiet"), (command.DONE, "", ""))
+        self.assertEqual((status, err.splitlines()), (exits.DONE, [f"audit: {note}" for note in notes]))
+        self.assertEqual(audit(PUBLISHED, data, "A", "--quiet"), (exits.DONE, "", ""))
         status, out, again = audit(PUBLISHED, data, "A", "--json")
         self.assertEqual(([note.rpartition("/")[2] for note in json.loads(out)["notes"]], again), (notes, err))
         made = json.loads(audit(PUBLISHED, days.text_of_lines(OWN), "A", "--json")[1])
@@ -207,7 +207,7 @@ class Worked(unittest.TestCase):
         self.assertEqual((made["verdict"], made["sent"]), ("wrong", {"commands": 4, "refused": 1}))
         # Those of another table may be why it has none of the participant.
         said = ["audit: sent isn't what C sent: it has 2 commands of others, and none of C", *(note.removeprefix("sent: ") for note in notes)]
-        self.assertEqual(audit(PUBLISHED, data, "C"), (command.NO_INPUT, "", days.text_of_lines(said).decode()))
+        self.assertEqual(audit(PUBLISHED, data, "C"), (exits.NO_INPUT, "", days.text_of_lines(said).decode()))
         made = json.loads(audit(b"", data, "A", "--json")[1])
         self.assertEqual((made["notes"], made["sent"]), ([], None))
 
@@ -226,20 +226,20 @@ class Worked(unittest.TestCase):
 
             status, out = run(right, own, "--best")
             lines = [line for line in right.decode().splitlines() if line.split(",")[1] == "GAS"]
-            self.assertEqual(status, command.DONE)
+            self.assertEqual(status, exits.DONE)
             self.assertEqual([line.split(": ", 1)[1] for line in out.splitlines() if line.startswith("results line ")], lines)
             self.assertIn("no selection is better", out)
             status, out = run(right.replace(b"STAY,accepted", b"STAY,rejected"), own)
-            self.assertEqual((status, "\nas sent: " in out, "\nas the rules say: " in out), (command.DIFFERS, True, False))
+            self.assertEqual((status, "\nas sent: " in out, "\nas the rules say: " in out), (exits.DIFFERS, True, False))
             self.assertRegex(out, r"\Anot as the rules say: \d+ faults in the results\nresults line \d+: ")
             status, out = run(right, own.replace(b"STAY", b"STAI"))
-            self.assertEqual((status, "is missing in the journal" in out), (command.DIFFERS, True))
+            self.assertEqual((status, "is missing in the journal" in out), (exits.DIFFERS, True))
             self.assertEqual(("\nas sent: " in out, "\nas the rules say: " in out), (False, True))
             self.assertRegex(out, r"\Anot as sent: \d+ differences in the commands of GAS\nsent record \d+ is ")
             # Both wrong: each part has its headline, and is cut by itself.
             status, out = run(right.replace(b",500\n", b",501\n"), days.text_of_lines(["cancel,GAS,X,,,,,,"] * 30))
             heads = [line for line in out.splitlines() if line.startswith("not as ")]
-            self.assertEqual((status, len(heads), out.count("more: --all")), (command.DIFFERS, 2, 1))
+            self.assertEqual((status, len(heads), out.count("more: --all")), (exits.DIFFERS, 2, 1))
 
     def test_what_no_participant_sends(self):
         for own, said in (
@@ -266,10 +266,10 @@ class Worked(unittest.TestCase):
                 "  line 2: the fields of this line are separated by semicolons: separate them by commas",
             ),
         ):
-            self.assertEqual(audit(PUBLISHED, days.text_of_lines(own)), (command.NO_INPUT, "", f"audit: sent isn't what A sent: {said}\n"))
+            self.assertEqual(audit(PUBLISHED, days.text_of_lines(own)), (exits.NO_INPUT, "", f"audit: sent isn't what A sent: {said}\n"))
         for own in (b"welfare,0\n", b"", b"\xff"):
             status, out, err = audit(PUBLISHED, own)
-            self.assertEqual((status, out), (command.NO_INPUT, ""))
+            self.assertEqual((status, out), (exits.NO_INPUT, ""))
             self.assertIn("audit: sent isn't what A sent: it has no journal records and isn't a table of orders: ", err)
 
     def test_command_line(self):
@@ -280,10 +280,10 @@ class Worked(unittest.TestCase):
             ["--sent", AUCTION, "--participant", "GAS", "--replies"],
             [AUCTION, "--sent", AUCTION, "--participant", "GAS", "--replies"],
         ):
-            self.assertEqual(run_tool("audit", AUCTION, *words)[:2], (command.COMMAND_LINE, b""), words)
-        self.assertEqual(run_tool("audit", "-", "--sent", "-", "--participant", "GAS")[0], command.COMMAND_LINE)
+            self.assertEqual(run_tool("audit", AUCTION, *words)[:2], (exits.COMMAND_LINE, b""), words)
+        self.assertEqual(run_tool("audit", "-", "--sent", "-", "--participant", "GAS")[0], exits.COMMAND_LINE)
         status, _, err = audit(read_results(AUCTION), days.text_of_lines(OWN))
-        self.assertEqual((status, err), (command.NO_INPUT, "audit: journal has results instead of a journal\n"))
+        self.assertEqual((status, err), (exits.NO_INPUT, "audit: journal has results instead of a journal\n"))
 
 
 class Drawn(unittest.TestCase):
@@ -374,8 +374,8 @@ class Drawn(unittest.TestCase):
         words = ["--seconds", "0", "--json"]
         status, out, err = audit(PUBLISHED, days.text_of_lines([OWN[3], *OWN[:3]]), "A", *words)
         said = "after 0 seconds, the commands of A aren't compared yet: --seconds gives more time"
-        self.assertEqual((status, json.loads(out)["message"], err), (command.UNDECIDED, said, f"audit: {said}\n"))
-        self.assertEqual(audit(PUBLISHED, days.text_of_lines(OWN), "A", *words)[0], command.DONE)
+        self.assertEqual((status, json.loads(out)["message"], err), (exits.UNDECIDED, said, f"audit: {said}\n"))
+        self.assertEqual(audit(PUBLISHED, days.text_of_lines(OWN), "A", *words)[0], exits.DONE)
 
 
 class InOrder(unittest.TestCase):

@@ -15,7 +15,7 @@ from support import AUCTION, AUCTION_RESULTS, TOP, journal_of, read_results, res
 from lib.base import clock, rules, text
 from lib.journal import journal
 from lib.sheets import cell_values, command_table, order_table, table_files
-from lib.tool import command, modules
+from lib.tool import exits, modules
 
 HEADER = "participant,order,kind,side,price_eur_mwh,periods,volume_mw,parent,group"
 TEXTS = [AUCTION, AUCTION_RESULTS]
@@ -175,7 +175,7 @@ class Columns(unittest.TestCase):
                 f"table: {other}: line 2, column volume_mw: 'x' should be a number of MW, such as 92.5",
                 f"table: {other}: line 2, column order: A has an order K1 in line 2 of {one} (NameTaken)",
             ]
-            self.assertEqual((status, out, err.splitlines()), (command.NO_INPUT, b"", said))
+            self.assertEqual((status, out, err.splitlines()), (exits.NO_INPUT, b"", said))
 
 
 class Times(unittest.TestCase):
@@ -258,7 +258,7 @@ class ForSpreadsheets(unittest.TestCase):
 
     def test_a_journal_is_no_table_of_orders(self):
         status, _, err = run_tool("table", "--journal", AUCTION)
-        self.assertEqual((status, err), (command.NO_INPUT, f"table: {AUCTION}: this seems to be a journal already\n"))
+        self.assertEqual((status, err), (exits.NO_INPUT, f"table: {AUCTION}: this seems to be a journal already\n"))
 
     def test_an_empty_number(self):
         said = ["line 2, column price_eur_mwh: it is empty, or a formula that wasn't saved with its value: it should be a number of"]
@@ -273,9 +273,9 @@ class ForSpreadsheets(unittest.TestCase):
             data = table(",".join(cells))
             said = f"line 2, column {column}: '{zeros[:80]}..' (5,002 characters) has more than {said} after the decimal point"
             self.assertEqual(wrong(",".join(cells)), [said])
-            self.assertEqual(run_tool("table", "--journal", "-", data=data), (command.NO_INPUT, b"", f"table: standard input: {said}\n"))
+            self.assertEqual(run_tool("table", "--journal", "-", data=data), (exits.NO_INPUT, b"", f"table: standard input: {said}\n"))
             status, out, _ = run_tool("audit", AUCTION, "--sent", "-", "--participant", "GAS", "--json", data=data)
-            self.assertEqual((status, zeros[:80] in out.decode()), (command.NO_INPUT, True))
+            self.assertEqual((status, zeros[:80] in out.decode()), (exits.NO_INPUT, True))
 
     def test_a_space_that_separates_thousands(self):
         for space, quoted in ((" ", " "), ("\u00a0", "\\xa0"), ("\u202f", "\\u202f"), ("  ", "  ")):
@@ -379,7 +379,7 @@ class ForSpreadsheets(unittest.TestCase):
         book.save(out)
         status, _, err = run_tool("table", "--journal", "-", data=out.getvalue())
         said = "table: standard input: line 4, column periods: '2026-08-20' should be periods and runs of them, such as 8, 8-20 or 1;3;5-7,"
-        self.assertEqual((status, err.startswith(said)), (command.NO_INPUT, True), err)
+        self.assertEqual((status, err.startswith(said)), (exits.NO_INPUT, True), err)
         sheet.delete_rows(4)
         out = io.BytesIO()
         book.save(out)
@@ -391,7 +391,7 @@ class ForSpreadsheets(unittest.TestCase):
         for data in (table_files.XLSX, table_files.XLSX + bytes(1_000)):
             status, out, err = run_tool("table", "--journal", "-", data=data)
             said = "table: standard input: line 1: the Excel workbook can't be read: "
-            self.assertEqual((status, out, err.startswith(said)), (command.NO_INPUT, b"", True), err)
+            self.assertEqual((status, out, err.startswith(said)), (exits.NO_INPUT, b"", True), err)
 
 
 class Tolerance(unittest.TestCase):
@@ -421,10 +421,10 @@ class Tolerance(unittest.TestCase):
         # two names that differ by capitals alone are one
         said = run_tool("table", "--journal", "-", data=table("A,K,hour,buy,1,8,5,,", "a,k,hour,buy,1,9,5,,"))
         words = "table: standard input: line 3, column order: A has an order K in line 2 of standard input (NameTaken)\n"
-        self.assertEqual(said[::2], (command.NO_INPUT, words))
+        self.assertEqual(said[::2], (exits.NO_INPUT, words))
         # other characters, and names of other tools, stay faults
         for name in ("my_k", "\u00f8", "ABCDEFGHIJKLm", "", "stra\u00df", "\ufb01x", "\u0131-\u017f"):
-            self.assertEqual(run_tool("table", "--journal", "-", data=table(f"A,{name},hour,buy,1,8,5,,"))[0], command.NO_INPUT)
+            self.assertEqual(run_tool("table", "--journal", "-", data=table(f"A,{name},hour,buy,1,8,5,,"))[0], exits.NO_INPUT)
         self.assertIn("write TOWN", wrong(rows[0])[0])
 
     def test_texts_in_other_codes(self):
@@ -505,7 +505,7 @@ class Tolerance(unittest.TestCase):
         ):
             self.assertEqual(self.read(saved(*sheets_of)), ([f"submit,A,{name},hour,buy,100,8:50,,"], said))
         status, _, err = run_tool("table", "--journal", "-", data=saved(notes, ("more", [["x"]])))
-        self.assertEqual((status, "line 1: there is no column participant, order, kind" in err), (command.NO_INPUT, True), err)
+        self.assertEqual((status, "line 1: there is no column participant, order, kind" in err), (exits.NO_INPUT, True), err)
         self.assertIn("table: standard input: of 2 sheets, 'notes' was read, but not 'more'\n", err)
         err = run_tool("table", "--journal", "-", data=saved(notes, ("x", [*orders("H"), ["A", "I", "hour", "buy", 1, "99", 5]])))[2]
         said = ["line 3, column periods: the day has periods 1 to 24, so there is no period 99 (PeriodOutOfDay)"]
@@ -542,8 +542,8 @@ class Tolerance(unittest.TestCase):
             self.assertEqual(made, ["submit,NORD,WIND-8,hour,sell,1200,8:450,,",
                                     f"submit,GAS,UNIT-1,block,sell,6800,{';'.join(f'{number}:100' for number in range(8, 21))},,"])
             for words in (["--template", path, path], ["--template", path, "--journal"], ["--template", "a.csv"], ["--journal"]):
-                self.assertEqual(run_tool("table", *words)[0], command.COMMAND_LINE)
-            self.assertEqual(run_tool("table", "--template", "/nowhere/a.xlsx")[0], command.NO_INPUT)
+                self.assertEqual(run_tool("table", *words)[0], exits.COMMAND_LINE)
+            self.assertEqual(run_tool("table", "--template", "/nowhere/a.xlsx")[0], exits.NO_INPUT)
 
     @WITH_EXCEL
     def test_a_template_that_was_filled_in_stays(self):
@@ -554,7 +554,7 @@ class Tolerance(unittest.TestCase):
             for place in (path, link):
                 status, out, err = run_tool("table", "--template", place)
                 said = f"table: {place} is there already, and may have been filled in: write to another file\n"
-                self.assertEqual((status, out, err), (command.COMMAND_LINE, b"", said))
+                self.assertEqual((status, out, err), (exits.COMMAND_LINE, b"", said))
             self.assertEqual((path.read_bytes(), sorted(os.listdir(folder))), (b"filled in", ["link.xlsx", "orders.xlsx"]))
 
 
@@ -607,7 +607,7 @@ class Statement(unittest.TestCase):
 
     def test_a_participant_without_a_command_is_a_fault(self):
         """Such as one whose name is misspelt: a script would take an empty table for an answer."""
-        said = (command.NO_INPUT, b"", "table: C has no command in the journal\n")
+        said = (exits.NO_INPUT, b"", "table: C has no command in the journal\n")
         for words in ([], ["--rows", "orders"], ["--rows", "commands"], ["--quiet"]):
             self.assertEqual(run_tool("table", "--participant", "C", *words, "-", data=self.DAY), said)
 

@@ -8,7 +8,7 @@ from support import AUCTION, QUARTERS, journal_of, problem_of, read_cleared_case
 from test_audit import changed_numbers
 
 from lib.results import results, sums, trades
-from lib.tool import command
+from lib.tool import exits
 
 # ONE's sell of period 1 sets its price, 40 EUR; the block K1 loses there, and its child K2 gains more in period 2.
 FAMILY = journal_of(
@@ -123,12 +123,12 @@ class Tool(unittest.TestCase):
             amount = day.problem.euros_text(sum(total.paid for total in trades.totals(day).values()))
             status, out, _ = run_audit(case.read_bytes(), read_results(case))
             wanted = f"by adding: buyers pay {amount} EUR, sellers receive {amount} EUR; "
-            self.assertEqual((status, out.decode().count(f"\n{wanted}")), (command.DONE, 1))
+            self.assertEqual((status, out.decode().count(f"\n{wanted}")), (exits.DONE, 1))
 
     def test_faults_and_amounts_are_in_the_record(self):
         status, out, _ = run_audit(FAMILY, ACCEPTED.replace(b"K1,accepted,-5000", b"K1,accepted,-250001"), "--json")
         made = json.loads(out)
-        self.assertEqual((status, made["checked"]), (command.DIFFERS, ["results", "sums"]))
+        self.assertEqual((status, made["checked"]), (exits.DIFFERS, ["results", "sums"]))
         self.assertEqual([fault["kind"] for fault in made["faults"]], ["surplus", "loss", "sum"])
         self.assertEqual([fault["line"] for fault in made["faults"]], [29, 29, 2])
         day = made["day"]

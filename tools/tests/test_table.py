@@ -17,7 +17,7 @@ from support import AUCTION, AUCTION_RESULTS, FIRST, QUARTERS, QUARTERS_RESULTS,
 from lib.base import rules, text
 from lib.journal import book, journal
 from lib.sheets import command_table, day_tables, order_table, table_files
-from lib.tool import command, modules, output
+from lib.tool import exits, modules, output
 
 HEADER = "participant,order,kind,side,price_eur_mwh,periods,volume_mw,parent,group"
 HOUR = "NORD,WIND-8,hour,sell,12.5,8,45,,"
@@ -320,7 +320,7 @@ class CommandLine(unittest.TestCase):
             for more, is_done in ((["--only", "8"], name in shown), (["--date", "2026-11-25"], name in shown), (["--date", "2026-11-25", "--json"], True)):
                 with self.subTest(name, more=more):
                     status, _, said = run_tool("table", *texts, "--rows", name, *more)
-                    self.assertEqual(status, command.DONE if is_done else command.COMMAND_LINE)
+                    self.assertEqual(status, exits.DONE if is_done else exits.COMMAND_LINE)
                     self.assertEqual("give --rows orders --long" in said, name == "statement" and not is_done)
 
         names = ["command", "what", "order", "price_eur_mwh", "periods", "volume_mw", "reply", "reason"]
@@ -348,7 +348,7 @@ class CommandLine(unittest.TestCase):
         day, hour, block, close = out.splitlines()
         self.assertEqual((status, day, hour), (0, b"day,96,,,,,,,", b"submit,NORD,WIND,hour,sell,1250,96:450,,"))
         self.assertEqual((block.count(b":1;"), close), (95, b"close,,,,,,,,"))
-        self.assertEqual(run_tool("table", "--journal", "-", "--periods=91", data=rows.encode())[0], command.COMMAND_LINE)
+        self.assertEqual(run_tool("table", "--journal", "-", "--periods=91", data=rows.encode())[0], exits.COMMAND_LINE)
         texts = [QUARTERS, QUARTERS_RESULTS]
         periods = run_tool("table", *texts)[1].decode().splitlines()
         self.assertEqual((len(periods), periods[96].split(",")[:5]), (97, ["96", "0.25", "74.00", "385.0", "yes"]))
@@ -370,9 +370,9 @@ class CommandLine(unittest.TestCase):
         early = "is before Europe/Berlin had a time in whole minutes: it should be a later day"
         for date, words in (("9999-12-31", end), ("0001-01-01", end), ("1582-10-10", early), ("1893-03-31", early)):
             said = f"--date {date} {words}\n"
-            self.assertEqual(run_tool("table", *texts, "--date", date), (command.COMMAND_LINE, b"", f"table: {said}"))
+            self.assertEqual(run_tool("table", *texts, "--date", date), (exits.COMMAND_LINE, b"", f"table: {said}"))
             if modules.has_module("matplotlib") and modules.has_module("jinja2"):
-                self.assertEqual(run_tool("report", *texts, "-o", "-", "--date", date), (command.COMMAND_LINE, b"", f"report: {said}"))
+                self.assertEqual(run_tool("report", *texts, "-o", "-", "--date", date), (exits.COMMAND_LINE, b"", f"report: {said}"))
 
     def test_more_cells_than_the_header_has(self):
         """A number with a comma is two cells, also if the row's last one is empty."""
@@ -387,7 +387,7 @@ class CommandLine(unittest.TestCase):
                 status, out, err = run_tool("table", "--journal", "-", data=f"{header}\n{row}\n{end}".encode())
                 width = header.rstrip(",").count(",") + 1
                 said = f"table: standard input: line 2: it has {cells} cells, but the header has {width}\n"
-                self.assertEqual((status, out, err), (command.NO_INPUT, b"", said), row)
+                self.assertEqual((status, out, err), (exits.NO_INPUT, b"", said), row)
         for header, row in ((heads, "NORD,A,hour,buy,12,8,100"), (f"{heads},,", "NORD,A,hour,buy,12,8,100,"), (heads, ",,,,,,,,,,,")):
             status, out, err = run_tool("table", "--journal", "-", data=f"{header}\n{row}\n".encode())
             self.assertEqual((status, b"NORD" in out), (0, "NORD" in row), err)
@@ -430,7 +430,7 @@ class CommandLine(unittest.TestCase):
         for last, cells in (("COAL,PEAK,block,sell,80,8-20,90", 7), ("COAL,PEAK,block,sell,80", 5), (BLOCK[:-5], 8), ("C", 1)):
             words = f"has {cells} cell{'s' * (cells > 1)} and no line end, but the header has 9"
             said = f"table: standard input: line 3: the last line {words}: get the whole file, or end the line if nothing is lost\n"
-            self.assertEqual(run_tool("table", "--journal", "-", data=f"{rows}{last}".encode()), (command.NO_INPUT, b"", said))
+            self.assertEqual(run_tool("table", "--journal", "-", data=f"{rows}{last}".encode()), (exits.NO_INPUT, b"", said))
         for last in ('COAL,PEAK,block,sell,80,8-9,"90', 'COAL,PEAK,block,sell,80,8-9,"', 'COAL,PEAK,block,sell,80,8-9,90,,"FI'):
             self.assertIn("line 3, column ", run_tool("table", "--journal", "-", data=f"{rows}{last}".encode())[2])
         for last, cell in ((BLOCK, "FILL"), (BLOCK[:-1], "FIL"), (BLOCK[:-4], ""), (f'{BLOCK[:-4]}"FILL"', None)):
@@ -446,7 +446,7 @@ class CommandLine(unittest.TestCase):
         texts = [AUCTION, AUCTION_RESULTS]
         for option in ("--participant", "--only", "--rows", "--date", "--periods"):
             status, out, err = run_tool("table", *texts, f"{option}=--")
-            self.assertEqual((status in (command.COMMAND_LINE, command.NO_INPUT), out, "--" in err), (True, b"", True), (option, err))
+            self.assertEqual((status in (exits.COMMAND_LINE, exits.NO_INPUT), out, "--" in err), (True, b"", True), (option, err))
         with tempfile.TemporaryDirectory() as folder:
             words = [support.TOOLS / "table", *texts, "--out=--"]
             self.assertEqual(subprocess.run([sys.executable, *words], cwd=folder, capture_output=True).returncode, 0)
@@ -459,11 +459,11 @@ class CommandLine(unittest.TestCase):
             words = [sys.executable, support.TOOLS / "table", AUCTION, AUCTION_RESULTS, "--date", "2026-11-25"]
             ran = subprocess.run(words, capture_output=True, text=True, env={**os.environ, "PYTHONTZPATH": folder})
             said = "table: it needs the world's time zones, which Debian has in the package tzdata: apt-get install tzdata\n"
-            self.assertEqual((ran.returncode, ran.stdout, ran.stderr), (command.FAILED, "", said))
+            self.assertEqual((ran.returncode, ran.stdout, ran.stderr), (exits.FAILED, "", said))
 
     def test_more_rows_than_a_sheet_has(self):
         most, said = table_files.MOST_LINES, "the table prices has 1,048,577 rows, but a sheet of an Excel workbook has at most 1,048,576"
-        with self.assertRaisesRegex(command.Stop, f"^{said}: write it as .csv$"):
+        with self.assertRaisesRegex(exits.Stop, f"^{said}: write it as .csv$"):
             output.workbook_bytes_or_stop({"few": [["hour"]], "prices": [["hour"]] * (most + 1)})
 
     def test_a_table_without_orders(self):
@@ -474,7 +474,7 @@ class CommandLine(unittest.TestCase):
     def test_faults(self):
         texts = [AUCTION, AUCTION_RESULTS]
         status, out, err = run_tool("table", "--journal", "-", data=f"{HEADER}\n{HOUR},x\n".encode())
-        self.assertEqual((status, out), (command.NO_INPUT, b""))
+        self.assertEqual((status, out), (exits.NO_INPUT, b""))
         self.assertEqual(err, "table: standard input: line 2: it has 10 cells, but the header has 9\n")
         for words in (
             ["--journal", AUCTION, "--participant", "GAS"],
@@ -490,22 +490,22 @@ class CommandLine(unittest.TestCase):
             [*texts, "--all", ".", "-o", "a.csv"],
         ):
             status, out, err = run_tool("table", *words)
-            self.assertEqual((status, out, "can't be used with" in err), (command.COMMAND_LINE, b"", True), words)
+            self.assertEqual((status, out, "can't be used with" in err), (exits.COMMAND_LINE, b"", True), words)
         said = "table: --periods can't be used with tables of results: it belongs to --journal\n"
-        self.assertEqual(run_tool("table", *texts, "--periods", "24"), (command.COMMAND_LINE, b"", said))
+        self.assertEqual(run_tool("table", *texts, "--periods", "24"), (exits.COMMAND_LINE, b"", said))
         said = "table: --only 99: it should be periods and runs of them, such as 8, 8-20 or 1,3,5-7, from 1 to 24\n"
-        self.assertEqual(run_tool("table", *texts, "--only", "99"), (command.COMMAND_LINE, b"", said))
+        self.assertEqual(run_tool("table", *texts, "--only", "99"), (exits.COMMAND_LINE, b"", said))
         for words in ([*texts, "--row", "orders"], ["--journ", AUCTION], ["--journal", "-", "--period", "24"]):
             status, out, err = run_tool("table", *words)
-            self.assertEqual((status, "unrecognized arguments" in err), (command.COMMAND_LINE, True), words)
-        self.assertEqual(run_tool("table", "--rows", "rows", AUCTION)[0], command.COMMAND_LINE)
-        self.assertEqual(run_tool("table", AUCTION)[0], command.NO_INPUT)
+            self.assertEqual((status, "unrecognized arguments" in err), (exits.COMMAND_LINE, True), words)
+        self.assertEqual(run_tool("table", "--rows", "rows", AUCTION)[0], exits.COMMAND_LINE)
+        self.assertEqual(run_tool("table", AUCTION)[0], exits.NO_INPUT)
         status, _, err = run_tool("table", "-", data=b"day,24,,,,,,,\nresults\nday,24\n")
         self.assertEqual(
             (status, err),
-            (command.NO_INPUT, "table: no command of standard input closes the book, so it has no results\n"),
+            (exits.NO_INPUT, "table: no command of standard input closes the book, so it has no results\n"),
         )
-        self.assertEqual(run_tool("table", AUCTION, AUCTION_RESULTS, "-o", "/nowhere/a.csv")[0], command.NO_INPUT)
+        self.assertEqual(run_tool("table", AUCTION, AUCTION_RESULTS, "-o", "/nowhere/a.csv")[0], exits.NO_INPUT)
 
 
 if __name__ == "__main__":

@@ -14,7 +14,7 @@ from support import AUCTION, SUNNY, TOP, run_tool
 
 from lib.journal import book, journal
 from lib.seal import heads
-from lib.tool import command
+from lib.tool import exits
 
 try:
     from lib.receipts import receipts, under_head
@@ -205,7 +205,7 @@ class Audit(Audited):
         Path("sealed/receipts/A.jsonl").unlink()
         Path("sealed/receipts/A.jsonl").write_bytes(b"x\n" * heads.MOST_ENTRIES)
         counted = mock.patch.object(heads, "parse_value_and_is_written", wraps=heads.parse_value_and_is_written)
-        with counted as parsed, self.assertRaisesRegex(command.Stop, r"A\.jsonl line 1: "):
+        with counted as parsed, self.assertRaisesRegex(exits.Stop, r"A\.jsonl line 1: "):
             under_head.read_findings_of_folder("sealed/receipts", receipts.read_key("key.pem.pub"))
         self.assertEqual(parsed.call_count, 1)
 

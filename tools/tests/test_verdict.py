@@ -20,7 +20,7 @@ from support import AUCTION, AUCTION_RESULTS, QUARTERS, TOOLS, TOP, journal_of, 
 from lib.audit import day_audit, verdict
 from lib.base import rules
 from lib.results import encodings, faults
-from lib.tool import command
+from lib.tool import exits
 
 DATA, TEXT = AUCTION.read_bytes(), read_results(AUCTION)
 MARK = b"\xef\xbb\xbf"
@@ -49,16 +49,16 @@ class Encoding(unittest.TestCase):
         for text, said in self.others():
             with self.subTest(said):
                 wanted = f"the encoding differs: {said}\n{self.RIGHT}"
-                self.assertEqual(run_audit(DATA, text), (command.ENCODING, wanted.encode(), ""))
+                self.assertEqual(run_audit(DATA, text), (exits.ENCODING, wanted.encode(), ""))
                 for one, other in (b"welfare,3", b"welfare,4"), (b"accepted", b"rejected"), (b"period,2,", b"period,3,"):
                     encoding = "utf-16" if said.endswith("UTF-16") else "latin-1"
                     wrong = text.decode(encoding).replace(one.decode(), other.decode(), 1).encode(encoding)
                     if wrong != text:
                         status, out, _ = run_audit(DATA, wrong, "--best")
-                        self.assertEqual((status, out.startswith(wanted.splitlines()[0].encode())), (command.DIFFERS, True))
+                        self.assertEqual((status, out.startswith(wanted.splitlines()[0].encode())), (exits.DIFFERS, True))
         both = MARK + PRINTED["CR LF"]
         status, out, _ = run_audit(DATA, both)
-        self.assertEqual((status, out.count(b"the encoding differs: ")), (command.ENCODING, 2))
+        self.assertEqual((status, out.count(b"the encoding differs: ")), (exits.ENCODING, 2))
 
     def test_many_fields_in_quotes(self):
         """They are read in parts, each of whole fields: that takes the memory of a few such texts, and the fields are the same."""
@@ -77,7 +77,7 @@ class Encoding(unittest.TestCase):
     def test_replies_and_days(self):
         replies = b"day,24\r\n1,done\r\n"
         said = b"the encoding differs: the lines end with CR LF instead of LF alone\nas the rules say: 1 reply\n"
-        self.assertEqual(run_audit(journal_of(), replies, "--replies"), (command.ENCODING, said, ""))
+        self.assertEqual(run_audit(journal_of(), replies, "--replies"), (exits.ENCODING, said, ""))
         day = DATA + b"results\n" + TEXT
         for other, part in (
             (day.replace(b"\n", b"\r\n"), b"the journal of the day isn't in its written form"),
@@ -85,13 +85,13 @@ class Encoding(unittest.TestCase):
             (day.replace(b"results\n", b"results\r\n"), b"the line 'results' ends with CR LF instead of LF alone"),
         ):
             status, out, _ = run_tool("audit", "-", data=other)
-            self.assertEqual((status, part in out), (command.ENCODING, True))
-        self.assertEqual(run_audit(DATA.replace(b"\n", b"\r\n"), TEXT)[0], command.DONE)
+            self.assertEqual((status, part in out), (exits.ENCODING, True))
+        self.assertEqual(run_audit(DATA.replace(b"\n", b"\r\n"), TEXT)[0], exits.DONE)
 
     def test_a_better_selection_is_wrong_in_each_encoding(self):
         worse = results_of(DATA, frozenset({0, 1})).replace(b"\n", b"\r\n")
-        self.assertEqual(run_audit(DATA, worse)[0], command.ENCODING)
-        self.assertEqual(run_audit(DATA, worse, "--best")[0], command.DIFFERS)
+        self.assertEqual(run_audit(DATA, worse)[0], exits.ENCODING)
+        self.assertEqual(run_audit(DATA, worse, "--best")[0], exits.DIFFERS)
 
 
 class Record(unittest.TestCase):
@@ -162,7 +162,7 @@ class Record(unittest.TestCase):
         self.assertEqual((made["verdict"], made["search"]["tried"], made["search"]["selections"]), ("undecided", 0, 512))
         self.assertEqual((made["search"]["better"], made["search"]["how"]), (None, None))
         for words in ("--quiet", "--all"):
-            self.assertEqual(run_audit(DATA, TEXT, "--json", words)[0], command.COMMAND_LINE)
+            self.assertEqual(run_audit(DATA, TEXT, "--json", words)[0], exits.COMMAND_LINE)
 
     def test_a_record_if_files_or_memory_run_out(self):
         """Its status is the tool's, also if an import fails."""
@@ -171,7 +171,7 @@ class Record(unittest.TestCase):
             limit = functools.partial(resource.setrlimit, resource.RLIMIT_NOFILE, (files, files))
             ran = subprocess.run(words, capture_output=True, preexec_fn=limit)
             made = json.loads(ran.stdout)
-            self.assertEqual((ran.returncode, made["verdict"]), (command.FAILED, "failed"), files)
+            self.assertEqual((ran.returncode, made["verdict"]), (exits.FAILED, "failed"), files)
             self.assertEqual(ran.stderr.decode(), f"audit: {made['message']}\n")
         text = (TOOLS / "audit").read_text()
         (start,) = re.findall(r"^from lib\.base import audit_record.*\n\nending\.last_duties\.append.*$", text, re.MULTILINE)
@@ -179,11 +179,11 @@ class Record(unittest.TestCase):
         for more, keys in ([], {"verdict", "search", "inputs"}), (["--days", "x"], {"counts", "days"}), (["--days=x"], {"counts", "days"}):
             ran = subprocess.run([sys.executable, "-B", "-c", run, "--json", *more], cwd=TOOLS, capture_output=True)
             made = json.loads(ran.stdout)
-            self.assertEqual((ran.returncode, made["status"], made["message"]), (command.FAILED, command.FAILED, "out of memory"))
+            self.assertEqual((ran.returncode, made["status"], made["message"]), (exits.FAILED, exits.FAILED, "out of memory"))
             self.assertLessEqual(keys, made.keys())
         for words in ([], ["--", "--json"]):
             ran = subprocess.run([sys.executable, "-B", "-c", run, *words], cwd=TOOLS, capture_output=True)
-            self.assertEqual((ran.returncode, ran.stdout), (command.FAILED, b""))
+            self.assertEqual((ran.returncode, ran.stdout), (exits.FAILED, b""))
 
     def test_a_name_that_is_not_utf_8(self):
         """No half of a surrogate pair is in a record: not every reader takes one."""
@@ -201,7 +201,7 @@ class Record(unittest.TestCase):
         """They are one fault, and take neither time nor memory."""
         for more, words in ((b"x\n" * 10**6, []), (b"1,done\n" * 10**6, ["--replies"])):
             made, _ = self.record(DATA, (b"day,24\n" if words else TEXT) + more, *words)
-            self.assertEqual(made["status"], command.DIFFERS)
+            self.assertEqual(made["status"], exits.DIFFERS)
             (fault,) = [fault for fault in made["faults"] if "those after line 20,000 weren't looked at" in fault["words"]]
             self.assertEqual((fault["kind"], fault["line"], len(made["faults"]) < 20_002), ("stray", 20_001, True))
 

@@ -23,7 +23,7 @@ from lib.base import rules, text
 from lib.journal import book, journal
 from lib.runs import by_program, cleared, engine, errors, which
 from lib.sheets import day_tables, order_table
-from lib.tool import command, modules
+from lib.tool import exits, modules
 from lib.whatif import changes, limits, scenarios
 from test_many import ends
 
@@ -161,7 +161,7 @@ class Page(unittest.TestCase):
         """The sentences, and the lines on standard error."""
         data = journal_of(*lines)
         day = support.day_of(data, results or support.results_of(data, best(data)))
-        told = unittest.mock.patch.object(command, "print_note", lambda _, line: self.notes.append(line))
+        told = unittest.mock.patch.object(exits, "print_note", lambda _, line: self.notes.append(line))
         with unittest.mock.patch.object(engine, "clear_and_return_output_or_fault", output), told:
             return limits.capture_rejected_sentences(day, *words)
 
@@ -489,10 +489,10 @@ class Tools(unittest.TestCase):
 
     def test_no_program_and_one_that_fails(self):
         status, out, err = run_tool("whatif", "limit", "--program", "/nowhere/dam", self.journal, "--participant", "GEN", "--order", "UNIT")
-        self.assertEqual((status, out, err), (command.FAILED, b"", "whatif: /nowhere/dam can't be run: No such file or directory\n"))
+        self.assertEqual((status, out, err), (exits.FAILED, b"", "whatif: /nowhere/dam can't be run: No such file or directory\n"))
         with unittest.mock.patch.dict(os.environ, {"DAM_LIBRARY": "/nowhere/libdam.so"}):
             status, out, err = run_tool("whatif", "limit", self.journal, "--participant", "GEN", "--order", "UNIT")
-        self.assertEqual((status, out), (command.FAILED, b""))
+        self.assertEqual((status, out), (exits.FAILED, b""))
         self.assertRegex(err, "^whatif: the library /nowhere/libdam.so can't be used: .*\n$")
         limit = ["limit", self.journal, "--participant", "GEN"]
         for end, status in (("exit 1", 3), ("exit 3", 3), ("exit 4", 5), ("exit 5", 5), ("exit 70", 5), ("kill -9 $$", 5)):
@@ -512,7 +512,7 @@ class Tools(unittest.TestCase):
             with unittest.mock.patch.object(subprocess, "Popen", side_effect=OSError(number, os.strerror(number))):
                 for words, data, before in runs:
                     said = f"whatif: {before}{self.program} can't be run: {os.strerror(number)}\n"
-                    self.assertEqual(self.run_whatif(*words, data=data), (command.FAILED, b"", said))
+                    self.assertEqual(self.run_whatif(*words, data=data), (exits.FAILED, b"", said))
 
     def test_a_program_that_prints_something_else(self):
         limit, more = ["limit", self.journal, "--participant", "GEN"], TABLE + b"cancel,GEN,UNIT,,,,,\n"
@@ -549,7 +549,7 @@ class Tools(unittest.TestCase):
             self.program = support.write_doctored_program(self.folder, real, mark, edit)
             with self.subTest(words=words, mark=mark, edit=edit):
                 status, out, err = self.run_whatif(*words)
-                self.assertEqual((status, out, len(err.splitlines())), (command.DIFFERS, b"", 1), err)
+                self.assertEqual((status, out, len(err.splitlines())), (exits.DIFFERS, b"", 1), err)
                 self.assertTrue(err.startswith(f"whatif: the program's results of {name} break the rules ({place}"), err)
 
     def test_results_between_which_the_limit_is_sought(self):
@@ -558,8 +558,8 @@ class Tools(unittest.TestCase):
         right, real = self.run_whatif(*words), self.program
         middle = limits.limit_at("sell", (limits.place_of("sell", 4000) + 1 + limits.COUNT) // 2)
         for edit, status, said in (
-            ("s/,rejected,/,accepted,/", command.DIFFERS, "results line 28: block GEN,UNIT: it is accepted and loses "),
-            ("s/^welfare,/welfare,1/", command.DONE, ""),
+            ("s/,rejected,/,accepted,/", exits.DIFFERS, "results line 28: block GEN,UNIT: it is accepted and loses "),
+            ("s/^welfare,/welfare,1/", exits.DONE, ""),
         ):
             self.program = support.write_doctored_program(self.folder, real, f"sell,{middle},", edit)
             found = self.run_whatif(*words)
@@ -580,7 +580,7 @@ class Tools(unittest.TestCase):
             with unittest.mock.patch.object(by_program, "RUN_SECONDS", 3):
                 found = support.run_tool("whatif", *words, "--program", hang)
             said = f"whatif: {begin}{hang} took longer than 3 seconds\n"
-            self.assertEqual(found, (command.FAILED, b"", said), words)
+            self.assertEqual(found, (exits.FAILED, b"", said), words)
             self.assertTrue(all(map(ends, Path(self.folder, "pids").read_text().split())))
 
     def test_an_output_that_stays_open(self):
@@ -591,7 +591,7 @@ class Tools(unittest.TestCase):
         with unittest.mock.patch.object(by_program, "HELD_SECONDS", 2):
             found = support.run_tool("whatif", *words, "--program", hold)
         said = f"whatif: {hold} has ended, but another process has held its output for more than 2 seconds\n"
-        self.assertEqual(found, (command.FAILED, b"", said))
+        self.assertEqual(found, (exits.FAILED, b"", said))
 
     def test_an_interrupt_ends_the_program_too(self):
         """The program hangs, or it has ended and its output stays open."""

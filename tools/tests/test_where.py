@@ -15,7 +15,7 @@ from support import AUCTION, TOP, make_recorded_library
 
 import dam_tools
 from lib.base import place
-from lib.tool import command
+from lib.tool import exits
 
 CODE = "import dam_tools; print(*(dam_tools.where() or ['nothing']))"
 
@@ -108,7 +108,7 @@ class Names(unittest.TestCase):
         with unittest.mock.patch.object(place, "IS_INSTALLED", True):
             self.assertEqual(place.with_commands_of_here(words), "dam clear < a; dam-audit a tools/prove tools/../x other/tools/audit ./damn")
             with contextlib.redirect_stderr(io.StringIO()) as said:
-                command.print_note("table", "no such file")
+                exits.print_note("table", "no such file")
             self.assertEqual(said.getvalue(), "dam-table: no such file\n")
             self.assertEqual([place.command_name("audit"), place.command_name("dam-whatif limit")], ["dam-audit", "dam-whatif limit"])
 

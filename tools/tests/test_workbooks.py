@@ -19,7 +19,7 @@ import costly_workbooks as costly
 import drawn_workbooks as made
 from lib.runs import errors
 from lib.sheets import cell_values, command_table, order_table, table_files
-from lib.tool import command
+from lib.tool import exits
 from lib.whatif import changes, scenarios
 from lib.workbooks import first_rows, formulas, package, reading, styles
 from lib.workbooks.cells import Changed, Formatted, Rounded
@@ -59,7 +59,7 @@ class Read(unittest.TestCase):
 
     def capture_fault(self, data):
         status, out, err = run_tool("table", "--journal", "-", data=data)
-        self.assertEqual((status, out), (command.NO_INPUT, b""), err)
+        self.assertEqual((status, out), (exits.NO_INPUT, b""), err)
         return err.removesuffix(f"table: standard input: {READ}\n").removeprefix("table: standard input: ").removesuffix("\n")
 
     def capture_orders(self, data):
@@ -192,7 +192,7 @@ class Faults(Read):
             path = Path(folder, "orders.xlsx")
             path.write_bytes(data)
             status, _, err = run_tool("audit", AUCTION, "--sent", path, "--participant", "GAS")
-            self.assertEqual((status, said in err), (command.NO_INPUT, True), err)
+            self.assertEqual((status, said in err), (exits.NO_INPUT, True), err)
         for read in (lambda: changes.parse_changes_and_notes(data, 24), lambda: scenarios.parse_table_and_notes("a table", data, Book(24))):
             with self.assertRaisesRegex(errors.Fault, said):
                 read()

@@ -2,7 +2,7 @@
 
 from ..base import child_call, text
 from ..results import selection
-from ..tool import command, modules
+from ..tool import exits, modules
 from . import recursive_enumeration
 
 ENUMERATION, HIGHS = METHODS = ["enumeration", "highs"]
@@ -18,8 +18,8 @@ def search_by_method_or_stop(problem, published, method, progress, jobs):
     try:
         return search(problem, published, progress, jobs)
     except (TimeoutError, child_call.Died) as fault:
-        status = command.UNDECIDED if isinstance(fault, TimeoutError) else command.FAILED
-        raise command.Stop(f"the results obey the other rules, but {fault}", status) from None
+        status = exits.UNDECIDED if isinstance(fault, TimeoutError) else exits.FAILED
+        raise exits.Stop(f"the results obey the other rules, but {fault}", status) from None
 
 
 def search_by_enumeration(problem, published, progress, jobs, few=FEW_BLOCKS):

@@ -8,7 +8,7 @@ from ..journal import book
 from ..lint import sent
 from ..results import check, encodings, results, selection, sums
 from ..results.faults import FaultLine, matched_pairs
-from ..tool import command
+from ..tool import exits
 from . import better
 from .inputs import Inputs
 from .verdict import Verdict
@@ -29,15 +29,15 @@ class Audit:
         self.found = Verdict(self.inputs)
 
     def read_inputs_and_check_or_stop(self):
-        """Makes the checks that the options ask for. Ends with `command.Stop` if that can't be done."""
+        """Makes the checks that the options ask for. Ends with `exits.Stop` if that can't be done."""
         options = self.options
         read, published_bytes = self.inputs.read_journal_and_published_bytes()
         closed, reasons = book.book_and_refusals(read)
         self.found.day = {"periods": read.periods, "commands": len(reasons), "refused": sum(reason is not None for reason in reasons)}
         try:
             signed = self.read_and_note_signed(read, reasons) if options.head is not None else None
-        except command.Stop as fault:
-            if fault.status != command.DIFFERS:
+        except exits.Stop as fault:
+            if fault.status != exits.DIFFERS:
                 raise
             self.found.note_unsigned(str(fault))
             return
@@ -117,18 +117,18 @@ class Audit:
         try:
             own = sent.parse_sent(self.inputs.read_and_note("sent", options.sent), options.participant, read.periods, has_none)
         except sent.BadSentText as fault:
-            raise command.Stop(f"{command.shown(options.sent)} isn't what {options.participant} sent: {fault}") from None
+            raise exits.Stop(f"{exits.shown(options.sent)} isn't what {options.participant} sent: {fault}") from None
         self.found.sent = {"commands": len(entries), "refused": sum(entry.reason is not None for entry in entries)}
-        self.found.notes = [f"{command.shown(options.sent)}: {note}" for note in own.notes]
+        self.found.notes = [f"{exits.shown(options.sent)}: {note}" for note in own.notes]
         for note in [] if options.quiet else self.found.notes:
-            command.print_note("audit", note)
+            exits.print_note("audit", note)
         progress = Progress("audit", self.seconds, options.quiet)
         words = f"the commands of {options.participant} aren't compared yet"
         try:
             look = functools.partial(progress.show_time_or_raise, words)
             self.found.sent_faults, right = sent.faults_and_lines_of_sent(own, entries, closed, options.participant, look, proof_words)
         except TimeoutError as fault:
-            raise command.Stop(str(fault), command.UNDECIDED) from None
+            raise exits.Stop(str(fault), exits.UNDECIDED) from None
         finally:
             progress.stop_and_erase()
         self.found.right += [] if self.found.sent_faults else right
@@ -145,7 +145,7 @@ class Audit:
         data = self.inputs.read_and_note("salts", options.salts)
         salts = receipts.parse_value_and_note(options.salts, data, heads.parse_salts, "the salts of a journal", odd)
         if salts.day != head.day:
-            raise command.Stop(f"{command.shown(options.salts)} has the salts of {salts.day}, and the head is of {head.day}")
+            raise exits.Stop(f"{exits.shown(options.salts)} has the salts of {salts.day}, and the head is of {head.day}")
         read_receipts = functools.partial(self.inputs.read_and_note, "receipts")
         found = under_head.read_findings_of_folder(options.receipts, key, read_receipts) if options.receipts is not None else []
         signed = under_head.UnderHead(key, head, salts, read, reasons, found)

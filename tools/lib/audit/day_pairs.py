@@ -6,7 +6,7 @@ from typing import NamedTuple
 
 from ..base import text
 from ..sheets import kinds, table_files
-from ..tool import command, file_io
+from ..tool import exits, file_io
 
 JOURNAL, RESULTS = ".csv", ".txt"
 MOST_DAYS = 20_000  # of a manifest
@@ -29,9 +29,9 @@ def read_pairs_or_stop(place, notes):
     try:
         pairs = list_pairs_by_name(path) if path.is_dir() else read_listed_pairs_or_stop(path, notes)
     except OSError as fault:
-        raise command.Stop(f"{command.shown(place)} can't be read: {fault.strerror}") from None
+        raise exits.Stop(f"{exits.shown(place)} can't be read: {fault.strerror}") from None
     if not pairs:
-        raise command.Stop(f"{command.shown(place)} has no days: a day is NAME{JOURNAL} with its results NAME{RESULTS}")
+        raise exits.Stop(f"{exits.shown(place)} has no days: a day is NAME{JOURNAL} with its results NAME{RESULTS}")
     return pairs
 
 
@@ -44,7 +44,7 @@ def list_pairs_by_name(folder):
     for path in paths:
         key = stem_and_suffix(path.name)
         if found.setdefault(key, path) is not path:
-            said = f"{command.shown(found[key])} and {command.shown(path)} have one name: rename one of them"
+            said = f"{exits.shown(found[key])} and {exits.shown(path)} have one name: rename one of them"
             alike.setdefault(key[0], said)
     names = sorted({name for name, _ in found})
     pairs = (find_pair(name, *(found.get((name, suffix), folder / f"{name}{suffix}") for suffix in (JOURNAL, RESULTS))) for name in names)
@@ -61,7 +61,7 @@ def find_pair(name, journal, results):
     unread = file_io.find_unread_reason_or_none(journal)
     if os.path.lexists(results):
         return Pair(name, journal, results, unread or file_io.find_unread_reason_or_none(results), None)
-    return Pair(name, journal, None, unread, f"{command.shown(results)} is missing")
+    return Pair(name, journal, None, unread, f"{exits.shown(results)} is missing")
 
 
 def read_listed_pairs_or_stop(path, notes):
@@ -69,7 +69,7 @@ def read_listed_pairs_or_stop(path, notes):
     data = file_io.read_bytes(path)
     kind = kinds.kind_or_none(data)
     if kind in kinds.FILES:
-        raise command.Stop(f"{command.shown(path)} is {kind}: save the table of days as CSV")
+        raise exits.Stop(f"{exits.shown(path)} is {kind}: save the table of days as CSV")
     try:
         rows = iter(table_files.parse_text_rows_and_add_note(data, notes))
         header = next(rows, (0, []))[1]
@@ -84,9 +84,9 @@ def read_listed_pairs_or_stop(path, notes):
                 lines[len(pairs) - 1] = line
         mark_shared_names(pairs, lines)
     except table_files.BadTable as fault:
-        raise command.Stop(f"{command.shown(path)} isn't a table of days: {fault}") from None
+        raise exits.Stop(f"{exits.shown(path)} isn't a table of days: {fault}") from None
     if not pairs:
-        raise command.Stop(f"{command.shown(path)} has no days: it has no row below its header")
+        raise exits.Stop(f"{exits.shown(path)} has no days: it has no row below its header")
     return pairs
 
 
@@ -94,17 +94,17 @@ def rows_within_limit_or_stop(path, rows):
     """The rows of a manifest, which may not have too many days."""
     for count, row in enumerate(rows):
         if count == MOST_DAYS:
-            raise command.Stop(f"{command.shown(path)} has more than {MOST_DAYS:,} days")
+            raise exits.Stop(f"{exits.shown(path)} has more than {MOST_DAYS:,} days")
         yield row
 
 
 def refuse_wrong_heads(path, heads):
     """Ends the audit if the header of a manifest doesn't name each column once that it needs."""
     if not set(COLUMNS) <= set(heads):
-        raise command.Stop(f"{command.shown(path)} isn't a table of days: its first line should name the columns {', '.join(COLUMNS)}")
+        raise exits.Stop(f"{exits.shown(path)} isn't a table of days: its first line should name the columns {', '.join(COLUMNS)}")
     for name in (NAME, *COLUMNS):
         if heads.count(name) > 1:
-            raise command.Stop(f"{command.shown(path)} isn't a table of days: its first line names the column {name} twice")
+            raise exits.Stop(f"{exits.shown(path)} isn't a table of days: its first line names the column {name} twice")
 
 
 def refuse_lost_day(path, header):
@@ -112,7 +112,7 @@ def refuse_lost_day(path, header):
     for cell in header:
         if stem_and_suffix(cell.strip())[1] in (JOURNAL, RESULTS):
             words = f"{text.quoted(cell)} of its first line is no heading, but may be of a day: write each day on a line of its own"
-            raise command.Stop(f"{command.shown(path)} isn't a table of days: {words}")
+            raise exits.Stop(f"{exits.shown(path)} isn't a table of days: {words}")
 
 
 def extra_cells_words_or_none(line, row, heads):
@@ -127,7 +127,7 @@ def find_listed_pair(folder, cells, extra):
     """The pair of a row of a manifest."""
     journal, results = (folder / cells.get(name, "") for name in COLUMNS)
     has_results = bool(cells.get("results"))
-    missing = None if has_results else f"its row names no results, and {command.shown(journal)} has no line 'results'"
+    missing = None if has_results else f"its row names no results, and {exits.shown(journal)} has no line 'results'"
     unread = extra or unread_row_words_or_none(cells) or file_io.find_unread_reason_or_none(journal)
     unread = unread or (file_io.find_unread_reason_or_none(results) if has_results else None)
     return Pair(cells.get(NAME) or journal.stem, journal, results if has_results else None, unread, missing)

@@ -10,18 +10,18 @@ from pathlib import Path
 from ..base import audit_record, ending, text
 from ..base.progress import StepBar
 from ..runs.by_program import Running
-from ..tool import command, day_files, file_io, modules, output
+from ..tool import day_files, exits, file_io, modules, output
 from . import day_audit, day_pairs, verdict
 
 MORE_SECONDS = 600  # that the audit of a day may take besides its search, before it is taken for one that hangs
 MOST_SECONDS = 2_000_000  # that it may take at all: the system waits for no more than 2**31 ms
 AWAKE = 1  # seconds after which the main thread looks for a signal that another thread got, as after SIGSTOP
 TOOL = Path(__file__).resolve().parents[2] / "audit"
-MOST_SHOWN = command.LONGEST_PATH + 200  # characters of the first fault, which may begin with a file's name
+MOST_SHOWN = exits.LONGEST_PATH + 200  # characters of the first fault, which may begin with a file's name
 PART = 1 << 16  # bytes of a record that are packed or printed at once
 READING = threading.Lock()  # held while a record is read: it may have many faults, and two at once would take more memory
 # Of the statuses of the days, the first that one of them has is the status of all.
-WORST = [command.DIFFERS, command.FAILED, command.NO_INPUT, command.UNDECIDED, command.ENCODING]
+WORST = [exits.DIFFERS, exits.FAILED, exits.NO_INPUT, exits.UNDECIDED, exits.ENCODING]
 HEADS = ["day", "verdict", "periods", "hourly", "blocks", "accepted", "welfare, EUR", "refused", "faults", "seconds", "first fault"]
 TO_THE_LEFT = {HEADS.index(head) for head in ("day", "verdict", "first fault")}
 
@@ -46,17 +46,17 @@ def seconds_of(args):
 def run_audit_and_return_kept_record(pair, options, running, seconds=MORE_SECONDS, is_json=False):
     """As much as is kept of the record of the audit of a day, also if the audit fails."""
     if pair.unread is not None:
-        return kept_part(record_without_verdict(pair, command.NO_INPUT, pair.unread), is_json)
+        return kept_part(record_without_verdict(pair, exits.NO_INPUT, pair.unread), is_json)
     try:
         status, out, err = capture_status_and_outputs(pair, options, running, seconds)
         with READING:
             return kept_part(record_of_process(pair, status, out, err), is_json, out)
     except subprocess.TimeoutExpired as fault:
-        made = record_without_verdict(pair, command.FAILED, f"its process didn't end in {fault.timeout:g} seconds")
+        made = record_without_verdict(pair, exits.FAILED, f"its process didn't end in {fault.timeout:g} seconds")
     except OSError as fault:
-        made = record_without_verdict(pair, command.FAILED, f"its process can't be started: {fault.strerror}")
+        made = record_without_verdict(pair, exits.FAILED, f"its process can't be started: {fault.strerror}")
     except Exception as fault:
-        made = record_without_verdict(pair, command.FAILED, ending.failure_words(fault))
+        made = record_without_verdict(pair, exits.FAILED, ending.failure_words(fault))
     return kept_part(made, is_json)
 
 
@@ -125,7 +125,7 @@ def record_of_process(pair, status, out, err):
         pass
     said = err.decode(errors="replace").strip().splitlines()
     how = said[-1] if said else f"its process ended with {status}"
-    return record_without_verdict(pair, command.FAILED, how.removeprefix("audit: "))
+    return record_without_verdict(pair, exits.FAILED, how.removeprefix("audit: "))
 
 
 def record_without_verdict(pair, status, message):
@@ -162,7 +162,7 @@ class Audits:
     def keep_record(self, at, day_record):
         with self.lock:
             self.records[at] = day_record
-            self.wrong += day_record["status"] == command.DIFFERS
+            self.wrong += day_record["status"] == exits.DIFFERS
 
     def start_threads(self, jobs):
         """Starts threads, or fewer if memory is short, and does the work itself if there is none."""
@@ -194,7 +194,7 @@ def run_audits_and_return_kept_records(pairs, options, jobs, bar, seconds=MORE_S
         audits.end_processes()
         bar.erase()
     without = ending.failure_words(MemoryError())
-    return [made or kept_part(record_without_verdict(pair, command.FAILED, without), is_json) for pair, made in zip(pairs, audits.records)]
+    return [made or kept_part(record_without_verdict(pair, exits.FAILED, without), is_json) for pair, made in zip(pairs, audits.records)]
 
 
 def row_of_day(day_record):
@@ -228,7 +228,7 @@ def table_lines(records):
 
 def status_of(records):
     found = {made["status"] for made in records}
-    return next((status for status in WORST if status in found), command.DONE)
+    return next((status for status in WORST if status in found), exits.DONE)
 
 
 def read_and_audit_days_or_stop(args):
@@ -237,7 +237,7 @@ def read_and_audit_days_or_stop(args):
     pairs = day_pairs.read_pairs_or_stop(args.days, notes)
     file_io.refuse_own_outputs(path for pair in pairs for path in (pair.journal, pair.results) if path is not None)
     for note in [] if args.quiet else notes:
-        command.print_note("audit", f"{command.shown(args.days)}: {note}")
+        exits.print_note("audit", f"{exits.shown(args.days)}: {note}")
     jobs = min(args.jobs or os.cpu_count() or 1, len(pairs))
     bar = StepBar("audit", len(pairs), "days", args.quiet)
     return run_audits_and_return_kept_records(pairs, options_of(args), jobs, bar, seconds_of(args), args.json)

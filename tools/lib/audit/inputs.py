@@ -7,7 +7,7 @@ from ..journal import journal
 from ..results import results
 from ..results.faults import FaultLine
 from ..sheets import kinds
-from ..tool import command, day_files, file_io
+from ..tool import day_files, exits, file_io
 
 HINTS = {
     kinds.REPLIES: "; --replies checks replies",
@@ -51,7 +51,7 @@ class Inputs:
         day_files.refuse_other_kind(options.journal, written, kinds.JOURNAL, HINTS)
         if data is None:
             if options.sent is None or options.best:
-                raise command.Stop(day_files.no_results_message(options.journal))
+                raise exits.Stop(day_files.no_results_message(options.journal))
             self.records[0]["role"] = "journal"
             return day_files.require_journal(options.journal, written), None
         read = day_files.require_journal(options.journal, written)

@@ -6,19 +6,19 @@ from ..base import text
 from ..base.audit_record import ENCODING, FAILED, RIGHT, UNDECIDED, UNREAD, WRONG
 from ..base.rules import VERSION
 from ..results.faults import FaultLine
-from ..tool import command
+from ..tool import exits
 
 MOST_LINES = 20  # of the faults
 
 # The verdict for each status.
 OF_STATUS = {
-    command.DONE: RIGHT,
-    command.DIFFERS: WRONG,
-    command.COMMAND_LINE: FAILED,
-    command.NO_INPUT: UNREAD,
-    command.UNDECIDED: UNDECIDED,
-    command.FAILED: FAILED,
-    command.ENCODING: ENCODING,
+    exits.DONE: RIGHT,
+    exits.DIFFERS: WRONG,
+    exits.COMMAND_LINE: FAILED,
+    exits.NO_INPUT: UNREAD,
+    exits.UNDECIDED: UNDECIDED,
+    exits.FAILED: FAILED,
+    exits.ENCODING: ENCODING,
 }
 
 
@@ -53,15 +53,15 @@ class Verdict:
     @property
     def status(self):
         if self.wrong:
-            return command.DIFFERS
+            return exits.DIFFERS
         if self.foreign:
-            return command.NO_INPUT
-        return command.ENCODING if self.odd else command.DONE
+            return exits.NO_INPUT
+        return exits.ENCODING if self.odd else exits.DONE
 
     @property
     def message_or_none(self):
         """Why there is no verdict, though the audit ended; None if there is one."""
-        return f"{self.uncompared_words()}: not the operator's, or of another day" if self.status == command.NO_INPUT else None
+        return f"{self.uncompared_words()}: not the operator's, or of another day" if self.status == exits.NO_INPUT else None
 
     def uncompared_words(self):
         return f"not compared: {text.counted(len(self.foreign), 'receipt or head', 'receipts or heads')}"

@@ -3,7 +3,7 @@
 import itertools
 import re
 
-from ..tool import command, file_io
+from ..tool import exits, file_io
 from . import crates
 
 USE = re.compile(r"^[ ]*(?:pub )?(?:ghost )?use ([\w.]+?)(?:\.\{([^}]*)\})?(?: as \w+)?;?$", re.MULTILINE)
@@ -16,7 +16,7 @@ CLAUSE = re.compile(r"^ +(?:requires|ensures)\b", re.M)
 VARIANT = re.compile(r"^    \w+", re.MULTILINE)  # the name of a variant or a field, which is no type
 
 
-class Unknown(command.Stop):
+class Unknown(exits.Stop):
     """A name that leads to no definition, or a definition that no contract names."""
 
 

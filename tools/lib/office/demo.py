@@ -7,7 +7,7 @@ import tempfile
 import webbrowser
 
 from ..seal import heads
-from ..tool import command, file_io
+from ..tool import exits, file_io
 from . import folder, observed, setup, tokens
 from .refusals import Refused
 from .serve import Office, serve
@@ -60,7 +60,7 @@ async def enter_orders_or_stop(writer):
             try:
                 await writer.submit_or_refuse(who, 1, commands)
             except Refused as fault:
-                raise command.Stop(f"the demo's own orders weren't entered ({fault}): give more --seconds", command.COMMAND_LINE) from None
+                raise exits.Stop(f"the demo's own orders weren't entered ({fault}): give more --seconds", exits.COMMAND_LINE) from None
 
 
 async def serve_demo(args, programs):

@@ -12,7 +12,7 @@ from typing import NamedTuple
 
 from ..base import place, replacing, rules, text
 from ..seal import heads
-from ..tool import command, modules
+from ..tool import exits, modules
 
 KEY, PUBLIC, PARTICIPANTS, LOCK, DAYS = "operator.pem", "operator.pem.pub", "participants.json", "lock", "days"
 TERMS, SALTS, DESK = "terms.json", "salts.json", "desk"  # of a day; the last one is the desk's file
@@ -24,7 +24,7 @@ STOPPED_DAY = "stopped"  # why the office that is served has stopped the day
 OPEN, CLOSING, CLOSED, RESULTS_THERE, PUBLISHED = "open", "closing", "closed", "results", "published"  # the states of a day
 STOPPED = "stopped"  # a state that only an office in service knows
 MOST_COMMANDS = rules.MOST_RECORDS - 2  # of all participants: the day and the close are records too
-UNREADABLE = (OSError, command.Stop)  # by a file that is missing, damaged or another user's
+UNREADABLE = (OSError, exits.Stop)  # by a file that is missing, damaged or another user's
 PRIVATE = 0o077  # the bits of a mode that no file of an office has
 MOST_DIGITS = 20  # of a number that is read
 ROOM = 1 << 17  # bytes: more than the desk writes at once
@@ -162,7 +162,7 @@ def stopping_if_damaged(path, kind):
         yield
     except (ValueError, TypeError, KeyError, RecursionError, heads.BadRecord) as fault:
         where = f": {fault}" if isinstance(fault, (Odd, heads.BadRecord)) else ""
-        raise command.Stop(f"{command.shown(path)} can't be used: it isn't {kind}{where}") from None
+        raise exits.Stop(f"{exits.shown(path)} can't be used: it isn't {kind}{where}") from None
 
 
 def json_bytes(value):
@@ -224,13 +224,13 @@ class Folder(NamedFiles):
     def require_office(self):
         """Ends the tool if this isn't the folder of an office, or others may read its secrets."""
         if self.path_of(KEY).is_file() and not self.path_of(PARTICIPANTS).is_file():
-            raise command.Stop(f"{command.shown(self.path_of(PARTICIPANTS))} is missing: put it back")
+            raise exits.Stop(f"{exits.shown(self.path_of(PARTICIPANTS))} is missing: put it back")
         if not self.path_of(PARTICIPANTS).is_file():
             init = place.with_commands_of_here("tools/office init")
-            raise command.Stop(f"{command.shown(self.path)} isn't the folder of an office: {init} makes one")
+            raise exits.Stop(f"{exits.shown(self.path)} isn't the folder of an office: {init} makes one")
         for name in (KEY, PARTICIPANTS):
             if self.path_of(name).stat().st_mode & PRIVATE:
-                raise command.Stop(f"{command.shown(self.path_of(name))} can be read by others: chmod 600")
+                raise exits.Stop(f"{exits.shown(self.path_of(name))} can be read by others: chmod 600")
 
     def read_key(self):
         from ..receipts import receipts
@@ -244,7 +244,7 @@ class Folder(NamedFiles):
 
         found = self.path_of(PUBLIC).read_bytes()
         if found.split() != signing.public_bytes(key).split():
-            raise command.Stop(f"{command.shown(self.path_of(PUBLIC))} isn't the public key of {KEY}: put back the file that was changed")
+            raise exits.Stop(f"{exits.shown(self.path_of(PUBLIC))} isn't the public key of {KEY}: put back the file that was changed")
         return found.decode("ascii")
 
     def list_folders_by_day(self):
@@ -261,7 +261,7 @@ class Folder(NamedFiles):
             return next(iter(days.items()))
         if name not in days:
             known = ", ".join(days) or "none"
-            raise command.Stop(f"there is no day {text.safe(name)}: there is {known}" if name else f"name a day: there is {known}")
+            raise exits.Stop(f"there is no day {text.safe(name)}: there is {known}" if name else f"name a day: there is {known}")
         return name, days[name]
 
     @contextlib.contextmanager
@@ -273,7 +273,7 @@ class Folder(NamedFiles):
             fcntl.flock(number, fcntl.LOCK_EX | fcntl.LOCK_NB)
             yield
         except BlockingIOError:
-            raise command.Stop(f"another process serves {command.shown(self.path)}") from None
+            raise exits.Stop(f"another process serves {exits.shown(self.path)}") from None
         finally:
             os.close(number)
 
@@ -281,5 +281,5 @@ class Folder(NamedFiles):
         try:
             with self.holding():
                 return False
-        except command.Stop:
+        except exits.Stop:
             return True

@@ -7,7 +7,7 @@ import time
 
 from ..base import text
 from ..journal import journal
-from ..tool import command
+from ..tool import exits
 from . import folder, tokens
 from .desk import Ended, capture_records
 
@@ -45,7 +45,7 @@ def capture_commands_or_stop(day, files, desk):
         records = asyncio.run(capture_records(desk, str(files.path_of(folder.DESK))))
         return journal.parse_journal("".join(f"{record}\n" for record in records).encode()).commands if records else []
     except (Ended, OSError, journal.JournalFault) as fault:
-        raise command.Stop(f"the journal of {day} can't be read: {fault}") from None
+        raise exits.Stop(f"the journal of {day} can't be read: {fault}") from None
 
 
 def read_stop_reason(files):
@@ -57,8 +57,8 @@ def capture_day_record_or_fault(name, files, desk, is_served):
     """A day in a record; the fault alone, if its files can't be read."""
     try:
         return capture_day_record_or_stop(files, desk, is_served)
-    except (OSError, command.Stop) as fault:
-        return {"day": name, "fault": command.status_and_message(fault)[1]}
+    except (OSError, exits.Stop) as fault:
+        return {"day": name, "fault": exits.status_and_message(fault)[1]}
 
 
 def capture_status_record(office, desk):
@@ -95,7 +95,7 @@ def close_and_wait_or_stop(office, day, files):
     journal may lack entries."""
     is_served = office.is_served()
     if is_served and files.has_file(folder.STOPPED_DAY):
-        raise command.Stop(f"{day} is stopped, and wasn't closed: {read_stop_reason(files)}")
+        raise exits.Stop(f"{day} is stopped, and wasn't closed: {read_stop_reason(files)}")
     write_request(files, folder.CLOSE_NOW)
     if not is_served and not files.has_file(folder.RESULTS):
         return False
@@ -103,12 +103,12 @@ def close_and_wait_or_stop(office, day, files):
     while not files.has_file(folder.RESULTS):
         waited = time.monotonic() - began
         if waited > CLOSE_SECONDS:
-            raise command.Stop(f"{day} has no results after {CLOSE_SECONDS} s: see the office's log", command.UNDECIDED)
+            raise exits.Stop(f"{day} has no results after {CLOSE_SECONDS} s: see the office's log", exits.UNDECIDED)
         if waited > tell_at:
             tell_at += TELL_SECONDS
             words = write_trial_and_return_wait_words(day, files)
             if words != told:
-                command.print_note("office", words)
+                exits.print_note("office", words)
             told = words
         time.sleep(STEP)
     return True
@@ -120,14 +120,14 @@ def write_trial_and_return_wait_words(day, files):
     try:
         files.write_trial_or_raise()
     except OSError as fault:
-        return f"{day} has no {missing} yet: {command.shown(files.path)} can't be written: {fault.strerror}"
+        return f"{day} has no {missing} yet: {exits.shown(files.path)} can't be written: {fault.strerror}"
     return f"{day} has no {missing} yet: the office's log says why"
 
 
 def write_publish_request_or_stop(day, files):
     """Leaves the request to publish the results of all orders, the journal and the replies of a day, which should have results."""
     if not files.has_file(folder.RESULTS):
-        raise command.Stop(f"{day} has no results yet, and is published after them")
+        raise exits.Stop(f"{day} has no results yet, and is published after them")
     write_request(files, folder.OPEN_JOURNAL)
 
 
@@ -135,5 +135,5 @@ def require_and_change_token(office, who, call):
     """Revokes or renews a participant's token. An office that runs heeds it from the next request on."""
     register = tokens.Register(office.path_of(folder.PARTICIPANTS))
     if who not in register.read_names():
-        raise command.Stop(f"there is no participant {who}")
+        raise exits.Stop(f"there is no participant {who}")
     return call(register, who)

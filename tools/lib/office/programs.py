@@ -8,7 +8,7 @@ from typing import NamedTuple
 
 from ..base import async_child
 from ..runs import by_program, errors, which
-from ..tool import command
+from ..tool import exits
 
 EMPTY_DAY = b"day,24,,,,,,,\nclose,,,,,,,,\n"
 TRIAL_SECONDS = 600  # that it may take to clear: a clone may compile its program first
@@ -28,17 +28,17 @@ def compile_unproved_or_none(crate):
         return None
     ran = subprocess.run([tool, "--compile", crate], stdin=subprocess.DEVNULL, stdout=subprocess.PIPE, text=True)
     if ran.returncode:
-        raise command.Stop(f"{crate} was not compiled", command.FAILED)  # its line on standard error says why
-    command.print_note("office", f"{crate} isn't proved here: this shows how the office works, and no results to rely on")
+        raise exits.Stop(f"{crate} was not compiled", exits.FAILED)  # its line on standard error says why
+    exits.print_note("office", f"{crate} isn't proved here: this shows how the office works, and no results to rely on")
     return ran.stdout.removesuffix("\n")
 
 
 def require_runnable(path, name, option):
     """The path of a program that can be run: one that can't ends the office now, not at the close."""
     if path is None:
-        raise command.Stop(f"the program {name} is missing: `./dam prove` builds it, or name it with {option}", command.FAILED)
+        raise exits.Stop(f"the program {name} is missing: `./dam prove` builds it, or name it with {option}", exits.FAILED)
     if shutil.which(path) is None:
-        raise command.Stop(f"the program {name} can't be run: {command.shown(path)}", command.FAILED)
+        raise exits.Stop(f"the program {name} can't be run: {exits.shown(path)}", exits.FAILED)
     return os.path.abspath(path) if os.sep in str(path) else path
 
 
@@ -77,7 +77,7 @@ def run_and_require_clearing(path):
         if not process.returncode and by_program.has_results(out):
             return
         fault = f"it {async_child.end_words(process.returncode)}" if process.returncode else "it printed no results"
-    raise command.Stop(f"the program dam didn't clear an empty day: {command.shown(path)}: {fault}", command.FAILED)
+    raise exits.Stop(f"the program dam didn't clear an empty day: {exits.shown(path)}: {fault}", exits.FAILED)
 
 
 def find_programs_and_clear_trial_or_stop(dam=None, desk=None, may_compile=False):

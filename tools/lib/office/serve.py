@@ -11,7 +11,7 @@ import socket
 import ssl
 import time
 
-from ..tool import command
+from ..tool import exits
 from . import folder, guards, observed, tokens
 from .day_writer import Clock, DayWriter
 from .web import Web
@@ -107,7 +107,7 @@ def read_tls_context_or_stop(tls):
     try:
         context.load_cert_chain(*tls, password=lambda: "")
     except (OSError, ssl.SSLError) as fault:
-        raise command.Stop(f"--tls: the certificate or its key can't be used: {fault.strerror or fault}") from None
+        raise exits.Stop(f"--tls: the certificate or its key can't be used: {fault.strerror or fault}") from None
     return context
 
 
@@ -135,7 +135,7 @@ def open_listening_socket_or_stop(host, port):
     try:
         found = socket.create_server((host, port), family=socket.AF_INET6 if ":" in host else socket.AF_INET, backlog=BACKLOG)
     except OSError as fault:
-        raise command.Stop(f"can't listen at {host} port {port}: {fault.strerror}") from None
+        raise exits.Stop(f"can't listen at {host} port {port}: {fault.strerror}") from None
     found.setblocking(False)
     return found
 

@@ -11,7 +11,7 @@ import zoneinfo
 from ..base import rules, text
 from ..seal import heads, sealing, signing
 from ..sheets import cell_values, kinds, order_table, table_files, table_operations
-from ..tool import command, file_io, modules
+from ..tool import exits, file_io, modules
 from . import folder, tokens
 
 CLOCK = re.compile(r"([01][0-9]|2[0-3]):[0-5][0-9]")
@@ -24,7 +24,7 @@ def require_date(words):
     try:
         return table_operations.parse_date(words)
     except table_operations.BadDate as fault:
-        raise command.Stop(f"--day {fault}", command.COMMAND_LINE) from None
+        raise exits.Stop(f"--day {fault}", exits.COMMAND_LINE) from None
 
 
 def require_zone(words):
@@ -32,7 +32,7 @@ def require_zone(words):
     try:
         return zoneinfo.ZoneInfo(words)
     except (zoneinfo.ZoneInfoNotFoundError, ValueError):
-        raise command.Stop(f"--zone {text.quoted(words)} isn't a time zone, such as {table_operations.ZONE}", command.COMMAND_LINE) from None
+        raise exits.Stop(f"--zone {text.quoted(words)} isn't a time zone, such as {table_operations.ZONE}", exits.COMMAND_LINE) from None
 
 
 def require_close(words, date, zone):
@@ -44,11 +44,11 @@ def require_close(words, date, zone):
         found = local.replace(tzinfo=zone).astimezone(datetime.timezone.utc)
         again = found.astimezone(zone).replace(tzinfo=None)
     except (ValueError, OverflowError):  # also of a time at an end of the calendar
-        raise command.Stop(
-            f"--close {text.quoted(words)} should be a time such as 12:00, or 2026-11-28T12:00", command.COMMAND_LINE
+        raise exits.Stop(
+            f"--close {text.quoted(words)} should be a time such as 12:00, or 2026-11-28T12:00", exits.COMMAND_LINE
         ) from None
     if again != local:
-        raise command.Stop(f"--close {words}: there is no such time in {zone.key}, whose clocks change", command.COMMAND_LINE)
+        raise exits.Stop(f"--close {words}: there is no such time in {zone.key}, whose clocks change", exits.COMMAND_LINE)
     return found
 
 
@@ -56,14 +56,14 @@ def require_terms(args, shares, now=None):
     """The terms of a day, by the words of the command line."""
     date, zone = require_date(args.day), require_zone(args.zone)
     if args.periods not in rules.DAYS:
-        raise command.Stop(f"--periods should be one of {', '.join(map(str, sorted(rules.DAYS)))}", command.COMMAND_LINE)
+        raise exits.Stop(f"--periods should be one of {', '.join(map(str, sorted(rules.DAYS)))}", exits.COMMAND_LINE)
     try:
         table_operations.begin_times_or_raise(date, args.periods, args.zone)
     except table_operations.BadDate as fault:
-        raise command.Stop(f"--periods: {fault}", command.COMMAND_LINE) from None
+        raise exits.Stop(f"--periods: {fault}", exits.COMMAND_LINE) from None
     closes = require_close(args.close, date, zone)
     if closes <= (now or datetime.datetime.now(datetime.timezone.utc)):
-        raise command.Stop(f"--close: {closes.astimezone(zone):%Y-%m-%d %H:%M} {zone.key} is past", command.COMMAND_LINE)
+        raise exits.Stop(f"--close: {closes.astimezone(zone):%Y-%m-%d %H:%M} {zone.key} is past", exits.COMMAND_LINE)
     return folder.Terms(args.day, args.periods, closes, args.zone, shares)
 
 
@@ -78,16 +78,16 @@ def read_shares_and_print_notes(path):
     data, notes = file_io.read_bytes(path), []
     kind = kinds.kind_or_none(data)
     if kind in kinds.FILES - {kinds.EXCEL}:
-        raise command.Stop(f"{command.shown(path)} is {kind}: save the table as .xlsx or as CSV")
+        raise exits.Stop(f"{exits.shown(path)} is {kind}: save the table as .xlsx or as CSV")
     try:
         found = parse_shares_and_append_notes(data, notes)
     except (table_files.BadTable, order_table.BadOrders) as fault:
         lines = "\n  ".join([*str(fault).split("\n"), *notes])
-        raise command.Stop(f"{command.shown(path)}: {lines}") from None
+        raise exits.Stop(f"{exits.shown(path)}: {lines}") from None
     if not 0 < len(found) <= folder.MOST_COMMANDS:
-        raise command.Stop(f"{command.shown(path)} has no participant, or more than {folder.MOST_COMMANDS:,}")
+        raise exits.Stop(f"{exits.shown(path)} has no participant, or more than {folder.MOST_COMMANDS:,}")
     for note in notes:
-        command.print_note("office", f"note: {command.shown(path)}: {note}")
+        exits.print_note("office", f"note: {exits.shown(path)}: {note}")
     return found
 
 
@@ -136,7 +136,7 @@ def require_shares(given):
     free = folder.MOST_COMMANDS - sum(share for share in given.values() if share is not None)
     open_ones = sum(share is None for share in given.values())
     if free < open_ones:
-        raise command.Stop(f"the participants may enter more than {folder.MOST_COMMANDS:,} commands, which a journal doesn't have")
+        raise exits.Stop(f"the participants may enter more than {folder.MOST_COMMANDS:,} commands, which a journal doesn't have")
     return {who: free // open_ones if share is None else share for who, share in given.items()}
 
 
@@ -154,7 +154,7 @@ def make_office(office):
 
 def make_key_or_stop(office):
     if any(os.scandir(office.path)):
-        raise command.Stop(f"{command.shown(office.path)} isn't empty, and isn't the folder of an office")
+        raise exits.Stop(f"{exits.shown(office.path)} isn't empty, and isn't the folder of an office")
     key = signing.draw_key()
     folder.write_synced(office.path_of(folder.PUBLIC), signing.public_bytes(key))
     folder.write_synced(office.path_of(folder.KEY), signing.private_bytes(key))
@@ -171,7 +171,7 @@ def making_day(office, terms):
     then, so that the block of a day that is there already never begins."""
     with folder.holding_folder(office.path):
         if (office.path_of(folder.DAYS) / terms.day).exists():
-            raise command.Stop(f"there is a day {terms.day} already")
+            raise exits.Stop(f"there is a day {terms.day} already")
         with making_day_folder(office, terms):
             yield
 
@@ -199,7 +199,7 @@ def make_or_extend_office(office, args):
     register = tokens.Register(office.path_of(folder.PARTICIPANTS))
     is_new = not office.path_of(folder.PARTICIPANTS).exists()
     if args.participants is None and (is_new or not register.read_names()):
-        raise command.Stop("a new office needs --participants", command.COMMAND_LINE)
+        raise exits.Stop("a new office needs --participants", exits.COMMAND_LINE)
     given = read_shares_and_print_notes(args.participants) if args.participants else dict.fromkeys(register.read_names())
     terms = require_terms(args, require_shares(given))
     make_office(office)

@@ -4,7 +4,7 @@ from typing import NamedTuple
 
 from ..base import text
 from ..seal import merkle
-from ..tool import command
+from ..tool import exits
 from .findings import CONTRADICTION, WRONG, Finding
 
 TWICE = "two journals, or one journal twice"
@@ -64,7 +64,7 @@ class Signed:
             keys[key] = place
             first, where = next(iter(keys.items()))
             if key != first:
-                self.add_finding(place, f"two keys signed {day}: {command.shown(key)}, and {command.shown(first)} in {where}")
+                self.add_finding(place, f"two keys signed {day}: {exits.shown(key)}, and {exits.shown(first)} in {where}")
 
     def add_entry(self, receipt, place, key):
         """Adds the entry of a receipt that is right under a head that the operator signed."""

@@ -2,20 +2,20 @@
 
 from typing import NamedTuple
 
-from ..tool import command
+from ..tool import exits
 
 # In the order in which one of them decides the status of a run.
 WRONG, UNREAD, UNDECIDED, ENCODING, RIGHT = "wrong", "unread", "undecided", "encoding", "right"
 # Of receipts that the operator signed: the published head isn't of a journal that has the entry, or no book gives the reply.
 CONTRARY, IMPOSSIBLE = "contrary", "impossible"
 STATUSES = {
-    WRONG: command.DIFFERS,
-    CONTRARY: command.DIFFERS,
-    IMPOSSIBLE: command.DIFFERS,
-    UNREAD: command.NO_INPUT,
-    UNDECIDED: command.UNDECIDED,
-    ENCODING: command.ENCODING,
-    RIGHT: command.DONE,
+    WRONG: exits.DIFFERS,
+    CONTRARY: exits.DIFFERS,
+    IMPOSSIBLE: exits.DIFFERS,
+    UNREAD: exits.NO_INPUT,
+    UNDECIDED: exits.UNDECIDED,
+    ENCODING: exits.ENCODING,
+    RIGHT: exits.DONE,
 }
 RECEIPT, FILE, LINE, EXTENSION, HEAD, CONTRADICTION = "receipt", "file", "line", "extension", "head", "contradiction"
 
@@ -27,7 +27,7 @@ class Place(NamedTuple):
     line: int = None  # from 1; None for the whole file
 
     def __str__(self):
-        return command.shown(self.file) + ("" if self.line is None else f" line {self.line}")
+        return exits.shown(self.file) + ("" if self.line is None else f" line {self.line}")
 
 
 class Finding(NamedTuple):
@@ -52,4 +52,4 @@ class Finding(NamedTuple):
 
 def verdict(findings):
     found = min((finding.verdict for finding in findings), key=list(STATUSES).index, default=RIGHT)
-    return WRONG if STATUSES[found] == command.DIFFERS else found
+    return WRONG if STATUSES[found] == exits.DIFFERS else found

@@ -7,7 +7,7 @@ from typing import NamedTuple
 from ..base import text
 from ..lint import sent
 from ..seal import heads, merkle, signing
-from ..tool import command, file_io
+from ..tool import exits, file_io
 from .contradictions import Signed, periods_differ_words, roots_differ_words, unsigned
 from .findings import CONTRADICTION, CONTRARY, ENCODING, EXTENSION, HEAD, IMPOSSIBLE, LINE, RECEIPT, RIGHT, STATUSES, UNDECIDED, UNREAD, WRONG
 from .findings import Finding, Place, verdict
@@ -46,7 +46,7 @@ def parse_key(path, data, read=signing.parse_public):
     try:
         return read(data)
     except signing.BadKey as fault:
-        raise command.Stop(f"{command.shown(path)} can't be used: {fault}") from None
+        raise exits.Stop(f"{exits.shown(path)} can't be used: {fault}") from None
 
 
 def read_value_and_note(path, read, name, odd):
@@ -59,7 +59,7 @@ def parse_value_and_note(path, data, read, name, odd):
     try:
         value, is_written = heads.parse_value_and_is_written(data, read)
     except heads.BadRecord as fault:
-        raise command.Stop(f"{command.shown(path)} isn't {name}: {fault}") from None
+        raise exits.Stop(f"{exits.shown(path)} isn't {name}: {fault}") from None
     if not is_written:
         odd.append(Finding(path, None, ENCODING, NOT_WRITTEN))
     return value
@@ -74,9 +74,9 @@ def parse_head_and_note(path, data, key, odd, day=None):
     """The same from the bytes of the file."""
     head = parse_value_and_note(path, data, heads.parse_head, "a head", odd)
     if not signing.is_signed(key, head):
-        raise command.Stop(f"{command.shown(path)} {NOT_SIGNED}", command.DIFFERS)
+        raise exits.Stop(f"{exits.shown(path)} {NOT_SIGNED}", exits.DIFFERS)
     if day not in (None, head.day):
-        raise command.Stop(f"{command.shown(path)} is {head}, and not of {day}")
+        raise exits.Stop(f"{exits.shown(path)} is {head}, and not of {day}")
     return head
 
 
@@ -84,7 +84,7 @@ def unread_finding_or_raise(path, fault):
     """The finding on a file that can't be read, or isn't of its kind."""
     if isinstance(fault, file_io.OwnOutput):
         raise fault
-    return Finding(path, None, UNREAD, f"it {str(fault).removeprefix(command.shown(path)).strip()}")
+    return Finding(path, None, UNREAD, f"it {str(fault).removeprefix(exits.shown(path)).strip()}")
 
 
 class Links:
@@ -104,7 +104,7 @@ class Links:
         """The value in a file of one line. If there is none, `findings` gets that, and the other files are judged."""
         try:
             return read_value_and_note(path, read, name, findings)
-        except command.Stop as fault:
+        except exits.Stop as fault:
             findings.append(unread_finding_or_raise(path, fault))
             return None
 
@@ -126,7 +126,7 @@ class Links:
         old, new = extension.old, extension.new
         one, other = (signing.signer_name_or_none(self.key, end) for end in (old, new))
         if one != other:
-            return f"they are signed with two keys, {command.shown(one)} and {command.shown(other)}"
+            return f"they are signed with two keys, {exits.shown(one)} and {exits.shown(other)}"
         if old.day != new.day:
             return f"they are of two days, {old.day} and {new.day}"
         if old.periods != new.periods:
@@ -243,7 +243,7 @@ def iterate_findings_of_file(path, head, key, links, who=None):
     a file that can't be read. If a participant is named, all are its own."""
     try:
         data = file_io.read_bytes(path)
-    except command.Stop as fault:
+    except exits.Stop as fault:
         yield unread_finding_or_raise(path, fault)
         return
     yield from iterate_findings_of_lines(path, data, head, key, links, who)
@@ -265,7 +265,7 @@ def iterate_findings_of_lines(path, data, head, key, links, who=None):
             yield Finding(path, number, UNREAD, f"it isn't a receipt: {fault}", about=LINE)
             continue
         found, words = add_receipt_and_return_verdict(receipt, head, key, links, Place(path, number))
-        if who is not None and receipt.who != who and STATUSES[found] != command.DIFFERS:
+        if who is not None and receipt.who != who and STATUSES[found] != exits.DIFFERS:
             found, words = UNREAD, f"it isn't a receipt of {who}: {words}"
         if found == RIGHT and not is_written:
             found, words = ENCODING, f"{NOT_WRITTEN}: {words}"
@@ -281,7 +281,7 @@ def finding_lines(findings):
             yield str(finding)
     for path, count in unread.items():
         if count > MOST_UNREAD:
-            yield f"{command.shown(path)}: {text.counted(count - MOST_UNREAD, 'more line')} without a receipt"
+            yield f"{exits.shown(path)}: {text.counted(count - MOST_UNREAD, 'more line')} without a receipt"
 
 
 def received_commands(findings, who, verdicts):

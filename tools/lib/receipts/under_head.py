@@ -7,7 +7,7 @@ from ..base import text
 from ..journal import journal
 from ..results.faults import FaultLine
 from ..seal import heads, merkle, sealing, signing
-from ..tool import command, file_io
+from ..tool import exits, file_io
 from . import receipts
 
 NOT_OWN = "not the operator's"
@@ -110,7 +110,7 @@ class UnderHead:
         """Adds an earlier head, by the bytes of its file. One that isn't the operator's, or is of another day, isn't compared."""
         odd = []
         head = receipts.parse_value_and_note(path, data, heads.parse_head, "a head", odd)
-        is_own, name = signing.is_signed(self.key, head), command.shown(path)
+        is_own, name = signing.is_signed(self.key, head), exits.shown(path)
         if not is_own or head.day != self.head.day:
             words = self.another_day_words(head) if is_own else f"{NOT_OWN}: it {receipts.NOT_SIGNED}"
             self.foreign.append(FaultLine(f"{name}: {words}", "foreign"))
@@ -163,11 +163,11 @@ def list_receipt_files_or_stop(folder):
     paths = sorted(Path(folder).iterdir())
     for path in paths:
         if path.suffix != ".jsonl":
-            raise command.Stop(f"{command.shown(folder)} has {text.quoted(path.name)}, which isn't a file of receipts, NAME.jsonl")
+            raise exits.Stop(f"{exits.shown(folder)} has {text.quoted(path.name)}, which isn't a file of receipts, NAME.jsonl")
         if fault := file_io.find_unread_reason_or_none(path):
-            raise command.Stop(fault)
+            raise exits.Stop(fault)
     if not paths:
-        raise command.Stop(f"{command.shown(folder)} has no file of receipts, NAME.jsonl")
+        raise exits.Stop(f"{exits.shown(folder)} has no file of receipts, NAME.jsonl")
     return paths
 
 
@@ -178,6 +178,6 @@ def read_findings_of_folder(folder, key, read=file_io.read_bytes):
     for path in list_receipt_files_or_stop(folder):
         for finding in receipts.iterate_findings_of_lines(str(path), read(path), None, key, links):
             if finding.verdict == receipts.UNREAD:
-                raise command.Stop(str(finding))
+                raise exits.Stop(str(finding))
             findings.append(finding)
     return findings

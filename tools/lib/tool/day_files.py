@@ -5,7 +5,7 @@ from ..journal import book, journal
 from ..lint import lint
 from ..results import encodings, results, selection
 from ..sheets import kinds
-from . import command, file_io
+from . import exits, file_io
 
 SEE_AUDIT = place.with_commands_of_here("see tools/audit")
 
@@ -19,13 +19,13 @@ def read_day_texts(path, results_path):
     if texts is None and kinds.kind_or_none(data) in kinds.FILES:
         refuse_other_kind(path, data, kinds.JOURNAL)
     if texts is None:
-        raise command.Stop(no_results_message(path))
+        raise exits.Stop(no_results_message(path))
     return texts
 
 
 def no_results_message(path):
     """The message about a file that isn't the text of a day."""
-    return f"{command.shown(path)} has no line 'results': give the results file after the journal"
+    return f"{exits.shown(path)} has no line 'results': give the results file after the journal"
 
 
 def refuse_other_kind(path, data, right, hints=()):
@@ -34,14 +34,14 @@ def refuse_other_kind(path, data, right, hints=()):
     if kind not in (None, right):
         advice = kinds.ADVICE.get(kind) if right == kinds.JOURNAL or kind in kinds.PACKED else None
         hint = hints[kind] if kind in hints else f"; {advice}" if advice else ""
-        raise command.Stop(f"{command.shown(path)} {'is' if kind in kinds.FILES else 'has'} {kind} instead of {right}{hint}")
+        raise exits.Stop(f"{exits.shown(path)} {'is' if kind in kinds.FILES else 'has'} {kind} instead of {right}{hint}")
 
 
 def require_journal(path, data):
     try:
         return journal.parse_journal(data)
     except journal.JournalFault as fault:
-        raise command.Stop(f"{command.shown(path)} isn't a journal: {fault}{lint.first_fault_words(data)}") from None
+        raise exits.Stop(f"{exits.shown(path)} isn't a journal: {fault}{lint.first_fault_words(data)}") from None
 
 
 class Day:
@@ -76,12 +76,12 @@ class Day:
         self.journal, self.text = read, results_data
         self.book, self.reasons = book.book_and_refusals(read)
         if not self.book.closed:
-            raise command.Stop(f"no command of {command.shown(path)} closes the book, so it has no results")
+            raise exits.Stop(f"no command of {exits.shown(path)} closes the book, so it has no results")
         self.problem = selection.Problem(self.book)
         data, self.odd = encodings.plain_text_and_faults(results_data)
         self.published, self.wrong = check.results_and_faults(self.problem, data)
         if self.published is None:
-            raise command.Stop(f"{command.shown(results_path)} has no results of this journal: {self.wrong[0]}")
+            raise exits.Stop(f"{exits.shown(results_path)} has no results of this journal: {self.wrong[0]}")
         self.outcome = selection.outcome(self.problem, self.published.accepted)
 
     @property
@@ -93,13 +93,13 @@ class Day:
         """Returns the status of a tool that has shown the results. If they break the rules, or else if their encoding differs, it says so on
         standard error."""
         if self.wrong and not quiet:
-            command.print_note(tool, f"the results break the rules ({self.wrong[0]}): {SEE_AUDIT}")
+            exits.print_note(tool, f"the results break the rules ({self.wrong[0]}): {SEE_AUDIT}")
         elif self.odd and not quiet:
-            command.print_note(tool, f"the encoding of the results differs ({self.odd[0]}): {SEE_AUDIT}")
-        return command.DIFFERS if self.wrong else command.DONE
+            exits.print_note(tool, f"the encoding of the results differs ({self.odd[0]}): {SEE_AUDIT}")
+        return exits.DIFFERS if self.wrong else exits.DONE
 
 
 def refuse_unknown_participant(who, read):
     """Ends the tool if a participant is asked for that has no command in a journal, such as one whose name is misspelt."""
     if who and who not in {getattr(entry, "who", None) for entry in read.commands}:
-        raise command.Stop(f"{who} has no command in the journal")
+        raise exits.Stop(f"{who} has no command in the journal")

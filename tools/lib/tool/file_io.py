@@ -7,13 +7,13 @@ import stat
 import sys
 
 from ..base import ending, replacing
-from . import command
+from . import exits
 
 MOST_BYTES, PART = 64 << 20, 1 << 20  # of a file that a tool reads, and of those how many at once
 NAMED_BY_OUT = ": name it by --out to replace it"
 
 
-class OwnOutput(command.Stop):
+class OwnOutput(exits.Stop):
     """Standard output is one of the inputs."""
 
 
@@ -32,9 +32,9 @@ def read_bytes(path):
             refuse_own_output(path, file)
             data = read_first_bytes(file, MOST_BYTES + 1)
     except (OSError, ValueError) as fault:
-        raise command.Stop(unread_message(path, fault)) from None
+        raise exits.Stop(unread_message(path, fault)) from None
     if len(data) > MOST_BYTES:
-        raise command.Stop(f"{command.shown(path)} has more than {MOST_BYTES:,} bytes")
+        raise exits.Stop(f"{exits.shown(path)} has more than {MOST_BYTES:,} bytes")
     return data
 
 
@@ -68,14 +68,14 @@ def refuse_as_own_output(path, found):
         return
     if is_own:
         if ending.Guarded.tool:  # not a program that calls the package for Python
-            command.redirect_to_devnull(sys.stdout)
-        raise OwnOutput(f"standard output goes to {command.shown(path)}, which is one of the inputs: write to another file")
+            exits.redirect_to_devnull(sys.stdout)
+        raise OwnOutput(f"standard output goes to {exits.shown(path)}, which is one of the inputs: write to another file")
 
 
 def unread_message(path, fault):
     """The message about a file that can't be read. Python has a ValueError for a name that no file can have."""
     why = fault.strerror if isinstance(fault, OSError) else "its name has a NUL, or a character that this locale lacks"
-    return f"{command.shown(path)} can't be read: {why}"
+    return f"{exits.shown(path)} can't be read: {why}"
 
 
 def open_without_waiting(path, flags):
@@ -88,12 +88,12 @@ def find_unread_reason_or_none(path):
     try:
         mode = os.stat(path).st_mode
     except FileNotFoundError:
-        return f"{command.shown(path)} is a link to a file that is missing" if os.path.islink(path) else f"{command.shown(path)} is missing"
+        return f"{exits.shown(path)} is a link to a file that is missing" if os.path.islink(path) else f"{exits.shown(path)} is missing"
     except (OSError, ValueError) as fault:
         return unread_message(path, fault)
     if stat.S_ISDIR(mode):
-        return f"{command.shown(path)} can't be read: {os.strerror(errno.EISDIR)}"
-    return None if stat.S_ISREG(mode) else f"{command.shown(path)} is a device or a pipe, and should be a file"
+        return f"{exits.shown(path)} can't be read: {os.strerror(errno.EISDIR)}"
+    return None if stat.S_ISREG(mode) else f"{exits.shown(path)} is a device or a pipe, and should be a file"
 
 
 def read_first_bytes(file, most):
@@ -116,13 +116,13 @@ def write_stdout(data):
         raise
     except OSError as fault:
         if sys.stdout is not None:
-            command.redirect_to_devnull(sys.stdout)
-        raise command.Stop(f"standard output can't be written: {fault.strerror}") from None
+            exits.redirect_to_devnull(sys.stdout)
+        raise exits.Stop(f"standard output can't be written: {fault.strerror}") from None
 
 
 def print_lines(lines):
     """Prints lines on standard output."""
-    write_stdout("".join(f"{command.without_controls(line)}\n" for line in lines).encode())
+    write_stdout("".join(f"{exits.without_controls(line)}\n" for line in lines).encode())
 
 
 def write_file_or_stdout(tool, path, data, advice=None):
@@ -147,7 +147,7 @@ def write_files(tool, files, advice=None):
                     written.append(path)
         finally:
             for path in written if sys.stderr.isatty() else []:
-                command.print_note(tool, f"{command.shown(path)} was written")
+                exits.print_note(tool, f"{exits.shown(path)} was written")
 
 
 def is_device_or_pipe(path):
@@ -165,7 +165,7 @@ def call_or_stop(path, call, *words, advice=None):
     except OSError as fault:
         if advice and isinstance(fault, FileExistsError):
             raise taken_error(path, advice) from None
-        raise command.Stop(f"{command.shown(path)} can't be written: {fault.strerror}") from None
+        raise exits.Stop(f"{exits.shown(path)} can't be written: {fault.strerror}") from None
 
 
 def is_same_file(path, other):
@@ -184,10 +184,10 @@ def refuse_to_replace(path, advice):
 
 def taken_error(path, advice):
     """The error about a file that nobody asked to replace."""
-    return command.Stop(f"{command.shown(path)} is there already{advice}", command.COMMAND_LINE)
+    return exits.Stop(f"{exits.shown(path)} is there already{advice}", exits.COMMAND_LINE)
 
 
 def refuse_input_as_output(path, *inputs):
     """Ends the tool if it is to write over a file that it reads; the inputs that aren't given are None."""
     if any(other is not None and is_same_file(path, other) for other in inputs):
-        raise command.Stop(f"{command.shown(path)} is one of the inputs, and would be lost: write to another file", command.COMMAND_LINE)
+        raise exits.Stop(f"{exits.shown(path)} is one of the inputs, and would be lost: write to another file", exits.COMMAND_LINE)

@@ -6,11 +6,11 @@ from ..base import text
 from ..base.progress import StepBar
 from ..base.rules import VERSION
 from ..lint import lint
-from . import command, file_io
+from . import exits, file_io
 
 RIGHT, REFUSED, FAULTY, UNREAD, FAILED = "right", "refused", "faulty", "unread", "failed"
 # The verdict for each status.
-OF_STATUS = {command.DONE: RIGHT, command.DIFFERS: REFUSED, command.FAULTY: FAULTY, command.NO_INPUT: UNREAD, command.FAILED: FAILED}
+OF_STATUS = {exits.DONE: RIGHT, exits.DIFFERS: REFUSED, exits.FAULTY: FAULTY, exits.NO_INPUT: UNREAD, exits.FAILED: FAILED}
 
 
 class Linted:
@@ -57,5 +57,5 @@ class Linted:
 
 def status_of(findings):
     if all(one.refusal for one in findings):
-        return command.DIFFERS if findings else command.DONE
-    return command.FAULTY
+        return exits.DIFFERS if findings else exits.DONE
+    return exits.FAULTY

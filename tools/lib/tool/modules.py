@@ -7,7 +7,7 @@ import sys
 import zoneinfo
 
 from ..base import ending
-from .command import FAILED, Stop
+from .exits import FAILED, Stop
 
 DEBIAN_PYTHON = "/usr/bin/python3"
 ISOLATED = [DEBIAN_PYTHON, "-I"]  # from the environment and the working folder

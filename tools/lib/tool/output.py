@@ -1,7 +1,7 @@
 """A table as a tool writes it: comma-separated values, JSON or an Excel workbook."""
 
 from ..sheets import table_files, table_operations
-from . import command, file_io, modules
+from . import exits, file_io, modules
 
 WORKBOOK, CSV = ".xlsx", ".csv"
 
@@ -18,10 +18,10 @@ def exec_or_refuse_wrong_options(args, *inputs):
     """Ends the tool if the options can't be used together, or would write over an input, or a package is missing."""
     file_io.refuse_input_as_output(args.out, *inputs)
     if args.json and args.decimal_comma:
-        raise command.Stop("--decimal-comma can't be used with --json", command.COMMAND_LINE)
+        raise exits.Stop("--decimal-comma can't be used with --json", exits.COMMAND_LINE)
     if is_workbook_name(args.out):
         if args.json or args.decimal_comma:
-            raise command.Stop("--json and --decimal-comma can't be used with an Excel workbook", command.COMMAND_LINE)
+            raise exits.Stop("--json and --decimal-comma can't be used with an Excel workbook", exits.COMMAND_LINE)
         modules.exec_or_require_modules("openpyxl")
 
 
@@ -48,7 +48,7 @@ def workbook_bytes_or_stop(tables):
     try:
         return table_files.workbook_bytes_or_refuse(tables)
     except table_files.BadTable as fault:
-        raise command.Stop(f"{fault}: write it as {CSV}", command.COMMAND_LINE) from None
+        raise exits.Stop(f"{fault}: write it as {CSV}", exits.COMMAND_LINE) from None
 
 
 def write_table(tool, args, name, rows, periods):

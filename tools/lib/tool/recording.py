@@ -5,7 +5,7 @@ import json
 
 from ..base import ending, text
 from ..base.rules import VERSION
-from . import command, file_io
+from . import exits, file_io
 
 
 def print_record(made):
@@ -27,5 +27,5 @@ def recording_failure(is_json, failure_record):
         yield
     except Exception as fault:
         if is_json:
-            print_record(failure_record(*command.status_and_message(fault)))
+            print_record(failure_record(*exits.status_and_message(fault)))
         raise

@@ -11,7 +11,7 @@ from ..results import decisions
 from ..runs import engine
 from ..runs.cleared import THE_DAY, Cleared, journal_bytes
 from ..runs.errors import Fault, Wrong
-from ..tool import command, day_files, output
+from ..tool import day_files, exits, output
 from . import changes
 
 COUNT = rules.HIGHEST_PRICE - rules.LOWEST_PRICE + 1  # of limits
@@ -218,7 +218,7 @@ def capture_rejected_sentences(day, who=None, is_asked=True):
     own = engine.clear_and_return_output_or_fault(journal_bytes(day.book.rows, day.problem.periods))
     if words := uncomputable_words_or_none(day, own):
         why, more = words
-        command.print_note("report", f"the limits that rejected blocks needed weren't computed: {why}: {more}")
+        exits.print_note("report", f"the limits that rejected blocks needed weren't computed: {why}: {more}")
         return dict.fromkeys(places, not_computed_words(why))
     bar = StepBar("report", len(places), "limits of rejected blocks")
     with engine.running_team(engine.count_processors()) as (team, running):
@@ -262,7 +262,7 @@ def capture_sentence(held, block, own, was, running):
     try:
         return capture_short_sentence(search)
     except Fault as fault:
-        command.print_note("report", f"the limit of {' '.join(search.key)} wasn't computed: {fault}")
+        exits.print_note("report", f"the limit of {' '.join(search.key)} wasn't computed: {fault}")
         return not_computed_words(BROKEN if isinstance(fault, Wrong) else "a run of the program failed")
 
 

@@ -4,7 +4,7 @@ import argparse
 import re
 
 from ..base import rules, text
-from ..tool import command, command_line, output
+from ..tool import command_line, exits, output
 from . import scenarios
 
 COUNT = "[1-9][0-9]{0,6}"
@@ -99,7 +99,7 @@ def is_picture_name(path):
 def refuse_wrong_scenario_options(args):
     """Ends the tool if the options of scenarios can't be used together."""
     def stop(words):
-        raise command.Stop(words, command.COMMAND_LINE)
+        raise exits.Stop(words, exits.COMMAND_LINE)
 
     drawn = {"--seed": args.seed, "--price-sd": args.price_sd, "--volume-sd": args.volume_sd}
     if (args.scenarios is None) == (args.sample is None):

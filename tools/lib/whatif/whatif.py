@@ -9,7 +9,7 @@ import json
 from ..base import place, rules, text
 from ..runs import by_program, cleared, cluster, engine, errors, which
 from ..runs.cleared import Cleared
-from ..tool import command, command_line, day_files, file_io, modules, output
+from ..tool import command_line, day_files, exits, file_io, modules, output
 from . import changes, limits, options, scenarios
 
 GRID = 2_000, 100  # cents per MWh: how far the limits of an hourly order reach from the price, and their distance
@@ -30,14 +30,14 @@ def main(description, epilog):
     try:
         return args.call(args)
     except errors.Fault as fault:
-        raise command.Stop(str(fault), status_of(fault)) from None
+        raise exits.Stop(str(fault), status_of(fault)) from None
 
 
 def status_of(fault):
     if isinstance(fault, errors.Wrong):
-        return command.DIFFERS
+        return exits.DIFFERS
     is_failure = isinstance(fault, (errors.Unstarted, errors.TimedOut)) or fault.is_failure()
-    return command.FAILED if is_failure else command.NO_INPUT
+    return exits.FAILED if is_failure else exits.NO_INPUT
 
 
 def require_and_set_program(args):
@@ -49,7 +49,7 @@ def require_and_set_program(args):
             unproved = "./dam prove builds it, and --program ./dam takes one that isn't proved"
             made = "the package dam has it" if place.IS_INSTALLED else unproved
             words = f"no program was found: {made}; or name it by --program or the environment variable DAM"
-            raise command.Stop(words, command.FAILED) from None
+            raise exits.Stop(words, exits.FAILED) from None
 
 
 def read_closed_book(args):
@@ -58,7 +58,7 @@ def read_closed_book(args):
     try:
         return changes.book_before_close_or_raise(found)
     except errors.Fault as fault:
-        raise command.Stop(f"{command.shown(args.journal)}: {fault}") from None
+        raise exits.Stop(f"{exits.shown(args.journal)}: {fault}") from None
 
 
 def engine_function(program, running=None):
@@ -73,29 +73,29 @@ def write_limit_and_return_status(args):
     results under some limits."""
     output.exec_or_refuse_wrong_options(args, args.journal)
     if args.all == bool(args.order):
-        raise command.Stop("give --order with the order's name, or --all for every block", command.COMMAND_LINE)
+        raise exits.Stop("give --order with the order's name, or --all for every block", exits.COMMAND_LINE)
     require_and_set_program(args)
     held = read_closed_book(args)
     if args.all:
         return write_all_limits_and_return_status(args, held)
     key = args.participant, args.order
     if key not in held.rows:
-        raise command.Stop(unknown_order_words(held, *key))
+        raise exits.Stop(unknown_order_words(held, *key))
     if held.rows[key].kind == "hour":
         return write_samples_and_return_status(args, held, key)
     if (args.least, args.greatest, args.step) != (None,) * 3:
-        raise command.Stop("--from, --to and --step can't be used with a block, whose limit is found exactly", command.COMMAND_LINE)
+        raise exits.Stop("--from, --to and --step can't be used with a block, whose limit is found exactly", exits.COMMAND_LINE)
     search = limits.LimitSearch(held, key, engine_function(args.program))
     found = search.search_for_worst()
     if args.json:
         data = json.dumps(limits.record(search, found), indent=1) + "\n"
     elif output.is_table_name(args.out) or args.decimal_comma:
         output.write_table("whatif", args, "limits", [limits.HEADS, limits.limit_cells(search, found)], held.periods)
-        return command.DONE
+        return exits.DONE
     else:
         data = "".join(f"{line}\n" for line in limits.answer_lines(search, found)).rstrip("\n") + "\n"
     file_io.write_file_or_stdout("whatif", args.out, data.encode())
-    return command.DONE
+    return exits.DONE
 
 
 def unknown_order_words(held, who, name):
@@ -112,7 +112,7 @@ def write_all_limits_and_return_status(args, held):
     """The worst limits of all blocks of a participant, as a table."""
     keys = [key for key, order in held.rows.items() if key[0] == args.participant and order.kind == "block"]
     if not keys:
-        raise command.Stop(f"{args.participant} has no block in the book")
+        raise exits.Stop(f"{args.participant} has no block in the book")
 
     with engine.running_team(args.jobs or engine.count_processors()) as (team, running):
 
@@ -123,7 +123,7 @@ def write_all_limits_and_return_status(args, held):
         promises = [team.submit(row, key) for key in keys]
         rows = list(engine.iterate_with_bar((promise.result() for promise in promises), len(keys), "block"))
     output.write_table("whatif", args, "limits", [limits.HEADS, *rows], held.periods)
-    return command.DONE
+    return exits.DONE
 
 
 def write_samples_and_return_status(args, held, key):
@@ -136,10 +136,10 @@ def write_samples_and_return_status(args, held, key):
     least = max(price - reach, rules.LOWEST_PRICE) if args.least is None else args.least
     greatest = min(price + reach, rules.HIGHEST_PRICE) if args.greatest is None else args.greatest
     if step <= 0 or least > greatest:
-        raise command.Stop("--from should be at most --to, and --step more than 0", command.COMMAND_LINE)
+        raise exits.Stop("--from should be at most --to, and --step more than 0", exits.COMMAND_LINE)
     grid = sorted({*range(least, greatest + 1, step), search.order.price})
     if len(grid) > MOST_LIMITS:
-        raise command.Stop(f"{len(grid):,} limits are too many: give a larger --step", command.COMMAND_LINE)
+        raise exits.Stop(f"{len(grid):,} limits are too many: give a larger --step", exits.COMMAND_LINE)
     texts = [search.bytes_with(cents) for cents in grid]
     with contextlib.closing(engine.iterate_outputs_or_faults(texts, args.jobs, program=args.program)) as answers:
         for cents, printed in zip(grid, engine.iterate_with_bar(answers, len(grid), "limit")):
@@ -152,9 +152,9 @@ def write_samples_and_return_status(args, held, key):
     own = search.order.price
     extra = "" if own in range(least, greatest + 1, step) else f", one of them the order's own, {text.shown_price(own)} EUR/MWh"
     count = text.counted(len(grid), "limit") + extra
-    command.print_note("whatif", f"sampled at {count}: between them the result may be another, since {limits.NO_LAW}")
+    exits.print_note("whatif", f"sampled at {count}: between them the result may be another, since {limits.NO_LAW}")
     output.write_table("whatif", args, "samples", rows, held.periods)
-    return command.DONE
+    return exits.DONE
 
 
 def write_change_and_return_status(args):
@@ -162,21 +162,21 @@ def write_change_and_return_status(args):
     energy and amount, in the table of tools/compare."""
     output.exec_or_refuse_wrong_options(args, args.journal, args.changes)
     if args.journal == args.changes == "-":
-        raise command.Stop("only one file can be standard input", command.COMMAND_LINE)
+        raise exits.Stop("only one file can be standard input", exits.COMMAND_LINE)
     require_and_set_program(args)
     before = read_closed_book(args)
     try:
         further, notes = changes.parse_changes_and_notes(file_io.read_bytes(args.changes), before.periods)
         for note in [] if args.quiet else notes:
-            command.print_note("whatif", f"{command.shown(args.changes)}: {note}")
+            exits.print_note("whatif", f"{exits.shown(args.changes)}: {note}")
         books = [before, changes.book_with_commands_or_raise(before, further)]
     except errors.Fault as fault:
-        raise command.Stop(f"{command.shown(args.changes)}: {fault}") from None
+        raise exits.Stop(f"{exits.shown(args.changes)}: {fault}") from None
     rows = list(capture_difference_rows(books, args.participant, args.program))
     if len(rows) == 1 and not args.quiet:
-        command.print_note("whatif", "nothing differs")
+        exits.print_note("whatif", "nothing differs")
     output.write_table("whatif", args, "changes", rows, before.periods)
-    return command.DONE
+    return exits.DONE
 
 
 def capture_difference_rows(books, who, program):
@@ -197,20 +197,20 @@ def require_asked_order(args, books):
     is_asked = key_test(args)
     if not any(map(is_asked, itertools.chain.from_iterable(books))):
         name = f" {args.order}" if args.order else ""
-        raise command.Stop(f"{args.participant} has no order{name} in the book or in a scenario")
+        raise exits.Stop(f"{args.participant} has no order{name} in the book or in a scenario")
 
 
 def require_asked_blocks(args, held):
     """The blocks whose distribution is asked for."""
     if args.order and (args.participant, args.order) not in held.rows:
-        raise command.Stop(unknown_order_words(held, args.participant, args.order))
+        raise exits.Stop(unknown_order_words(held, args.participant, args.order))
     if not any(who == args.participant for who, _ in held.rows):
-        raise command.Stop(unknown_order_words(held, args.participant, None))
+        raise exits.Stop(unknown_order_words(held, args.participant, None))
     blocks = [key for key, order in held.rows.items() if key[0] == args.participant and order.kind == "block"]
     own = [key for key in blocks if args.order in (None, key[1])]
     if not own:
         words = f"{args.order} of {args.participant} isn't a block" if args.order else f"{args.participant} has no block in the book"
-        raise command.Stop(f"{words}: give --rows orders or --rows participants")
+        raise exits.Stop(f"{words}: give --rows orders or --rows participants")
     return own
 
 
@@ -247,15 +247,15 @@ def write_scenarios_and_return_status(args):
         write_distribution(args, held, over)
     else:
         output.write_table("whatif", args, "scenarios", capture_scenario_rows(args, held, given, count), held.periods)
-    return command.DONE
+    return exits.DONE
 
 
 def read_scenarios_and_count(args, held):
     """The scenarios of a table, and their number. Notes on the table are printed."""
     data = file_io.read_bytes(args.scenarios)
-    given, notes = scenarios.parse_table_and_notes(command.shown(args.scenarios), data, held)
+    given, notes = scenarios.parse_table_and_notes(exits.shown(args.scenarios), data, held)
     for note in [] if args.quiet else notes:
-        command.print_note("whatif", f"{command.shown(args.scenarios)}: {note}")
+        exits.print_note("whatif", f"{exits.shown(args.scenarios)}: {note}")
     if args.participant:
         require_asked_order(args, itertools.chain([held.rows], (scenario.rows() for scenario in given)))
     return given, len(given)
@@ -317,7 +317,7 @@ def key_test(args):
 def require_printed(name, printed):
     """The printed text; ends the tool if it is a fault."""
     if isinstance(printed, errors.Fault):
-        raise command.Stop(f"{text.safe(name)}: {printed}", status_of(printed))
+        raise exits.Stop(f"{text.safe(name)}: {printed}", status_of(printed))
     return printed
 
 
@@ -330,7 +330,7 @@ def write_distribution(args, held, over):
     """The table of the blocks over all scenarios, or a picture and then the table on standard output."""
     if not args.quiet:
         for line in scenarios.distribution_lines(over):
-            command.print_note("whatif", line)
+            exits.print_note("whatif", line)
     if options.is_picture_name(args.out):
         from . import scenario_picture
 
