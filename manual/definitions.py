@@ -57,7 +57,7 @@ class Definitions:
 
     def pages_of_used_names(self, crate, module, name):
         """The page of each definition that a definition's text names."""
-        nodes = self.repository.read_targets_below((crate, "specs", module, name))
+        nodes = self.repository.read_targets_named_in((crate, "specs", module, name))
         return {other: self.pages[home, other] for home, kind, _, other in nodes if kind == "specs" and (home, other) in self.pages}
 
     def notation_page_text(self):

@@ -218,6 +218,12 @@ class Facts(unittest.TestCase):
         said = re.findall(r"(\d+) of `must-fail/`", "".join(map(plain, PAGES)))
         self.assertEqual(said, [str(count)])
 
+    def test_the_number_of_wrong_bodies_that_tests_find(self):
+        """It is said in a round number."""
+        count = len(re.findall("^name: ", (TOP / "tests/rattle/wrong-bodies.edit").read_text(), re.MULTILINE))
+        said = re.search(r"Some (\d+) bugs that contracts allow", plain(TOP / "docs/CHECK.md"))
+        self.assertAlmostEqual(int(said[1]) / count, 1, delta=0.05)
+
     def test_the_parts_of_the_recorded_run(self):
         """CHECK.md names those that are newer."""
         check, runs = (TOP / "docs/CHECK.md").read_text(), (TOP / "tests/RUNS.md").read_text()
@@ -389,9 +395,16 @@ class Facts(unittest.TestCase):
 
         programs = ("dam_cli", "dam_desk")
         needed = {name for program in programs for name in (program, *crates.all_below(used, program))}
+        self.assertLessEqual(needed, set(seconds_of_proofs()), "tools/prove has no time of it")
         text = plain(TOP / "docs" / "CHECK.md")
         self.assertEqual(int(re.search(r"`\./dam prove` proves (\d+) of the crates", text)[1]), len(needed))
         self.assertEqual(re.search(r"a chain of (\w+) crates", text)[1], NUMERALS[max(map(longest, programs)) - 1])
+
+
+def seconds_of_proofs():
+    """The table of tools/prove: the seconds that it expects for each crate."""
+    tree = ast.parse((TOP / "tools/prove").read_text())
+    return next(ast.literal_eval(made.value) for made in tree.body if isinstance(made, ast.Assign) and ast.unparse(made.targets[0]) == "SECONDS")
 
 
 if __name__ == "__main__":

@@ -45,7 +45,9 @@ class Audit:
             proof_words = sent.no_proof_words if options.receipts is None else signed.proof_words
             self.read_and_compare_sent_and_note(read, reasons, closed, proof_words)
         if signed is not None:
-            self.read_earlier_and_compare_with_signed_and_note(signed)
+            self.found.checked += ["head", "receipts"] if options.receipts is not None else ["head"]
+            self.read_and_add_earlier_heads(signed)
+            self.compare_with_signed_and_note(signed)
         if options.replies:
             self.check_replies_and_note(read.periods, reasons, published_bytes)
         elif published_bytes is not None:
@@ -81,7 +83,10 @@ class Audit:
             return
         how = self.search_for_better_and_note(problem, published) if self.options.best else None
         if self.found.search is None or self.found.search["better"] is None:
-            others = f"; no selection is better: {how}" if how else NOT_CHECKED if problem.blocks else ""
+            if how:
+                others = f"; no selection is better: {how}"
+            else:
+                others = NOT_CHECKED if problem.blocks else ""
             self.found.right.append(right_line(problem, published, reasons) + others)
             self.found.right.append(sums.payments_line(problem, sums.sums(problem, published)))
             if self.options.sent is not None:
@@ -152,17 +157,18 @@ class Audit:
         signed.odd += odd
         return signed
 
-    def read_earlier_and_compare_with_signed_and_note(self, signed):
-        """Compares the journal and its replies with the head that the operator signed, with earlier heads, and with receipts."""
-        options = self.options
-        self.found.checked += ["head", "receipts"] if options.receipts is not None else ["head"]
-        for path in options.earlier:
+    def read_and_add_earlier_heads(self, signed):
+        """Adds the earlier heads of the options to what the operator signed."""
+        for path in self.options.earlier:
             signed.add_earlier_head(path, self.inputs.read_and_note("earlier", path))
+
+    def compare_with_signed_and_note(self, signed):
+        """Compares the journal and its replies with the head that the operator signed, with earlier heads, and with receipts."""
         self.found.signed_faults += [*signed.head_faults(), *signed.earlier_faults(), *signed.receipt_faults()]
         right = f"as signed: {signed.head}"
         if signed.earlier:
             right += f", which begins with {text.counted(len(signed.earlier), 'earlier head')}"
-        if options.receipts is not None:
+        if self.options.receipts is not None:
             right += f"; {text.counted(len(signed.findings), 'receipt')} of its entries"
         self.found.foreign = signed.foreign
         self.found.odd += [FaultLine(str(finding), "encoding") for finding in signed.odd]

@@ -179,11 +179,11 @@ class Repository:
         _, found = self.read_source_and_targets(crate, module)
         return {found.get(name) for name in words_of(head[CLAUSE.search(head).start() :])} - {None}
 
-    def read_targets_below(self, node):
-        """The names in a definition or a type."""
+    def read_targets_named_in(self, node):
+        """The definitions and types that a definition or a type names."""
         crate, kind, module, name = node
         if kind == "src":
-            return self.read_targets_below_type(crate, module, name)
+            return self.read_targets_named_in_type(crate, module, name)
         texts = self.read_definitions(crate, module)
         if name not in texts:
             holder = next((key for key, text in texts.items() if re.search(rf"^  {re.escape(name)} :", text, re.M)), None)
@@ -194,7 +194,7 @@ class Repository:
         self.add_targets_of_used_names(self.read_or_none(f"crates/{crate}/specs/{module}.antt"), found)
         return {found.get(word) for word in words_of(texts[name])} - {None, node}
 
-    def read_targets_below_type(self, crate, module, name):
+    def read_targets_named_in_type(self, crate, module, name):
         text, found = self.read_source_and_targets(crate, module)
         model = re.search(rf"^impl(?:<[^>]*>)? Model for {name}\b.*?^\}}$", text, re.M | re.S)
         if model:
@@ -214,7 +214,7 @@ class Repository:
         def visit(node):
             if node not in seen:
                 seen.add(node)
-                for other in sorted(self.read_targets_below(node)):
+                for other in sorted(self.read_targets_named_in(node)):
                     visit(other)
                 ordered.append(node)
 

@@ -180,8 +180,10 @@ def difference_faults(sent, entries, where=JOURNAL, look=lambda: None, proof_wor
     sent_times = Counter(entry.command for entry in sent)
     faults = [(other.record, moved_fault(one, other)) for one, other in moved]
     faults += [(other.record, changed_fault(one, other, proof_words(one.command))) for one, other in changed]
-    found = [(sent[at].record, entries[place].record) for at, place in pairs]
-    faults += [(record_number_before(one, found), missing_fault(one, where, proof_words(one.command))) for one in left]
+    matched_records = [(sent[at].record, entries[place].record) for at, place in pairs]
+    for one in left:
+        fault = missing_fault(one, where, proof_words(one.command))
+        faults.append((last_record_before(one, matched_records), fault))
     faults += [(other.record, more_fault(other, sent_times[other.command])) for other in more]
     return [fault for _, fault in sorted(faults, key=lambda placed: placed[0])]
 
@@ -218,10 +220,11 @@ def more_fault(other, times):
     return FaultLine(words, "repeated", other.line, subject_of(other))
 
 
-def record_number_before(one, record_pairs):
-    """The record of the journal that a missing command should come after. Each pair is of a sent record and one of the journal."""
-    before = bisect_left(record_pairs, (one.record,))
-    return record_pairs[before - 1][1] if before else 0
+def last_record_before(missing, matched_records):
+    """The number of the journal's record after which a missing command should come, or 0. The pairs of `matched_records` are of a record
+    sent and the journal's record that is the same command, in the order of both."""
+    count = bisect_left(matched_records, (missing.record,))
+    return matched_records[count - 1][1] if count else 0
 
 
 def reply_lines(sent, entries):

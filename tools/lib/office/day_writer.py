@@ -117,7 +117,7 @@ class DayWriter:
         await self.ledger.sign_and_cache_heads(begin, end)
         self.newest.note_head(self.ledger.signed_head(end))
         for one in entered:
-            if one.who is None:
+            if one.is_close:
                 one.done.cancel()
             else:
                 answer_entered(self.ledger, one)

@@ -13,13 +13,18 @@ MOST_BATCH = 1_000  # records that the desk gets at once
 @dataclasses.dataclass(eq=False)
 class Submission:
     """Commands of one request. `first` is the number that the participant gave the first one. `is_authorized` tells whether its token is
-    still the participant's. `done` gets the numbers of the entries. The close has no participant."""
+    still the participant's. `done` gets the numbers of the entries."""
 
     who: str
     first: int
     commands: list
     is_authorized: object = lambda: True
     done: asyncio.Future = dataclasses.field(default_factory=lambda: asyncio.get_running_loop().create_future())
+
+    @property
+    def is_close(self):
+        """Whether it closes the book: the office does that, so it has no participant."""
+        return self.who is None
 
     @property
     def last(self):
@@ -44,7 +49,7 @@ class SubmissionQueue:
         batch, later, taken = [], [], {}
         queue, self.waiting = self.waiting, []
         for place, one in enumerate(queue):
-            if one.who is None:
+            if one.is_close:
                 if not batch and not later and place == len(queue) - 1 and not ledger.is_closed:
                     batch.append((one.commands[0], one))
                 elif not ledger.is_closed:
@@ -76,9 +81,9 @@ class SubmissionQueue:
     def refuse_batch(self, fault, words):
         """Refuses the participants' submissions of the batch, of which nobody knows yet if they are entered, and leaves the close in it."""
         for one in submissions_of(self.batch):
-            if one.who is not None:
+            if not one.is_close:
                 fail_future(one.done, Refused(fault, words))
-        self.batch = [(command, one) for command, one in self.batch if one.who is None]
+        self.batch = [(command, one) for command, one in self.batch if one.is_close]
 
     def refuse_all(self, fault, words):
         """Refuses all submissions, which stay in the queue."""

@@ -13,7 +13,7 @@ PEAK = 8 * 60, 20 * 60
 def curve_steps(day, number, side):
     """The curve of a side in a period: the volume of its accepted blocks, which has no price of its own and so stands at the limit of
     the range, and then its hourly orders by price, the best first. Each as a part, a price and a volume."""
-    blocks = sum(volume for at, volume in accepted_volumes(day, side) if at == number)
+    blocks = sum(volume for at, volume in volumes_of_accepted_blocks(day, side) if at == number)
     if blocks:
         yield "blocks", rules.HIGHEST_PRICE if side == "buy" else rules.LOWEST_PRICE, blocks
     merged = {}
@@ -24,7 +24,8 @@ def curve_steps(day, number, side):
         yield "hourly", limit, merged[limit]
 
 
-def accepted_volumes(day, side):
+def volumes_of_accepted_blocks(day, side):
+    """Pairs of a period and a volume in it: those of each accepted block of a side."""
     for place in day.published.accepted:
         order = day.problem.blocks[place].order
         if order.side == side:

@@ -44,7 +44,7 @@ class Columns:
             cell_values.refuse_unlike(self.places.given_cell(cells, WHAT), True)
         except order_table.BadOrders as fault:
             row.faults.append(f"column {WHAT}: {fault}")
-        add_other_faults(row, what)
+        add_unneeded_cell_faults(row, what)
         if self.is_empty(cells):
             return None, row.faults
         return row.parse_unsplit_or_note_faults(lambda each: parse_command_or_note_faults(each, what)), row.faults
@@ -55,7 +55,7 @@ def is_command_table(table_cells):
     return WHAT in table_files.column_names(table_cells.line_and_header()[1])
 
 
-def add_other_faults(row, word):
+def add_unneeded_cell_faults(row, word):
     """Adds to a row's faults its cells that the command doesn't have."""
     for name in order_table.ORDER if word in NEEDED else []:
         if name not in NEEDED[word] and (cell := row.cell_text(name)):

@@ -240,7 +240,11 @@ def write_scenarios_and_return_status(args):
         modules.exec_or_require_modules("distributed")
     require_and_set_program(args)
     held = read_closed_book(args)
-    given, count = read_scenarios_and_count(args, held) if args.sample is None else draw_scenarios_and_count(args, held)
+    if args.sample is None:
+        given = read_scenarios_and_print_notes(args, held)
+        count = len(given)
+    else:
+        given, count = draw_scenarios(args, held), args.sample
     if args.sample and not args.rows:
         over = scenarios.Distribution(held, require_asked_blocks(args, held))
         clear_and_add_scenarios_or_stop(over, args, held, given, count)
@@ -250,22 +254,22 @@ def write_scenarios_and_return_status(args):
     return exits.DONE
 
 
-def read_scenarios_and_count(args, held):
-    """The scenarios of a table, and their number. Notes on the table are printed."""
+def read_scenarios_and_print_notes(args, held):
+    """The scenarios of a table. Notes on the table are printed."""
     data = file_io.read_bytes(args.scenarios)
     given, notes = scenarios.parse_table_and_notes(exits.shown(args.scenarios), data, held)
     for note in [] if args.quiet else notes:
         exits.print_note("whatif", f"{exits.shown(args.scenarios)}: {note}")
     if args.participant:
         require_asked_order(args, itertools.chain([held.rows], (scenario.rows() for scenario in given)))
-    return given, len(given)
+    return given
 
 
-def draw_scenarios_and_count(args, held):
-    """Random scenarios, and their number."""
+def draw_scenarios(args, held):
+    """As many random scenarios as the options ask for."""
     sds = [3 if args.price_sd is None else args.price_sd, 0.1 if args.volume_sd is None else args.volume_sd]
     sampler = scenarios.Sampler(held, args.participant, args.seed or "1", sds[0] * 100, sds[1])
-    return sampler.draw_scenarios(args.sample), args.sample
+    return sampler.draw_scenarios(args.sample)
 
 
 def capture_scenario_rows(args, held, given, count):

@@ -73,7 +73,7 @@ class Part:
                 fed += len(chunk)
                 if len(names) > MOST_NAMES:
                     raise too_many_error(MOST_NAMES, "names of elements")
-                characters += sum(map(length_or_refuse, itertools.islice(names, seen, None)))
+                characters += sum(map(name_length_or_refuse, itertools.islice(names, seen, None)))
                 seen = len(names)
                 if characters > MOST_NAMED:
                     raise too_many_error(MOST_NAMED, "characters in the names of elements")
@@ -94,7 +94,7 @@ class Part:
         self.namespaces += 1
         if self.namespaces > MOST_NAMESPACES:
             raise too_many_error(MOST_NAMESPACES, "namespaces")
-        length_or_refuse(uri)
+        name_length_or_refuse(uri)
 
     def open_element(self, name, attributes):
         self.package.elements += 1
@@ -218,7 +218,7 @@ def places_and_known_elements(kind, prefix):
     return {**{name: {} for name in known}, **places}, known - LEFT_OUT
 
 
-def length_or_refuse(name):
+def name_length_or_refuse(name):
     """The length of a name of XML, or of none, if it isn't too long."""
     length = len(name or "")
     if length > LONGEST_NAME:
