@@ -17,9 +17,9 @@ import sys
 from pathlib import Path
 from typing import NamedTuple
 
-from again import REFUSALS
-from costs import crowded_book
-from judge import UNFINISHED
+from instruction_costs import crowded_book
+from retried_calls import REFUSALS
+from right_answers import UNFINISHED
 from shared.cost_tables import Cost
 from shared.instructions import FIXED, measure_counts
 from shared.preload import HostileProgram, RefusedCalls

@@ -9,49 +9,49 @@ sys.dont_write_bytecode = True
 TESTS = Path(__file__).resolve().parents[1]
 sys.path[:0] = [str(TESTS), str(TESTS / "fuzz"), str(TESTS.parent / "tools")]
 
-import again
-import costs
 import costs_by_shape
+import instruction_costs
 import peaks
-import properties
-import rows
+import program_checks
+import retried_calls
+import rows_of_runs
 from shared.cost_tables import check_costs, write_tables
 from shared.parts_asked import parse_parts_or_exit
 from shared.preload import HostileProgram
 
 
 def check_memory(runs):
-    runs.check_rows("memory refused once in the worked cases", rows.rows_of_cases())
-    runs.check_rows("memory refused from one call on in the worked cases", rows.rows_of_cases_without_memory())
-    runs.check_rows("memory refused in days and other runs", rows.rows_of_memory())
+    runs.check_rows("memory refused once in the worked cases", rows_of_runs.rows_of_cases())
+    runs.check_rows("memory refused from one call on in the worked cases", rows_of_runs.rows_of_cases_without_memory())
+    runs.check_rows("memory refused in days and other runs", rows_of_runs.rows_of_memory())
 
 
 def check_calls(runs):
-    runs.check_rows("threads refused", rows.rows_of_threads())
-    runs.check_rows("random bytes refused", rows.rows_of_random_bytes())
-    runs.check_rows("reads and writes that fail", rows.rows_of_devices())
-    properties.check_devices(runs)
+    runs.check_rows("threads refused", rows_of_runs.rows_of_threads())
+    runs.check_rows("random bytes refused", rows_of_runs.rows_of_random_bytes())
+    runs.check_rows("reads and writes that fail", rows_of_runs.rows_of_devices())
+    program_checks.check_devices(runs)
 
 
 def check_retries(runs):
-    again.check_rows(runs, runs.program.room, rows.rows_of_calls(runs.program))
+    retried_calls.check_rows(runs, runs.program.room, rows_of_runs.rows_of_calls(runs.program))
 
 
 def check_texts(runs):
-    properties.check_freed_texts(runs)
-    properties.check_reads(runs)
-    properties.check_writes(runs)
+    program_checks.check_freed_texts(runs)
+    program_checks.check_reads(runs)
+    program_checks.check_writes(runs)
 
 
 def check_threads(runs):
-    properties.check_seeds(runs)
-    properties.check_threads(runs)
-    properties.check_strays(runs)
+    program_checks.check_seeds(runs)
+    program_checks.check_threads(runs)
+    program_checks.check_strays(runs)
 
 
 def check_books(runs):
-    properties.check_books_by_size(runs)
-    properties.check_copies(runs)
+    program_checks.check_books_by_size(runs)
+    program_checks.check_copies(runs)
 
 
 def check_shapes(runs):
@@ -65,11 +65,11 @@ PARTS = {
     "threads": check_threads,
     "texts": check_texts,
     "books": check_books,
-    "stacks": properties.check_stacks,
+    "stacks": program_checks.check_stacks,
     "peaks": peaks.check_peaks,
-    "names": costs.check_names,
-    "cancels": costs.check_cancels,
-    "full": costs.check_full_books,
+    "names": instruction_costs.check_names,
+    "cancels": instruction_costs.check_cancels,
+    "full": instruction_costs.check_full_books,
     "shapes": check_shapes,
 }
 COUNTED = ["names", "cancels", "full", "shapes"]  # by valgrind
@@ -78,7 +78,7 @@ COUNTED = ["names", "cancels", "full", "shapes"]  # by valgrind
 def main():
     room, program, *words = sys.argv[1:]
     asked = parse_parts_or_exit(words, PARTS)
-    runs = rows.RunsOfRows(HostileProgram(program, room), asked.is_whole)
+    runs = rows_of_runs.RunsOfRows(HostileProgram(program, room), asked.is_whole)
     if asked.counts_only:
         return write_tables(costs_by_shape.HERE, costs_by_shape.measure_costs(runs))
     for name in asked.names:

@@ -12,8 +12,8 @@ twice, holds at most as much each time."""
 
 import itertools
 
-from again import REFUSALS
-from judge import UNFINISHED
+from retried_calls import REFUSALS
+from right_answers import UNFINISHED
 from shared.preload import HostileProgram, RefusedCalls
 from shared.printed import Printed
 from lib.base import rules

@@ -7,10 +7,10 @@ import subprocess
 import sys
 
 import costs_by_shape
-import judge
 import peaks
+import right_answers
 from shared.preload import LEFT, SECONDS, HostileProgram, RefusedCalls
-from rows import AUCTION, CLOSE, DAY, OPEN_AUCTION, TOP
+from rows_of_runs import AUCTION, CLOSE, DAY, OPEN_AUCTION, TOP
 from shared.printed import Printed
 from lib.base import rules
 
@@ -34,22 +34,22 @@ def check_devices(runs):
     for words, data in [(["replay"], AUCTION), (["clear"], AUCTION), (["day"], OPEN_AUCTION), (["--help"], b"")]:
         runs.check(f"{words[0]} to a closed stream", is_failed_write(run_with_closed_stream(runs.program, words, data, ">&-")))
         status = run_with_closed_stream(runs.program, words, data, ">&- 2>&-").status
-        runs.check(f"{words[0]} with no standard error", status == judge.MACHINE)
+        runs.check(f"{words[0]} with no standard error", status == right_answers.MACHINE)
         if data:
-            runs.check(f"{words[0]} of a closed stream", run_with_closed_stream(runs.program, words, data, "<&-") == judge.READ)
+            runs.check(f"{words[0]} of a closed stream", run_with_closed_stream(runs.program, words, data, "<&-") == right_answers.READ)
         with open("/dev/full", "wb") as full:
-            got, _ = runs.program.run(words, data, judge.NOTHING_REFUSED, stdout=full)
+            got, _ = runs.program.run(words, data, right_answers.NOTHING_REFUSED, stdout=full)
         runs.check(f"{words[0]} to a full device", is_failed_write(got))
         ours, theirs = os.pipe()
         os.close(ours)
-        got, _ = runs.program.run(words, data, judge.NOTHING_REFUSED, stdout=theirs)
+        got, _ = runs.program.run(words, data, right_answers.NOTHING_REFUSED, stdout=theirs)
         os.close(theirs)
         runs.check(f"{words[0]} to a closed pipe", is_failed_write(got))
 
 
 def is_failed_write(got):
-    line = judge.WRITE.fullmatch(got.stderr)
-    return line is not None and line[1] == b"0" and got == Printed(judge.MACHINE, b"", got.stderr)
+    line = right_answers.WRITE.fullmatch(got.stderr)
+    return line is not None and line[1] == b"0" and got == Printed(right_answers.MACHINE, b"", got.stderr)
 
 
 def check_seeds(runs):
@@ -83,7 +83,7 @@ def check_threads(runs):
 def check_strays(runs):
     """A program that writes while a thread of it still runs is found, so the runs of the rows leave none, whatever call is refused."""
     script = "import threading; threading.Thread(target=threading.Event().wait, daemon=True).start(); print()"
-    got, _ = HostileProgram(sys.executable, runs.program.room).run(["-c", script], b"", judge.NOTHING_REFUSED)
+    got, _ = HostileProgram(sys.executable, runs.program.room).run(["-c", script], b"", right_answers.NOTHING_REFUSED)
     runs.check("a thread that isn't joined is found", got.stderr == LEFT)
 
 
@@ -167,7 +167,7 @@ def capture_amended_journals(program, count):
     numbered = zip(range(count), itertools.cycle(peaks.NAMES), itertools.cycle(volumes))
     amends = [peaks.block_amend(name, at * 7_919 % rules.HIGHEST_PRICE, text) for at, name, text in numbered]
     closed = b"".join([*begin, *amends, peaks.CLOSE])
-    short, _ = program.run(["clear"], b"".join([*begin, *amends[-len(peaks.NAMES) :], peaks.CLOSE]), judge.NOTHING_REFUSED)
+    short, _ = program.run(["clear"], b"".join([*begin, *amends[-len(peaks.NAMES) :], peaks.CLOSE]), right_answers.NOTHING_REFUSED)
     yield "day", closed.removesuffix(peaks.CLOSE), 700 * count, closed + b"results\n" + short.stdout
     yield "clear", closed, 100, short.stdout
 
@@ -196,9 +196,9 @@ def check_stacks(runs):
     small = ["sh", "-c", 'ulimit -s 512; exec "$@"', "sh"]
     for family in (["paradox", "500"], ["paradox", "4000", "24", "4"], ["nearties", "4000"]):
         data = subprocess.run([sys.executable, TOP / "bench" / "make_family.py", *family], stdout=subprocess.PIPE, check=True).stdout
-        for limit, status in ([], 0), (["--nodes", "100"], judge.UNFINISHED):
+        for limit, status in ([], 0), (["--nodes", "100"], right_answers.UNFINISHED):
             words = ["clear", "--workers", "1", "--cut", "0", *limit]
-            got, _ = runs.program.run(words, data, judge.NOTHING_REFUSED, under=small)
+            got, _ = runs.program.run(words, data, right_answers.NOTHING_REFUSED, under=small)
             about = f"{' '.join(words)} of {' '.join(family)} with 512 KiB of stack"
             runs.check(f"{about}: status {got.status}, {got.stderr[:80]!r}", got.status == status)
 

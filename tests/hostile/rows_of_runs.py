@@ -7,8 +7,8 @@ from concurrent.futures import ThreadPoolExecutor
 from pathlib import Path
 from typing import NamedTuple
 
-import again
-import judge
+import retried_calls
+import right_answers
 from shared.preload import ABOVE_ANY_CALL, RefusedCalls
 from shared import cases
 from shared.counts import Counts
@@ -87,7 +87,7 @@ CUTTINGS = [["--workers", "1", "--cut", "0"], ["--workers", "2", "--cut", "3"], 
 
 
 def row_of_growths(about, words, data, **how):
-    return RowOfRuns(about, words, data, "memory", judge.is_right_without_memory, **how)
+    return RowOfRuns(about, words, data, "memory", right_answers.is_right_without_memory, **how)
 
 
 def rows_of_cases():
@@ -136,21 +136,21 @@ def rows_of_calls(program):
     worked = {name: (words, data) for name, words, data in read_worked_cases()}
     days = [("two orders", TWO_ORDERS)]
     days += [(f"the commands of {name}", worked[f"replay/{name}"][1]) for name in ["stored-run", "closed", "links"]]
-    yield from again.journals_at_gate([*days, ("the longest day", LONGEST_DAY), ("the auction day", OPEN_AUCTION)])
-    yield from again.journals_on_threads([("two orders", TWO_ORDERS), ("the auction day", OPEN_AUCTION)])
-    yield from again.rows_of_gates()
+    yield from retried_calls.journals_at_gate([*days, ("the longest day", LONGEST_DAY), ("the auction day", OPEN_AUCTION)])
+    yield from retried_calls.journals_on_threads([("two orders", TWO_ORDERS), ("the auction day", OPEN_AUCTION)])
+    yield from retried_calls.rows_of_gates()
     texts = [(name, data) for name, (words, data) in worked.items() if words == ["replay"] or name == "clear/quoted-crlf"]
     written = [("two orders", TWO_ORDERS + CLOSE), ("the longest day", LONGEST_DAY + CLOSE), ("the auction day", AUCTION)]
-    yield from again.capture_rows_of_texts(program, [*texts, ("the longest day", LONGEST_DAY + CLOSE)], written)
-    yield from again.rows_of_searches(worked["clear/two-equal-blocks"][1], worked["clear/group"][1])
-    yield from again.rows_of_lines()
+    yield from retried_calls.capture_rows_of_texts(program, [*texts, ("the longest day", LONGEST_DAY + CLOSE)], written)
+    yield from retried_calls.rows_of_searches(worked["clear/two-equal-blocks"][1], worked["clear/group"][1])
+    yield from retried_calls.rows_of_lines()
 
 
 def rows_of_threads():
     for plan in CUTTINGS:
         for word, data in [("clear", AUCTION), ("day", OPEN_AUCTION)]:
             about, words = f"{word} by {' '.join(plan)}", [word, *plan]
-            row = RowOfRuns(f"{about}, one thread", words, data, "thread", judge.is_unchanged, error=errno.EAGAIN)
+            row = RowOfRuns(f"{about}, one thread", words, data, "thread", right_answers.is_unchanged, error=errno.EAGAIN)
             yield row
             yield row._replace(about=f"{about}, all threads from one on", last=ABOVE_ANY_CALL)
 
@@ -158,7 +158,7 @@ def rows_of_threads():
 def rows_of_random_bytes():
     for words, data in [(["replay"], AUCTION), (["clear"], AUCTION), (["day"], OPEN_AUCTION)]:
         for error in [errno.EIO, errno.ENOSYS]:
-            yield RowOfRuns(f"{words[0]} without random bytes", words, data, "random", judge.is_unchanged, error=error)
+            yield RowOfRuns(f"{words[0]} without random bytes", words, data, "random", right_answers.is_unchanged, error=error)
 
 
 def rows_of_devices():
@@ -169,17 +169,17 @@ def rows_of_devices():
             about = f"{words[0]} of {len(data)} bytes, " + (f"{most} at a time" if most else "as they come")
             how = {"most": most, "each": each}
             for error in [errno.EIO, errno.EINTR, errno.EAGAIN]:
-                named = errno.errorcode[error]
-                yield RowOfRuns(f"{about}, a read with {named}", words, data, "read", judge.is_right_after_read, error=error, **how)
+                failing = f"{about}, a read with {errno.errorcode[error]}"
+                yield RowOfRuns(failing, words, data, "read", right_answers.is_right_after_read, error=error, **how)
             yield RowOfRuns(f"{about}, a read of 0 bytes", words, data, "read", is_right_at_end_of_input, **how)
             for error in [errno.EIO, errno.ENOSPC, errno.EINTR, errno.EAGAIN]:
-                named = errno.errorcode[error]
-                yield RowOfRuns(f"{about}, a write with {named}", words, data, "write", judge.is_right_after_write, error=error, **how)
-            yield RowOfRuns(f"{about}, a write of 0 bytes", words, data, "write", judge.is_right_after_write, **how)
+                failing = f"{about}, a write with {errno.errorcode[error]}"
+                yield RowOfRuns(failing, words, data, "write", right_answers.is_right_after_write, error=error, **how)
+            yield RowOfRuns(f"{about}, a write of 0 bytes", words, data, "write", right_answers.is_right_after_write, **how)
     for words, data in [(["replay"], BROKEN), (["clear"], OPEN_AUCTION), (["day"], AUCTION), (["clear", "--cut", "9"], b"")]:
         for error in [errno.EIO, 0]:
             about = f"{' '.join(words)} with a fault, its line with " + (errno.errorcode.get(error) or "0 bytes taken")
-            yield RowOfRuns(about, words, data, "report", judge.is_right_after_report, last=ABOVE_ANY_CALL, error=error, most=1)
+            yield RowOfRuns(about, words, data, "report", right_answers.is_right_after_report, last=ABOVE_ANY_CALL, error=error, most=1)
 
 
 def is_right_at_end_of_input(answer, refusal, got, calls):
@@ -255,7 +255,7 @@ class RunsOfRows(Counts):
         print(f"{about}: {shown}; {self.passed - passed} right, {self.failed - failed} wrong, {took:.1f} s", flush=True)
 
 
-class AnswerToRow(judge.RightAnswer):
+class AnswerToRow(right_answers.RightAnswer):
     def __init__(self, runs, words, data):
         super().__init__(runs.program, words, data)
         self.runs = runs

@@ -18,8 +18,8 @@ import itertools
 import struct
 from typing import NamedTuple
 
-from again import REFUSALS
-from judge import UNFINISHED
+from retried_calls import REFUSALS
+from right_answers import UNFINISHED
 from shared.instructions import DRAWN, FIXED, MOST_TIMES, TIMES, check_and_print_millions, measure_instructions
 from shared.preload import HostileProgram, RefusedCalls
 from shared.records import (

@@ -5,7 +5,7 @@ import bisect
 from pathlib import Path
 from typing import NamedTuple
 
-import judge
+import right_answers
 from lib.base import rules
 from lib.runs.by_library import MOST_NODES
 from shared.preload import ABOVE_ANY_CALL, HostileProgram, RefusedCalls
@@ -62,7 +62,7 @@ class RetryingRuns:
         """Refuses one call for memory after another. The first ones come before the row's calls; the others come from these, each of
         which is refused once and then answered."""
         check = self.runs.check
-        check(f"{row.about}, nothing refused", self.run_refused(row, judge.NOTHING_REFUSED) == row.right_output(0))
+        check(f"{row.about}, nothing refused", self.run_refused(row, right_answers.NOTHING_REFUSED) == row.right_output(0))
         total = self.measure_count_of_calls(row.words, row.data)
         numbers = self.refused_numbers(row, total)
         *printed, last = self.runs.pool.map(lambda number: self.run_refused(row, RefusedCalls("memory", number, number)), numbers)
@@ -104,7 +104,7 @@ def rows_of_gates():
 def capture_rows_of_texts(program, given, written):
     """Texts that are read, and journals that are written."""
     for about, data in given:
-        replies, _ = program.run(["replay"], data, judge.NOTHING_REFUSED)
+        replies, _ = program.run(["replay"], data, right_answers.NOTHING_REFUSED)
         commands = replies.stdout.count(b"\n") - 1
         answer = replies.stderr.decode().rstrip("\n") if replies.status else f"{commands} commands"
         yield RowOfRetries(f"{about}, read", ["read"], data, answer, least=commands >= 0)
