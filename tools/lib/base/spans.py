@@ -17,9 +17,9 @@ def parse_periods(words, greatest, separators=";", periods=None):
     numbers = []
     parts = [part for each in re.split(f"[{separators}]", words) if (part := each.strip(" "))]
     for part in parts or [""]:
-        found = RUN.fullmatch(part)
-        first, last = (int(found[1]), int(found[2] or found[1])) if found else (0, 0)
-        if not found or first > last or last > greatest:
+        run = RUN.fullmatch(part)
+        first, last = (int(run[1]), int(run[2] or run[1])) if run else (0, 0)
+        if not run or first > last or last > greatest:
             by = separators[0]
             raise ValueError(f"periods and runs of them, such as 8, 8-20 or 1{by}3{by}5-7, from 1 to {periods or greatest}")
         numbers += range(first, last + 1)
@@ -28,13 +28,13 @@ def parse_periods(words, greatest, separators=";", periods=None):
 
 def runs_of(numbers):
     """The first and the last number of each run of numbers that follow one another."""
-    found = []
+    runs = []
     for number in numbers:
-        if found and found[-1][1] == number - 1:
-            found[-1][1] = number
+        if runs and runs[-1][1] == number - 1:
+            runs[-1][1] = number
         else:
-            found.append([number, number])
-    return found
+            runs.append([number, number])
+    return runs
 
 
 def spans_text(numbers, to="-", between=";"):

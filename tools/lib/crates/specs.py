@@ -48,9 +48,9 @@ class Repository:
 
     def read_definitions(self, crate, module):
         """The text of each definition of a module of `specs/`: it ends where the next one or a comment at the margin begins."""
-        found = self.modules.get((crate, module))
-        if found is None:
-            found, name = {}, None
+        texts = self.modules.get((crate, module))
+        if texts is None:
+            texts, name = {}, None
             for line in (self.read_or_none(f"crates/{crate}/specs/{module}.antt") or "").splitlines():
                 head = HEAD.match(line)
                 if head:
@@ -58,9 +58,9 @@ class Repository:
                 elif line.startswith(("--", "use ", "pub use ")):
                     name = None
                 if name:
-                    found[name] = found.get(name, "") + line + "\n"
-            self.modules[crate, module] = found
-        return found
+                    texts[name] = texts.get(name, "") + line + "\n"
+            self.modules[crate, module] = texts
+        return texts
 
     def read_sentence(self, crate, module, name):
         """The comment above a definition."""

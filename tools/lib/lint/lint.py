@@ -238,20 +238,20 @@ class Lint:
         values, is_whole = {}, True
         hourly = kind == "submit" and record[3].strip().lower() == "hour"
         for place, name in list(enumerate(fields.NAMES))[1:]:
-            found = record[place]
+            field = record[place]
             if name not in fields.USED[kind] or hourly and name in ("parent", "group"):
-                if found:
+                if field:
                     of = "an hourly order" if hourly and kind == "submit" else f"{'an' if kind == 'amend' else 'a'} {kind}"
-                    self.add_finding(line, f"{text.quoted(found)} should be empty in {of}", name)
+                    self.add_finding(line, f"{text.quoted(field)} should be empty in {of}", name)
                 values[name] = ""
-            elif not found and name in ("parent", "group"):
+            elif not field and name in ("parent", "group"):
                 values[name] = ""
             else:
-                values[name], wrong = fields.value_and_advice(name, found)
+                values[name], wrong = fields.value_and_advice(name, field)
                 if name == "volumes" and hourly and values[name] and len(values[name]) != 1:
                     wrong = f"an hourly order has one pair, such as 8:450, not {len(values[name])}" + (f"; {wrong}" if wrong else "")
                 if wrong:
-                    self.add_finding(line, f"{text.quoted(found)}: {wrong}" if found else f"it is empty: {wrong}", name)
+                    self.add_finding(line, f"{text.quoted(field)}: {wrong}" if field else f"it is empty: {wrong}", name)
                 is_whole = is_whole and values[name] is not None
         if kind == "submit" and hourly and values["volumes"] and len(values["volumes"]) != 1:
             is_whole = False

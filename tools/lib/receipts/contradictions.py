@@ -116,12 +116,12 @@ def two_hashes_or_none(subtrees):
     """The fewest entries with two hashes, the first of such, and these two; None if there are none. The entries of an incomplete subtree
     also have the hash that their parts make, wherever these are shown."""
     for part in sorted(subtrees, key=lambda part: (part[1] - part[0], part)):
-        found = subtrees[part]
+        shown = subtrees[part]
         made = hash_of_parts_or_none(subtrees, *part)
-        if made is not None and made.hash != found[0].hash:
-            found = [*found, made]
-        if len(found) > 1:
-            return part, found[0], found[1]
+        if made is not None and made.hash != shown[0].hash:
+            shown = [*shown, made]
+        if len(shown) > 1:
+            return part, shown[0], shown[1]
     return None
 
 

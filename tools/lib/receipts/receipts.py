@@ -264,12 +264,12 @@ def iterate_findings_of_lines(path, data, head, key, links, who=None):
         except heads.BadRecord as fault:
             yield Finding(path, number, UNREAD, f"it isn't a receipt: {fault}", about=LINE)
             continue
-        found, words = add_receipt_and_return_verdict(receipt, head, key, links, Place(path, number))
-        if who is not None and receipt.who != who and STATUSES[found] != exits.DIFFERS:
-            found, words = UNREAD, f"it isn't a receipt of {who}: {words}"
-        if found == RIGHT and not is_written:
-            found, words = ENCODING, f"{NOT_WRITTEN}: {words}"
-        yield Finding(path, number, found, words, receipt)
+        verdict, words = add_receipt_and_return_verdict(receipt, head, key, links, Place(path, number))
+        if who is not None and receipt.who != who and STATUSES[verdict] != exits.DIFFERS:
+            verdict, words = UNREAD, f"it isn't a receipt of {who}: {words}"
+        if verdict == RIGHT and not is_written:
+            verdict, words = ENCODING, f"{NOT_WRITTEN}: {words}"
+        yield Finding(path, number, verdict, words, receipt)
 
 
 def finding_lines(findings):

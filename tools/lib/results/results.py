@@ -96,14 +96,14 @@ def parse_results_and_faults(problem, data):
     wrong, lines, values = [], {}, []
     if not data.endswith(b"\n"):
         wrong.append(FaultLine("the last line of the results has no line end", "form"))
-    found, more = lines_and_faults(data)
+    given_lines, more = lines_and_faults(data)
     wrong += more
     expected = list(expected_lines(problem))
     last = 0  # the last line that was found
     wanted = [tuple(field.encode() for field in known) for _, known, _ in expected]
-    beginnings = [known_beginning(line) for line in found]
+    beginnings = [known_beginning(line) for line in given_lines]
     if set(wanted).isdisjoint(beginnings):
-        return None, [foreign_results_fault(found[0], wanted) if data else FaultLine("the results are empty", "form")]
+        return None, [foreign_results_fault(given_lines[0], wanted) if data else FaultLine("the results are empty", "form")]
     pairs = matched_pairs(wanted, beginnings)
     away = moved_places(wanted, beginnings, pairs)
     elsewhere = set(away.values())
@@ -112,17 +112,17 @@ def parse_results_and_faults(problem, data):
         if place in away:
             wrong.append(line_fault(moved_line_words(expected, away[place]), "moved", last, expected[away[place]][0]))
         elif at is None:
-            wrong.append(line_fault(stray_line_words(found[place]), "stray", last, None))
+            wrong.append(line_fault(stray_line_words(given_lines[place]), "stray", last, None))
         if at is None or at in elsewhere:
             continue
         about, known, forms = expected[at]
         if place is None or place in away:
-            wrong.append(missing_line_fault(last + (place is None), len(found), about))
+            wrong.append(missing_line_fault(last + (place is None), len(given_lines), about))
             continue
-        read = line_values_or_none(found[place], known, forms) if beginnings[place] == wanted[at] else None
+        read = line_values_or_none(given_lines[place], known, forms) if beginnings[place] == wanted[at] else None
         lines[about] = last
         if read is None:
-            wrong.append(line_fault(form_words(about, found[place], known, forms), "form", last, about))
+            wrong.append(line_fault(form_words(about, given_lines[place], known, forms), "form", last, about))
         values.append(read)
     if wrong:
         return None, unknown_orders_faults(wanted, beginnings) + wrong

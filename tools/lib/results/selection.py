@@ -102,17 +102,17 @@ def outcome(problem, accepted):
             bought[number] += max(-volume, 0)
             value -= order.price * volume
     cleared = {number: period.clearing_or_none(orders, net[number]) for number, orders in problem.orders.items()}
-    for number, found in cleared.items():
-        if found is not None:
-            sides = zip(problem.orders[number], found.executed)
+    for number, clearing in cleared.items():
+        if clearing is not None:
+            sides = zip(problem.orders[number], clearing.executed)
             bought[number] += sum(quantity for (side, _, _), quantity in sides if side == "buy")
-    prices = {number: found and found.price for number, found in cleared.items()}
+    prices = {number: clearing and clearing.price for number, clearing in cleared.items()}
     balanced = None not in cleared.values()
     return Outcome(
         cleared,
         bought,
         [surplus_or_none(block.order, prices) for block in problem.blocks],
-        value + sum(found.welfare for found in cleared.values()) if balanced else None,
+        value + sum(clearing.welfare for clearing in cleared.values()) if balanced else None,
     )
 
 

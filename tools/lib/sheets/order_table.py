@@ -159,15 +159,15 @@ class Row:
         command = parse(self)
         for name in () if self.faults or self.table.decimal_comma else ("price_eur_mwh", "volume_mw"):
             at = self.table.places.get(name, len(self.cells))
-            found = SPLIT.fullmatch(",".join(map(str.strip, self.cells[at : at + 2])))
-            if not found:
+            split = SPLIT.fullmatch(",".join(map(str.strip, self.cells[at : at + 2])))
+            if not split:
                 continue
-            other = Row([*self.cells[:at], found[1], *self.cells[at + 2 :]], self.table, self.periods, self.raises)
+            other = Row([*self.cells[:at], split[1], *self.cells[at + 2 :]], self.table, self.periods, self.raises)
             parse(other)
             if not other.faults:
-                number = found[0].replace(",", "" if len(found[2].partition(".")[0]) == 3 else ".")
-                words = f"may be one number, or two cells: write {number}, or {found[1]}.0,{found[2]}"
-                self.faults.append(f"column {name}: {text.quoted(found[0])} {words}")
+                number = split[0].replace(",", "" if len(split[2].partition(".")[0]) == 3 else ".")
+                words = f"may be one number, or two cells: write {number}, or {split[1]}.0,{split[2]}"
+                self.faults.append(f"column {name}: {text.quoted(split[0])} {words}")
         return command
 
     def parse_submit_or_note_faults(self):

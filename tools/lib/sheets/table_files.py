@@ -50,13 +50,13 @@ def parse_rows_and_add_notes(data, needed=(), notes=None, most=None, is_long=Fal
     at all."""
     notes = [] if notes is None else notes
     if not is_workbook(data):
-        found = Text(data, notes, most, MANY if is_long or most is None else 1)
-        return found if is_long else list(found), found.separator
+        rows = Text(data, notes, most, MANY if is_long or most is None else 1)
+        return rows if is_long else list(rows), rows.separator
     try:
-        rows, found = reading.parse_rows_and_notes(data, PREFERRED, needed, most)
+        rows, new_notes = reading.parse_rows_and_notes(data, PREFERRED, needed, most)
     except limits.BadWorkbook as fault:
         raise BadTable(str(fault)) from None
-    notes += found
+    notes += new_notes
     return rows, None
 
 

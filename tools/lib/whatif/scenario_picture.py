@@ -22,14 +22,14 @@ def render_picture(over, suffix):
 
 
 def draw_distribution(axes, over, key):
-    found = [float(amount * over.hours / 1_000) for amount in over.surpluses[key]]
-    whole = len(found) + over.rejected[key]
-    share = f"accepted in {len(found):,} of {whole:,} scenarios ({100 * len(found) / whole:.1f} %)"
+    surpluses = [float(amount * over.hours / 1_000) for amount in over.surpluses[key]]
+    whole = len(surpluses) + over.rejected[key]
+    share = f"accepted in {len(surpluses):,} of {whole:,} scenarios ({100 * len(surpluses) / whole:.1f} %)"
     axes.set_title(f"{' '.join(key)}, limit {text.shown_price(over.rows[key].price)} EUR/MWh: {share}", loc="left", fontsize=9)
-    axes.hist(found, bins=BINS, color=canvas.COLOURS["accepted"], edgecolor=canvas.COLOURS["paper"])
+    axes.hist(surpluses, bins=BINS, color=canvas.COLOURS["accepted"], edgecolor=canvas.COLOURS["paper"])
     axes.set_ylabel("scenarios")
     axes.xaxis.set_major_formatter(lambda value, _: f"{value:,.0f}")
-    if found:
-        middle = f"{MEDIAN}: {quantile_or_none(sorted(found), 50):,.2f} EUR"
-        axes.axvline(quantile_or_none(sorted(found), 50), color=canvas.COLOURS["ink"], linewidth=1, linestyle="--", label=middle)
+    if surpluses:
+        middle = f"{MEDIAN}: {quantile_or_none(sorted(surpluses), 50):,.2f} EUR"
+        axes.axvline(quantile_or_none(sorted(surpluses), 50), color=canvas.COLOURS["ink"], linewidth=1, linestyle="--", label=middle)
         axes.legend(loc="lower right", bbox_to_anchor=(1, 1), borderaxespad=0, fontsize=8, frameon=False)  # next to the title

@@ -264,10 +264,10 @@ class Distribution:
         """A row for each block; amounts are rounded to whole cents."""
         yield self.heads()
         for key in self.keys:
-            found = sorted(self.surpluses[key])
-            whole = len(found) + self.rejected[key]
-            amounts = [Fraction(sum(found), whole), *(quantile_or_none(found, part) for part in PARTS)]
-            shares = [whole, len(found), f"{len(found) / whole:.4f}"]
+            surpluses = sorted(self.surpluses[key])
+            whole = len(surpluses) + self.rejected[key]
+            amounts = [Fraction(sum(surpluses), whole), *(quantile_or_none(surpluses, part) for part in PARTS)]
+            shares = [whole, len(surpluses), f"{len(surpluses) / whole:.4f}"]
             yield [*key, text.eur_per_mwh(self.rows[key].price), *shares, *map(self.eur_text, amounts)]
 
     def eur_text(self, amount):

@@ -36,17 +36,17 @@ def volatile_names(formulas):
         path, places = [] if first in seen else [first], [0]  # each one has the next one's name, before this place
         seen.add(first)
         while path:
-            found = NAME.search(codes[path[-1]], places[-1])
-            if not found:
+            next_name = NAME.search(codes[path[-1]], places[-1])
+            if not next_name:
                 path.pop()
                 places.pop()
-            elif found[0] in volatile:
+            elif next_name[0] in volatile:
                 volatile.update(path)
                 break
             else:
-                places[-1] = found.end()
-                if found[0] in codes and found[0] not in seen:
-                    seen.add(found[0])
-                    path.append(found[0])
+                places[-1] = next_name.end()
+                if next_name[0] in codes and next_name[0] not in seen:
+                    seen.add(next_name[0])
+                    path.append(next_name[0])
                     places.append(0)
     return volatile

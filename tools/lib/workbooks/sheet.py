@@ -123,12 +123,12 @@ class Sheet(Texts):
         self.has_data = True
 
     def open_row(self, attributes):
-        found = attributes.get("r")
-        if found is None:
-            found = str(self.row + 1)
-        number = int(found) if PLACE.fullmatch(found) else 0
+        number_text = attributes.get("r")
+        if number_text is None:
+            number_text = str(self.row + 1)
+        number = int(number_text) if PLACE.fullmatch(number_text) else 0
         if not 1 <= number <= LAST_ROW:
-            raise self.error_of(f"a row has the number {text.quoted(found)}: they go from 1 to {LAST_ROW}")
+            raise self.error_of(f"a row has the number {text.quoted(number_text)}: they go from 1 to {LAST_ROW}")
         self.refuse_unfilled(number)
         last, self.row, self.column, self.cells = self.row, number, 0, []
         if number <= last:
@@ -185,10 +185,10 @@ class Sheet(Texts):
 
     def note_range_or_refuse(self, ref):
         """Notes the cells that a formula fills: each needs its value, which a program that doesn't compute formulas leaves out."""
-        found = RANGE.fullmatch(ref)
-        if not found or (column_number(found[1]), int(found[2])) != (self.column, self.row):
+        corners = RANGE.fullmatch(ref)
+        if not corners or (column_number(corners[1]), int(corners[2])) != (self.column, self.row):
             raise self.error_of(f"its formula has the range {text.quoted(ref)}, which should begin at this cell")
-        last, bottom = column_number(found[3] or found[1]), int(found[4] or found[2])
+        last, bottom = column_number(corners[3] or corners[1]), int(corners[4] or corners[2])
         for column in range(self.column, last + 1) if (last, bottom) != (self.column, self.row) else ():
             if column in self.unfilled:
                 raise self.error_of("two formulas have it in their ranges")
@@ -342,16 +342,16 @@ class Sheet(Texts):
     def open_mergeCell(self, attributes):
         """Of merged cells only the first has a value, so that a row could seem to have none."""
         ref = attributes.get("ref", "")
-        found = RANGE.fullmatch(ref)
-        if not found or not self.has_data:
+        corners = RANGE.fullmatch(ref)
+        if not corners or not self.has_data:
             raise self.error_of(f"the merged cells {text.quoted(ref)} can't be read")
-        if found[3] is None or not self.rows:
+        if corners[3] is None or not self.rows:
             return
         width = max(len(cells) for _, cells in self.rows) if self.width is None else self.width
         self.width = width
-        (top, bottom), left = sorted((int(found[2]), int(found[4]))), min(column_number(found[1]), column_number(found[3]))
+        (top, bottom), left = sorted((int(corners[2]), int(corners[4]))), min(column_number(corners[1]), column_number(corners[3]))
         is_apart = bottom < self.rows.numbers[0] or top > self.rows.numbers[-1] or left > width
-        if not is_apart and (found[1], found[2]) != (found[3], found[4]):
+        if not is_apart and (corners[1], corners[2]) != (corners[3], corners[4]):
             raise self.error_of(f"the cells {ref} are merged, but each row of a table has its own")
 
     def open_conditionalFormatting(self, attributes):
