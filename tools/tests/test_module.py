@@ -20,7 +20,7 @@ from support import AUCTION, AUCTION_RESULTS, FIRST, TOP, make_folder_for_case, 
 import dam_tools
 from dam_tools.lib.runs import which
 from lib.sheets import day_tables, table_files, table_operations
-from lib.tool import exits, modules
+from lib.tool import modules
 
 END = "is the first or the last day of the calendar: it should be another"
 FAKE = support.TOOLS / "tests" / "fake_dam.py"
