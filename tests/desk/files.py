@@ -260,7 +260,8 @@ class FileTests:
         for word in ("A" * length for length in LONG_WORDS):
             lines += [["-" + word], ["--" + word], [word, "a"], ["a", word], ["--journal", word, "a"], ["--journal=" + word]]
         for words in lines:
-            folder, about = self.desk.make_folder(), f"the words {[word[:20] for word in words][:4]} of {[*map(len, words)][:4]} letters, {len(words)} in all"
+            shown = f"{[word[:20] for word in words[:4]]} of {[*map(len, words[:4])]} letters"
+            folder, about = self.desk.make_folder(), f"{len(words)} words, {shown}"
             self.check_run(about, self.run_on_text(words, cwd=folder), 2, b"", b"command line\n" + HELP)
             self.counts.check(f"{about} make no file", not list(folder.iterdir()))
         for words, length in itertools.product(([], ["--journal"]), LONG_WORDS):
