@@ -60,10 +60,10 @@ pub fn rule_of(fault: &RunFault) -> Option<Rule>
 {
     let text = match fault {
         RunFault::Input(fault) => return rule_of_journal(*fault),
-        RunFault::TooManyCommands => "a day takes 9,999 commands at most",
+        RunFault::TooManyCommands => "a day takes 9,999 commands at most", // the clause `commands`
         RunFault::CloseGiven(_) =>
             "a day is closed by its operator: leave out the record close,,,,,,,,",
-        RunFault::TooManyParticipants(_) => "a day takes 8 participants at most",
+        RunFault::TooManyParticipants(_) => "a day takes 8 participants at most", // `test_facts.py`
         RunFault::StillOpen =>
             "a book is cleared when it is closed: end the journal with close,,,,,,,,",
         RunFault::Mismatch(_)
@@ -83,7 +83,7 @@ fn rule_of_journal(fault: JournalFault) -> Option<Rule>
     ensures limits { IfSome result (λ rule. ShowsItsLimits fault rule) }
 {
     let text = match fault {
-        JournalFault::TooLong => "a journal has 16,777,216 bytes at most",
+        JournalFault::TooLong => "a journal has 16,777,216 bytes at most", // the clause `limits`
         JournalFault::NotAscii(0) => {
             "a journal is plain ASCII: save it without a byte order mark"
         }
