@@ -180,7 +180,8 @@ class Days(unittest.TestCase):
         extra = "line 8 of the table has 4 cells, but the header has 3"
         wanted = [("Monday", "unread", said), ("b", "right", None), ("Monday", "unread", said), ("a", "right", None), ("a", "right", None)]
         wanted += [("Monday", "unread", extra), ("MONDAY", "right", None)]
-        self.assertEqual((status, err, found), (exits.NO_INPUT, "", wanted))
+        said = f"audit: {self.folder / 'list'}: line 5: it has the files of line 3, whose day counts twice\n"
+        self.assertEqual((status, err, found), (exits.NO_INPUT, said, wanted))
 
     def test_a_manifest_with_many_columns(self):
         """Cells that aren't used take no memory."""
@@ -192,6 +193,13 @@ class Days(unittest.TestCase):
         self.addCleanup(tracemalloc.stop)
         self.assertEqual(len(day_pairs.read_pairs_or_stop(self.folder / "list", [])), 20)
         self.assertLess(tracemalloc.get_traced_memory()[1], 16 * 2**20)
+
+    def test_the_files_of_a_day_twice(self):
+        self.write(a=(DATA, TEXT), b=(DATA, TEXT))
+        (self.folder / "list").write_text("day,journal,results\none,a.csv,a.txt\n,b.csv,b.txt\ntwo,a.csv,a.txt\n,b.csv,b.txt\n,b.csv,a.txt\n")
+        notes = []
+        self.assertEqual(len(day_pairs.read_pairs_or_stop(self.folder / "list", notes)), 5)
+        self.assertEqual(notes, ["line 4: it has the files of line 2, whose day counts twice"])
 
     def test_cells_of_a_manifest_in_no_column(self):
         """A name with a comma that isn't quoted is two cells, and the files are others."""

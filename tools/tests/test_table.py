@@ -493,6 +493,9 @@ class CommandLine(unittest.TestCase):
             self.assertEqual((status, out, "can't be used with" in err), (exits.COMMAND_LINE, b"", True), words)
         said = "table: --periods can't be used with tables of results: it belongs to --journal\n"
         self.assertEqual(run_tool("table", *texts, "--periods", "24"), (exits.COMMAND_LINE, b"", said))
+        for words in (["-o", "a.xls"], ["-o", "A.ODS"], ["--all", "a.xlsb"]):
+            said = f"table: {words[1]}: a workbook is only written as .xlsx\n"
+            self.assertEqual(run_tool("table", *texts, *words), (exits.COMMAND_LINE, b"", said))
         said = "table: --only 99: it should be periods and runs of them, such as 8, 8-20 or 1,3,5-7, from 1 to 24\n"
         self.assertEqual(run_tool("table", *texts, "--only", "99"), (exits.COMMAND_LINE, b"", said))
         for words in ([*texts, "--row", "orders"], ["--journ", AUCTION], ["--journal", "-", "--period", "24"]):

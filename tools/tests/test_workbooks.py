@@ -21,7 +21,7 @@ from lib.runs import errors
 from lib.sheets import cell_values, command_table, order_table, table_files
 from lib.tool import exits
 from lib.whatif import changes, scenarios
-from lib.workbooks import first_rows, formulas, package, reading, styles
+from lib.workbooks import first_rows, formulas, limits, package, reading, styles
 from lib.workbooks.cells import Changed, Formatted, Rounded
 from lib.workbooks.limits import BadWorkbook
 from lib.journal.book import Book
@@ -461,6 +461,31 @@ class Unlike(unittest.TestCase):
         found, _ = self.read(self.computed('calcId="1"'), E="<c><f>10+2</f><v>12</v></c>")
         self.assertEqual(found.order.price, 1_200)
 
+    def test_cells_on_which_formulas_may_depend(self):
+        """A volatile formula of the sheet, or of one that a formula or a name refers to, is in a note if other formulas may depend on it."""
+        rows = [order(2, "K1").replace(b'<c r="E2" t="str"><v>1</v>', b'<c r="E2"><f>%s</f><v>1</v>'), order(3, "K2").replace(b"</row>", b"%s</row>")]
+        params = f'<worksheet xmlns="{made.MAIN[0]}"><sheetData><row><c><f>%s</f><v>6</v></c></row></sheetData></worksheet>'
+        relations = f'<Relationships xmlns="{reading.PACKAGING[0]}">' + "".join(
+            f'<Relationship Id="r{at}" Type="{made.OFFICE[0]}/worksheet" Target="worksheets/sheet{at}.xml"/>' for at in (1, 2)) + "</Relationships>"
+        today = b'<c r="J3"><f>TODAY()</f><v>5</v></c>'
+        said = "the values of formulas may depend on {}, which changes whenever Excel opens the workbook"
+        for formula, later, other, names, place in (
+            (b"J3*2", today, "1+1", "", "cell J3"), (b"J3*2", b"", "RAND()", "", None), (b"params!A1*2", b"", "3*randbetween (1,9)", "", "the sheet 'params'"),
+            (b"params!A1*2", b"", "1+1", "", None), (b"P", b"", "RAND()", "<definedNames><definedName name='P'>params!A1</definedName></definedNames>", "the sheet 'params'"),
+        ):  # fmt: skip
+            sheets = '<sheets><sheet name="orders" r:id="r1"/><sheet name="params" r:id="r2"/></sheets>'
+            workbook = f'<workbook xmlns="{made.MAIN[0]}" xmlns:r="{made.OFFICE[0]}">{sheets}{names}<calcPr calcId="191029"/></workbook>'
+            parts = {"xl/workbook.xml": workbook.encode(), "xl/_rels/workbook.xml.rels": relations.encode(), "xl/worksheets/sheet2.xml": (params % other).encode()}
+            heads = made.OPEN.replace(b"</row>", b"<c t='inlineStr'><is><t>note</t></is></c></row>")
+            data = made.workbook_of_sheet(heads, rows[0] % formula, rows[1] % later, made.CLOSE, **parts)
+            found = [note for note in order_table.parse_tables([("", data)], 24).notes if "may depend" in note]
+            self.assertEqual(found, [said.format(place)] if place else [], (formula, other))
+
+    def test_a_match_across_parts_that_are_read_at_once(self):
+        data = made.archive_bytes({"a": b" " * (limits.CHUNK - 3) + b"TODAY()"})
+        self.assertTrue(package.Package(data).has_match("A", formulas.IN_BYTES))
+        self.assertFalse(package.Package(data).has_match("b", formulas.IN_BYTES))
+
     def test_brackets_that_are_not_closed(self):
         """Excel writes none. The rest of the formula is read once, and counts as it is."""
         for first, again, last in (("", "['", ""), ("[", "'[", ""), ("[", "'[", "[[[")):
@@ -797,6 +822,34 @@ class Unlike(unittest.TestCase):
                 else:
                     self.assertEqual(len(order_table.parse_tables([("", made.workbook_of_sheet(heads, row, made.CLOSE))], 24).submits), 1)
 
+    def test_a_custom_view_that_hides_zeros(self):
+        """Who looks at it sees no zero, of any kind."""
+        view = "</sheetData><customSheetViews><customSheetView guid='{{0}}' zeroValues='%s'/></customSheetViews>"
+        price, text = order(2, "K1").replace(b'<c r="E2" t="str"><v>1</v>', b'<c r="E2"><v>0.0</v>'), order(2, "K1")
+        fault = "^sheet 'orders', cell E2: it is a zero that a custom view of its sheet hides: delete the view$"
+        for value, row, said in (("0", price, fault), (" false", price, fault), ("1", price, None), ("0", text, None)):
+            data = made.workbook_of_sheet(made.OPEN, row, made.CLOSE.replace(b"</sheetData>", (view % value).encode()))
+            with self.subTest(value, row=row):
+                if said:
+                    with self.assertRaisesRegex(table_files.BadTable, said):
+                        table_files.parse_rows_and_add_notes(data)
+                else:
+                    self.assertEqual(len(order_table.parse_tables([("", data)], 24).submits), 1)
+
+    def test_a_zero_of_a_formula_is_no_name(self):
+        """A link to an empty cell has the value 0, so that each block with such a group would be in the group 0."""
+        said = "'0' is the number of a formula, as it is if it links to an empty cell: write a text, or clear the cell"
+        for value, is_zero in (("0", True), ("-0.0", True), ("7", False)):
+            cell = f"<c><f>Other!A9</f><v>{value}</v></c>"
+            for letter in "ABHI":
+                name = self.COLUMNS[letter]
+                fault = self.read(**{letter: cell})[1]
+                self.assertEqual(fault == f"line 2, column {name}: {said}", is_zero, (value, fault))
+            self.assertIsNone(self.read(J=cell)[1])
+        self.assertEqual(self.read(E="<c><f>A1-A1</f><v>0</v></c>")[0].order.price, 0)
+        self.assertEqual(self.read(I="<c><v>0</v></c>")[0].order.group, "0")
+        self.assertEqual(self.read(I="<c t='str'><f>A1</f><v>0</v></c>")[0].order.group, "0")
+
     def test_names_of_many_digits(self):
         """Excel shows 123456789012 as 1.23457E+11, unless its format is 0."""
         formats = "".join(f'<xf numFmtId="{number}"/>' for number in (0, 49, 164, 1, 165))
@@ -913,6 +966,51 @@ class Unlike(unittest.TestCase):
             formats = f'<x:conditionalFormatting xmlns:x="{later}"><x:cfRule>{rule}</x:cfRule></x:conditionalFormatting>'
             close = made.CLOSE.replace(b"</sheetData>", f"</sheetData><extLst><ext>{formats}</ext></extLst>".encode())
             self.check_order(made.workbook_of_sheet(made.OPEN, order(2, "K1"), close), kind and f"it has a conditional format {kind}: delete it")
+
+    def test_colours_of_conditions(self):
+        """A condition, or a style of a table, may give a text the colour of its own cell."""
+        white, black = '<color rgb="FFFFFFFF"/>', '<bgColor theme="1"/>'
+        font, fill = "<font>{}</font>", "<fill><patternFill><fgColor indexed='64'/>{}</patternFill></fill>"
+        later = "http://schemas.microsoft.com/office/spreadsheetml/2009/9/main"
+        said = "a font in the colour of its cells"
+        for form, style, is_hidden in (
+            (font.format(white), 0, True), (fill.format(black), 0, True), (font.format(white), 1, True), (font.format(white) + fill.format(black), 0, False),
+            (font.format("") + fill.format(""), 0, False), (font.format("<color rgb='FF9C0006'/>") + fill.format("<bgColor rgb='FFFFC7CE'/>"), 0, False),
+            (font.format("<color rgb='12345'/>"), 0, False), (font.format("<color theme='4'/>"), 1, True), (font.format("<color theme='4'/>"), 0, False),
+            (fill.format("<bgColor indexed='12'/>"), 1, True), (fill.format("<bgColor indexed='12'/>"), 0, False), (font.format("<color indexed='3'/>"), 0, True),
+            (font.format("<color rgb='FF203040'/>") + fill.format("<bgColor rgb='00203040'/>"), 0, True), ("<border><left>" + white + "</left></border>", 0, False),
+        ):  # fmt: skip
+            cells = "<fonts><font/><font><color indexed='12'/></font></fonts><fills><fill/><fill><patternFill patternType='solid'><fgColor theme='4'/></patternFill></fill></fills>"
+            cells += "<cellXfs><xf/><xf fontId='1' fillId='1'/></cellXfs>"
+            own = "<rgbColor rgb='00112233'/>" * 3 + "<rgbColor rgb='00FFFFFF'/>"
+            own = f"<colors><indexedColors>{own}</indexedColors><mruColors>{white}</mruColors></colors>"
+            table = '<tableStyles><tableStyle name="a"><tableStyleElement dxfId="0"/></tableStyle></tableStyles>'
+            styles = f'<styleSheet xmlns="{made.MAIN[0]}">{cells}<dxfs><dxf>{form}</dxf></dxfs>{{}}{own}</styleSheet>'
+            row = order(2, "K1").replace(b'r="E2"', b'r="E2" s="%d"' % style)
+            conditions = '<conditionalFormatting sqref="E2:E9"><cfRule dxfId="0"/></conditionalFormatting>'
+            extension = f'<x:conditionalFormatting xmlns:x="{later}"><x:cfRule><x:dxf>{form}</x:dxf></x:cfRule>{{}}</x:conditionalFormatting>'
+            extension = f"<extLst><ext>{extension}</ext></extLst>"
+            for part, after, fault in (
+                ("", conditions, f"the cells 'E2:E9' have a conditional format with {said}: delete it"),
+                ("", extension.format("<x:sqref>E2</x:sqref>"), f"it has a conditional format with {said}: delete it"),
+                (table, "<tableParts><tablePart/></tableParts>", f"it has a table, and the workbook a style of tables with {said}: delete the style"),
+                (table, "", None),
+            ):
+                close = made.CLOSE.replace(b"</sheetData>", f"</sheetData>{after}".encode())
+                self.check_order(made.workbook_of_sheet(made.OPEN, row, close, **{made.STYLES: styles.format(part).encode()}), fault if is_hidden else None)
+
+    def test_colours_with_numbers(self):
+        """A workbook may have others than Excel has, in which a text may be hidden: one of a cell, or a part of one."""
+        own = "<colors><indexedColors>" + "<rgbColor rgb='00FF0000'/>" * 10 + "<rgbColor rgb='00FFFFFF'/></indexedColors></colors>"
+        for number, colours, is_hidden in (("10", own, True), (" 010", own, True), ("10", "", False), ("9", own, False), ("9", "", True), ("64", own, False)):
+            font = f"<color indexed='{number}'/>"
+            cells = f"<fonts><font/><font>{font}</font></fonts><cellXfs><xf/><xf fontId='1'/></cellXfs>{colours}"
+            parts = {made.STYLES: f'<styleSheet xmlns="{made.MAIN[0]}">{cells}</styleSheet>'.encode()}
+            parts[made.SHARED] = f'<sst xmlns="{made.MAIN[0]}"><si><r><rPr>{font}</rPr><t>8</t></r></si></sst>'.encode()
+            for cell in ('<c s="1"><v>8</v></c>', '<c t="s"><v>0</v></c>', f'<c t="inlineStr"><is><r><rPr>{font}</rPr><t>8</t></r></is></c>'):
+                with self.subTest(number, colours=colours, cell=cell):
+                    fault = self.read(parts, E=cell)[1] or ""
+                    self.assertEqual("hidden by the colour" in fault or "is a text with a format" in fault, is_hidden, fault)
 
     def test_styles_of_tables(self):
         """The fonts of a style of tables may strike the orders of a table out."""

@@ -76,10 +76,13 @@ def read_listed_pairs_or_stop(path, notes):
         heads = table_files.column_names(header)
         refuse_wrong_heads(path, heads)
         refuse_lost_day(path, header)
-        pairs, lines = [], {}
+        pairs, lines, again = [], {}, {}
         for line, row in rows_within_limit_or_stop(path, rows):
             cells = {name: find_file_name_in_cell(path.parent, cell) for name, cell in zip(heads, row)}
             pairs.append(find_listed_pair(path.parent, cells, extra_cells_words_or_none(line, row, heads)))
+            first = again.setdefault(pairs[-1][1:3], line)
+            if first != line and not again.get(NAME):
+                again[NAME] = notes.append(f"line {line}: it has the files of line {first}, whose day counts twice") or line
             if cells.get(NAME):
                 lines[len(pairs) - 1] = line
         mark_shared_names(pairs, lines)

@@ -4,6 +4,7 @@ from ..sheets import table_files, table_operations
 from . import exits, file_io, modules
 
 WORKBOOK, CSV = ".xlsx", ".csv"
+OTHER_WORKBOOKS = (".xls", ".xlsm", ".xlsb", ".ods")  # a text with such a name would be no workbook
 
 
 def add_options(parser):
@@ -17,12 +18,18 @@ def add_options(parser):
 def exec_or_refuse_wrong_options(args, *inputs):
     """Ends the tool if the options can't be used together, or would write over an input, or a package is missing."""
     file_io.refuse_input_as_output(args.out, *inputs)
+    refuse_other_workbook(args.out)
     if args.json and args.decimal_comma:
         raise exits.Stop("--decimal-comma can't be used with --json", exits.COMMAND_LINE)
     if is_workbook_name(args.out):
         if args.json or args.decimal_comma:
             raise exits.Stop("--json and --decimal-comma can't be used with an Excel workbook", exits.COMMAND_LINE)
         modules.exec_or_require_modules("openpyxl")
+
+
+def refuse_other_workbook(path):
+    if path is not None and path.lower().endswith(OTHER_WORKBOOKS):
+        raise exits.Stop(f"{exits.shown(path)}: a workbook is only written as {WORKBOOK}", exits.COMMAND_LINE)
 
 
 def is_workbook_name(path):

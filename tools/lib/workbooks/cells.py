@@ -135,6 +135,13 @@ class Truth(Unlike):
     kind = "a truth value"
 
 
+class Zero(Unlike):
+    """The number 0 of a formula, also of one that links to an empty cell."""
+
+    __slots__ = ()
+    kind, remedy = "the number of a formula, as it is if it links to an empty cell", "write a text, or clear the cell"
+
+
 class Uncomputed(Unlike):
     """The formula of a cell that was saved without its value."""
 
@@ -192,7 +199,7 @@ NUMBERS_SHOWN = Formatted, Price, Power, Percentage, *NUMBERS_CHANGED, Shortened
 # The number of a shared string, which a cell has until the strings are read: a class for each kind of the cell's text.
 STRINGS = {str: int, **{kind: type(f"{kind.__name__}String", (int,), {}) for kind in (Styled, Struck, Unseen, Reversed)}}
 KINDS_OF_STRINGS = {number: kind for kind, number in STRINGS.items()}
-CELLS = str, *KINDS_OF_STRINGS, Uncomputed, Volatile, Date, *NUMBERS_SHOWN, Styled, Truth
+CELLS = str, *KINDS_OF_STRINGS, Uncomputed, Volatile, Date, *NUMBERS_SHOWN, Styled, Truth, Zero
 HALVES = {kind: chr(0xD800 + at) for at, kind in enumerate(CELLS)}
 PACKED = re.compile("([\ud800-\udfff])([^\ud800-\udfff]*)")
 

@@ -70,6 +70,8 @@ class FirstRows(Sheet):
     """The first rows of a sheet that have a cell, which may be a shared string of spaces. If it can't be read as far as its first heading,
     or its first row has formulas without their values that may be the names, it is `unread`: the fault."""
 
+    open_tablePart = None  # of a sheet that isn't read, tables don't count
+
     def __init__(self, name, part, book, names):
         super().__init__(name, part, book, None)
         self.names, self.found, self.unread = names, [], None

@@ -5,7 +5,7 @@ import zipfile
 from xml.parsers import expat
 
 from ..base import text
-from .limits import CHUNK, MOST_PARTS, MOST_UNPACKED, broken_error, too_many_error
+from .limits import CHUNK, LONGEST_NAME, MOST_PARTS, MOST_UNPACKED, broken_error, too_many_error
 
 DIRECTORY = b"PK\x01\x02"  # begins the entry of a file in the directory of a zip archive
 END, END_SIZE = b"PK\x05\x06", 22  # begins the end of the archive, which a comment may follow; its bytes
@@ -32,6 +32,15 @@ class Package:
 
     def has(self, name):
         return part_key(name) in self.parts
+
+    def has_match(self, name, pattern):
+        """Whether a part has a match, of no more bytes than a name, as it is stored."""
+        end = b""
+        for chunk in self.read_chunks(self.parts[part_key(name)]) if self.has(name) else ():
+            if pattern.search(end + chunk):
+                return True
+            end = chunk[-LONGEST_NAME:]
+        return False
 
     def parse_into_or_refuse(self, name, part):
         """Parses a part from its beginning to its end."""

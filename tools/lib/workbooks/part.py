@@ -231,6 +231,7 @@ FONT_PARTS = {"strike", "vertAlign", "color", "sz", "name", "rFont", "charset"}
 FONT = "|".join(f"{name}*" for name in sorted(FONT_PARTS))
 OF_FONTS = {ANY_OTHERS, *"b i condense extend outline shadow u family scheme".split()}
 PAPER, BLACK = "FFFFFF", "000000"
+INDEXED = {f"indexed {number}": colour for number, colour in {0: BLACK, 1: PAPER, 8: BLACK, 9: PAPER, 64: BLACK, 65: PAPER}.items()}
 LEAST_SIZE = 4  # of a font, in points
 SYMBOLS = {
     "wingdings", "wingdings 2", "wingdings 3", "webdings", "symbol", "marlett", "mt extra", "zapfdingbats", "zapf dingbats",
@@ -239,9 +240,9 @@ SYMBOLS = {
 OF_SYMBOLS = "2"  # the characters of a font of symbols
 
 
-def colour_or_none(attributes):
-    """A colour, of which all that look white are one; None of the one that a program chooses."""
-    rgb, theme, number = (attributes.get(name, "").strip(BLANK) for name in ("rgb", "theme", "indexed"))
+def colour_or_none(attributes, palette):
+    """A colour, of which all that look white are one; None of the one that a program chooses. `palette`: the colours with numbers."""
+    rgb, theme = (attributes.get(name, "").strip(BLANK) for name in ("rgb", "theme"))
     if COLOUR.fullmatch(rgb):
         return PAPER if all(byte >= 0xF0 for byte in bytes.fromhex(rgb[-6:])) else rgb[-6:].upper()
     tint = attributes.get("tint", "0").strip(BLANK)
@@ -249,7 +250,8 @@ def colour_or_none(attributes):
         change = float(tint) if TINT.fullmatch(tint) else 0
         is_white = theme == "0" and change >= -0.06 or theme == "1" and change > 0.93
         return PAPER if is_white else BLACK if theme == "1" and not change else f"theme {theme} {change}"[:40]
-    return PAPER if number in ("1", "9", "65") else BLACK if number in ("0", "8", "64") else f"indexed {number}"[:40] if number else None
+    colour = f"indexed {unsigned_number_or_none(attributes.get('indexed', ''))}"
+    return None if colour == "indexed None" else palette.get(colour, colour)
 
 
 def is_unreadable(name, attributes):
@@ -274,7 +276,7 @@ class Texts(Part):
     TEXT, RUN, PRONOUNCED = "t r* rPh* phoneticPr", "rPr t", "t"
 
     is_whole = is_pronounced = is_marked = False
-    is_taken = True
+    is_taken, palette = True, INDEXED
 
     def begin_text(self, is_taken=True):
         self.is_whole = self.is_pronounced = self.is_marked = False
@@ -290,7 +292,7 @@ class Texts(Part):
 
     def open_color(self, attributes):
         """A white part of a text isn't seen."""
-        self.is_marked = self.is_marked or colour_or_none(attributes) == PAPER
+        self.is_marked = self.is_marked or colour_or_none(attributes, self.palette) == PAPER
 
     def open_sz(self, attributes):
         self.is_marked = self.is_marked or is_unreadable("sz", attributes)

@@ -5,7 +5,7 @@ import posixpath
 from ..base import text
 from .cells import column_name
 from .first_rows import FirstRows, Names
-from .formulas import volatile_names
+from .formulas import IN_BYTES, volatile_names
 from .limits import LONGEST_NAME, MOST_DEFINED, MOST_HEADS, MOST_OF_DEFINED, MOST_SHEETS, BadWorkbook, broken_error, too_many_error
 from .package import Package
 from .part import ANY_OTHERS, Part, truth_word_or_none, unsigned_number_or_none
@@ -38,6 +38,8 @@ def parse_rows_and_notes(data, preferred, needed=(), most=None):
         row, column = sheet.first_formula
         words = f"the values of formulas, such as that of cell {column_name(column)}{row}, are as saved by another program or an older"
         notes.append(f"{words} Excel: Excel computes them again once it opens the workbook")
+    if place := book.find_volatile_place_or_none(name, sheet):
+        notes.append(f"the values of formulas may depend on {place}, which changes whenever Excel opens the workbook")
     return sheet.rows_or_refuse(book.parse_strings(sheet.needed)), notes
 
 
@@ -103,7 +105,8 @@ class Workbook(Part):
             package.parse_into_or_refuse(part, styles)
         self.formats, self.styled = styles.cell_formats(), styles.styled_formats()
         self.struck, self.conditional, self.has_striking_tables = styles.struck, styles.conditional, styles.has_striking_tables
-        self.from_right, self.unseen = styles.from_right, styles.unseen
+        self.from_right, self.unseen, self.pairs, self.palette = styles.from_right, styles.unseen, styles.pairs, styles.palette
+        self.condition_colours, self.table_colours = styles.condition_colours, styles.table_colours
 
     def parse_relations(self, owner):
         relations = Relations(owner)
@@ -205,9 +208,19 @@ class Workbook(Part):
                 row.refuse_headings(read, preferred)
         return read, [name for name, row in rows.items() if row.is_empty()]
 
+    def find_volatile_place_or_none(self, name, sheet):
+        """A volatile formula's cell, or its sheet if it isn't the one that is read, on which the other formulas of that may depend."""
+        if sheet.is_volatile_alone or not sheet.first_formula:
+            return None
+        if sheet.first_volatile:
+            return "cell {}{}".format(column_name(sheet.first_volatile[1]), sheet.first_volatile[0])
+        others = self.sheet_parts_or_refuse().items() if sheet.names_others or self.defined else ()
+        found = (other for other, part in others if part and other != name and self.package.has_match(part, IN_BYTES))
+        return next((f"the sheet {text.quoted(other)}" for other in found), None)
+
     def parse_strings(self, needed):
         """The shared strings, of which those that are needed are read."""
-        strings = Strings(needed)
+        strings = Strings(needed, self.palette)
         part = self.relations.only_part_or_refuse(STRINGS)
         if needed and part:
             self.package.parse_into_or_refuse(part, strings)

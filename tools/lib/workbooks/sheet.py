@@ -1,18 +1,19 @@
 """The cells of a sheet, and the strings that sheets share."""
 
 import datetime
+import functools
 import math
 import re
 
 from ..base import text
 from .cells import KINDS_OF_STRINGS, STRINGS, Date, Hidden, Kept, Numbers, Reversed, Rows, Struck, Styled, Truth, Uncomputed, Unseen
-from .cells import Volatile, column_name, column_number, text_of_kind, trimmed, unescaped
+from .cells import Volatile, Zero, column_name, column_number, text_of_kind, trimmed, unescaped
 from .formulas import has_name, has_volatile_function
 from .limits import LAST_COLUMN, LAST_ROW, MOST_CELLS, MOST_ELEMENTS, MOST_OF_FORMULAS, MOST_TEXT, BadWorkbook
 from .limits import broken_error, memory_size, too_many_error
-from .part import ANY_OTHERS, EXTENSIONS, FONT, FONT_PARTS, OF_FONTS, TRUTHS, Texts, strikes_out, truth_word_or_none
-from .part import unsigned_number_or_none
-from .styles import A_NUMBER_FORMAT, A_STRIKING_FONT, digits_text, general_text
+from .part import ANY_OTHERS, BLACK, EXTENSIONS, FONT, FONT_PARTS, OF_FONTS, PAPER, TRUTHS, Texts, colour_or_none, strikes_out
+from .part import truth_word_or_none, unsigned_number_or_none
+from .styles import A_HIDING_FONT, A_NUMBER_FORMAT, A_STRIKING_FONT, digits_text, general_text
 
 NUMBER = re.compile(r"[+-]?(?:[0-9]+(?:\.[0-9]*)?|\.[0-9]+)(?:[eE][+-]?[0-9]{1,3})?")
 WHOLE = re.compile(r"-?[0-9]{1,15}")
@@ -43,8 +44,9 @@ class Strings(Texts):
     BETWEEN = {"rPr": OF_FONTS}
     ELSEWHERE = {"rPr", *FONT_PARTS}
 
-    def __init__(self, needed):
+    def __init__(self, needed, palette):
         super().__init__()
+        self.palette = palette
         self.needed, self.number, self.texts, self.size = needed, -1, Kept(), 0
         self.styled = Numbers()  # of those that Excel shows in another way
 
@@ -104,9 +106,13 @@ class Sheet(Texts):
         self.rows, self.needed = Rows(), Numbers()
         self.row = self.column = self.count_of_cells = self.size = self.size_of_formulas = 0
         self.cells = None  # of a row; None outside
-        self.first_formula = None  # its row and its column
+        self.first_formula = self.first_volatile = None  # its row and its column
+        self.is_volatile_alone, self.names_others = True, False  # whether all formulas are volatile; whether one names another sheet
         self.shared_volatile = Numbers()  # of the formulas that cells share, those that are volatile
-        self.has_data = self.hides_zeros = False
+        self.has_data = self.hides_zeros = self.has_table = False
+        self.zero = None  # the place of the first one
+        self.palette, self.pairs = book.palette, {(BLACK, PAPER)}  # the colours of font and fill of the cells below the first row
+        self.later, self.is_font = {}, False  # those of a conditional format of an extension; whether its font is read
         self.unfilled = {}  # of each column in the range of a formula of many cells, the next row that needs a value, and the last one
 
     def error_of(self, words):
@@ -230,6 +236,8 @@ class Sheet(Texts):
         self.is_volatile = self.is_volatile or has_volatile or is_known and number in self.shared_volatile
         if self.is_volatile and is_known:
             self.shared_volatile.add(number)
+        self.first_volatile = self.first_volatile or (self.row, self.column) if self.is_volatile else self.first_volatile
+        self.is_volatile_alone, self.names_others = self.is_volatile_alone and self.is_volatile, self.names_others or "!" in self.formula
 
     def close_c(self):
         words = self.content_or_refuse()
@@ -237,6 +245,8 @@ class Sheet(Texts):
             self.unfilled[self.column][0] = self.row + 1
         if words == "":
             return
+        if self.rows and (number := unsigned_number_or_none(self.style)) is not None and number < len(self.book.pairs):
+            self.pairs.add(self.book.pairs[number])
         self.count_of_cells += self.column - len(self.cells)
         if self.count_of_cells > MOST_CELLS:
             raise self.error_of(f"the sheet has more than {MOST_CELLS:,} cells before this one: delete those that the table doesn't need")
@@ -293,13 +303,16 @@ class Sheet(Texts):
         """A number with the digits that Excel shows, or the date that it stands for."""
         self.refuse_no_number(value)
         shown = self.number_format_or_refuse()
+        if not float(value):
+            self.zero = self.zero or (self.row, self.column)
         if self.hides_zeros and not float(value):
             return Hidden("0")
         if float(value) < 0 and self.style_number_or_refuse() in self.book.from_right:
             return Reversed(digits_text(float(value)))
         if shown is Date:
             return Date(self.date_text_or_refuse(float(value)))
-        return shown(int(value) if WHOLE.fullmatch(value) else digits_text(float(value)))
+        words = shown(int(value) if WHOLE.fullmatch(value) else digits_text(float(value)))
+        return Zero(words) if self.formula is not None and words == "0" and type(words) is str else words
 
     def refuse_no_number(self, value):
         if not NUMBER.fullmatch(value) or not math.isfinite(float(value)):
@@ -361,6 +374,19 @@ class Sheet(Texts):
         """A condition may give cells another format."""
         if "dxfId" in attributes and (kind := self.book.conditional.get(unsigned_number_or_none(attributes["dxfId"]))):
             raise self.conditional_format_error(f"with {kind}")
+        if self.hides_cells(self.book.condition_colours.get(unsigned_number_or_none(attributes.get("dxfId", "")), {})):
+            raise self.conditional_format_error(f"with {A_HIDING_FONT}")
+
+    @functools.cached_property
+    def fonts_and_fills(self):
+        """The colours of the fonts and of the fills of cells, once all cells are read."""
+        return {font for font, _ in self.pairs}, {fill for _, fill in self.pairs}
+
+    def hides_cells(self, colours):
+        """Whether the colours of a font and a fill, of which a format may leave cells their own, hide the text of a cell."""
+        font, fill = colours.get("color"), colours.get("bgColor")
+        fonts, fills = self.fonts_and_fills
+        return font == fill if font and fill else font in fills or fill in fonts
 
     def open_dataBar(self, attributes):
         """A bar or an icon may stand in place of a number."""
@@ -381,12 +407,23 @@ class Sheet(Texts):
             kind = f"with {A_STRIKING_FONT}"
         elif name in ("dataBar", "iconSet") and hides_numbers(attributes):
             kind = HIDING
+        elif name == "customSheetView" and self.zero and truth_word_or_none(attributes, "zeroValues") == "FALSE":
+            (self.row, self.column), self.cells = self.zero, []
+            raise self.error_of("it is a zero that a custom view of its sheet hides: delete the view")
+        elif name == "bgColor" or name == "color" and self.is_font:
+            self.later[name] = colour_or_none(attributes, self.palette)
+        elif name in ("dxf", "sqref"):  # the latter is after the last format
+            kind, self.later = f"with {A_HIDING_FONT}" if self.hides_cells(self.later) else None, {}
+        self.is_font = name == "font" or self.is_font and name in FONT_PARTS | OF_FONTS
         if kind:
             raise self.error_of(f"it has a conditional format {kind}: delete it")
 
     def open_tablePart(self, _):
         if self.book.has_striking_tables:
             raise self.error_of("it has a table, and the workbook a style of tables that strikes out: delete the style")
+        if not self.has_table and any(map(self.hides_cells, self.book.table_colours)):
+            raise self.error_of(f"it has a table, and the workbook a style of tables with {A_HIDING_FONT}: delete the style")
+        self.has_table = True
 
     width = None  # of the widest row, once it is needed
 

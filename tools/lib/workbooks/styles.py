@@ -9,7 +9,7 @@ from fractions import Fraction
 from ..base import text
 from .cells import Changed, Currency, Date, Formatted, Percentage, Power, Price, Repeated, Rounded, Shortened, Struck, Unseen, Worded
 from .limits import LONGEST_FORMAT, MOST_FONTS, MOST_FORMATS, MOST_OF_FORMATS, MOST_OWN_FORMATS, broken_error, too_many_error
-from .part import ANY_OTHERS, BLACK, BLANK, FONT, FONT_PARTS, OF_FONTS, PAPER, Part, colour_or_none, is_unreadable, strikes_out
+from .part import ANY_OTHERS, BLACK, BLANK, FONT, FONT_PARTS, INDEXED, OF_FONTS, PAPER, Part, colour_or_none, is_unreadable, strikes_out
 from .part import unsigned_number_or_none
 
 # The numbers of Excel's own formats: of all digits, of dates and times, of percentages, of the currency of each system, and of some digits.
@@ -299,7 +299,7 @@ PATTERN = ""  # the colour of a fill that has several, or one that isn't told
 FROM_RIGHT = 2  # the reading order of an alignment: from right to left
 
 # Why the format of a condition changes what is shown.
-A_NUMBER_FORMAT, A_STRIKING_FONT = "a number format", "a font that strikes out"
+A_NUMBER_FORMAT, A_STRIKING_FONT, A_HIDING_FONT = "a number format", "a font that strikes out", "a font in the colour of its cells"
 
 
 class Styles(Part):
@@ -308,7 +308,7 @@ class Styles(Part):
     ROOT = "styleSheet"
     PLACES = {
         "": ROOT,
-        ROOT: "numFmts fonts fills cellXfs dxfs tableStyles extLst",
+        ROOT: "numFmts fonts fills cellXfs dxfs tableStyles colors extLst",
         "numFmts": "numFmt*",
         "fonts": "font*",
         "font": FONT,
@@ -318,14 +318,17 @@ class Styles(Part):
         "cellXfs": "xf*",
         "xf": "alignment extLst",
         "dxfs": "dxf*",
-        "dxf": "font numFmt extLst",
+        "dxf": "font numFmt fill extLst",
         "tableStyles": "tableStyle*",
         "tableStyle": "tableStyleElement*",
+        "colors": "indexedColors",
+        "indexedColors": "rgbColor*",
     }
     BETWEEN = {
-        ROOT: {ANY_OTHERS, *"borders cellStyleXfs cellStyles colors".split()},
+        ROOT: {ANY_OTHERS, *"borders cellStyleXfs cellStyles".split()},
         "xf": {ANY_OTHERS, "protection"},
-        "dxf": {ANY_OTHERS, *"fill alignment border protection".split()},
+        "dxf": {ANY_OTHERS, *"alignment border protection".split()},
+        "colors": {ANY_OTHERS, "mruColors"},
         "fonts": {ANY_OTHERS},
         "fills": {ANY_OTHERS},
         "fill": {ANY_OTHERS},
@@ -348,9 +351,13 @@ class Styles(Part):
         self.struck = set()  # the formats with one of these
         self.colours, self.unreadable = {}, set()  # of fonts the colours, and those that can't be read
         self.fills, self.backgrounds, self.is_solid = 0, {}, False  # how many fills there are, and their colours
+        self.pairs = []  # of each format the font and the fill by number; once all is read, their colours
         self.unseen = set()  # the formats that hide texts and numbers by these
+        self.palette, self.own_colours = dict(INDEXED), 0  # the colours with numbers; how many the workbook has of its own
         self.conditions, self.conditional = 0, {}  # how many formats of conditions there are, and why some change what is shown
+        self.condition_colours = {}  # of those that have some, by the element
         self.has_striking_tables = False  # whether a style of tables strikes out
+        self.of_table, self.table_colours = {}, []  # of the formats of a style of tables, and of all these styles, the colours
 
     def open_numFmt(self, attributes):
         code = attributes.get("formatCode", "")
@@ -387,9 +394,13 @@ class Styles(Part):
             self.conditional[self.conditions - 1] = A_STRIKING_FONT
 
     def open_color(self, attributes):
-        colour = colour_or_none(attributes)
-        if self.within[-3] == "fonts" and colour:
-            self.colours[self.fonts - 1] = colour
+        if colour := colour_or_none(attributes, {}):
+            if self.within[-3] == "fonts":
+                self.colours[self.fonts - 1] = colour
+            elif "dxf" in self.within:
+                self.condition_colours.setdefault(self.conditions - 1, {})[self.within[-1]] = colour
+
+    open_bgColor = open_color  # which a format of conditions has for its fill
 
     def open_sz(self, attributes):
         if self.within[-3] == "fonts" and is_unreadable(self.within[-1], attributes):
@@ -398,41 +409,63 @@ class Styles(Part):
     open_name = open_charset = open_sz
 
     def open_fill(self, _):
-        self.fills += 1
+        self.fills += self.within[-2] == "fills"
         if self.fills > MOST_FONTS:
             raise too_many_error(MOST_FONTS, "fills")
 
     def open_patternFill(self, attributes):
         pattern = attributes.get("patternType", "none").strip(BLANK)
         self.is_solid = pattern == "solid"
-        if pattern != "none":
+        if pattern != "none" and self.within[-3] == "fills":
             self.backgrounds[self.fills - 1] = PATTERN
 
     def open_gradientFill(self, _):
-        self.backgrounds[self.fills - 1] = PATTERN
+        if self.within[-3] == "fills":
+            self.backgrounds[self.fills - 1] = PATTERN
 
     def open_fgColor(self, attributes):
-        if self.is_solid:
-            self.backgrounds[self.fills - 1] = colour_or_none(attributes) or PATTERN
+        if self.is_solid and self.within[-4] == "fills":
+            self.backgrounds[self.fills - 1] = colour_or_none(attributes, {}) or PATTERN
 
-    def hides_by_font(self, font, fill):
-        """Whether the font of a format can't be read, or has the colour of its fill."""
-        return font in self.unreadable or self.colours.get(font, BLACK) == self.backgrounds.get(fill, PAPER)
+    def open_rgbColor(self, attributes):
+        if self.own_colours < 64:  # Excel keeps the later ones
+            self.palette[f"indexed {self.own_colours}"] = colour_or_none(attributes, {})
+        self.own_colours += 1
+
+    def close_styleSheet(self):
+        """Finds the colours by their numbers, and the formats with a font that can't be read, or in the colour of its fill."""
+        plain = lambda colour: self.palette.get(colour, colour)
+        for at, (font, fill) in enumerate(self.pairs):
+            pair = self.pairs[at] = plain(self.colours.get(font, BLACK)), plain(self.backgrounds.get(fill, PAPER))
+            if font in self.unreadable or pair[0] == pair[1]:
+                self.unseen.add(at)
+        for colours in self.condition_colours.values():
+            colours.update({name: plain(colour) for name, colour in colours.items()})
 
     def open_dxf(self, _):
         self.conditions += 1
+        if self.conditions > MOST_FORMATS:
+            raise too_many_error(MOST_FORMATS, "formats of conditions")
 
     def open_tableStyleElement(self, attributes):
         """A style of tables has the fonts of formats that conditions may have too."""
-        kind = self.conditional.get(unsigned_number_or_none(attributes.get("dxfId", "")))
+        number = unsigned_number_or_none(attributes.get("dxfId", ""))
+        kind = self.conditional.get(number)
         self.has_striking_tables = self.has_striking_tables or kind == A_STRIKING_FONT
+        if number in self.condition_colours:
+            self.of_table[number] = self.condition_colours[number]
+
+    def close_tableStyle(self):
+        """A part of a table without a font or a fill of its own may have that of another part, of which it isn't told."""
+        found, self.of_table = self.of_table.values(), {}
+        told = set().union(*found)
+        self.table_colours += [each for each in found if set(each) == told]
 
     def open_xf(self, attributes):
         font, fill = (unsigned_number_or_none(attributes.get(name, "0")) for name in ("fontId", "fillId"))
         if font in self.struck_fonts:
             self.struck.add(len(self.formats))
-        if self.hides_by_font(font, fill):
-            self.unseen.add(len(self.formats))
+        self.pairs.append((font, fill))
         self.formats.append(format_number_or_refuse(attributes))
         if len(self.formats) > MOST_FORMATS:
             raise too_many_error(MOST_FORMATS, "formats of cells")
