@@ -5,9 +5,8 @@ use std::iter;
 
 /// The limits, as the code of `dam` has them.
 #[allow(dead_code)]
-pub mod limits {
-    include!("../../crates/dam_book/src/limits.rt");
-}
+#[path = "../../crates/dam_book/src/limits.rt"]
+pub mod limits;
 
 use limits::{HIGHEST_PRICE, LOWEST_PRICE, MOST_ENTRIES};
 

@@ -4,9 +4,8 @@ use std::collections::HashMap;
 
 /// The limits, as the code of `dam` has them.
 #[allow(dead_code)]
-mod limits {
-    include!("../../crates/dam_book/src/limits.rt");
-}
+#[path = "../../crates/dam_book/src/limits.rt"]
+mod limits;
 
 pub const LOWEST: i64 = limits::LOWEST_PRICE as i64;
 pub const HIGHEST: i64 = limits::HIGHEST_PRICE as i64;
