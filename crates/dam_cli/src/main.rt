@@ -87,7 +87,8 @@ fn print_end<R: Wait + Eprint + Clock>(
 /// The job that the words ask for. If they ask for none, prints the help or the refusal; the error is then the exit status.
 fn read_job_or_print(rt: &HostRuntime, words: &[String]) -> Result<Job, ExitCode>
     ensures job { IfOk result (AsksFor (map string_bytes words.now)) }
-    ensures ended { IfErr result (λ status. IsUnasked (map string_bytes words.now) (exit_status status)) }
+    ensures ended { IfErr result (λ status.
+        IsUnasked (map string_bytes words.now) (exit_status status)) }
 {
     match read_job(rt.alloc(), words) {
         Ok(job) => Ok(job),
