@@ -36,6 +36,12 @@ async def click(page, selector):
     await page.evaluate(f"document.querySelector('{selector}').click()")
 
 
+async def answer(page, word):
+    """Presses yes or no, once the page asks: a question that follows another one waits until that one's dialog is closed."""
+    await page.wait_until("byId('sure').open")
+    await click(page, f"#{word}")
+
+
 async def read_text(page, name):
     return await page.evaluate(f"document.getElementById('{name}').textContent")
 

@@ -1,6 +1,6 @@
 """Answers that are lost, held or another tab's: the page loses no order and no word of one."""
 
-from page_actions import NEVER, read_cells, click, read_text, type_into, wait_for_message, wait_for_rows
+from page_actions import NEVER, answer, read_cells, click, read_text, type_into, wait_for_message, wait_for_rows
 
 # Loses the answer to the next command, which the office enters.
 LOSE = """{ const real = window.fetch; window.lost = false; window.fetch = async (path, how) => { const answer = await real(path, how);
@@ -69,14 +69,14 @@ async def check_two_tabs(page, counts):
     await click(page, "#enter")
     await page.wait_until("byId('sure').open")
     counts.check("isn't amended without a question", "Amend it to the values of this form?" in await read_text(page, "sure-words"))
-    await click(page, "#no")
+    await answer(page, "no")
     await page.wait_until("document.activeElement.id === 'price'")
     counts.check("to which no is an answer", (await read_cells(page, "commands-table"))[0][6] == "9.00")
     await click(page, "#enter")
     await page.wait_until("byId('sure').open")
     await page.evaluate("byId('no').click(); byId('enter').click()")  # before the dialog has told that it was closed
     await page.wait_until("byId('sure').open")
-    await click(page, "#yes")
+    await answer(page, "yes")
     await wait_for_message(page, "ONCE amended")
     counts.check("and so is yes", await read_text(page, "overtaken") == "")
     await page.wait_until("byId('commands-table').querySelector('tbody tr').cells[6].textContent === '2.00'")
@@ -122,18 +122,19 @@ async def check_silence(page, counts):
 async def check_other_day(page, counts):
     """Another day isn't shown before the participant knows that an order is lost."""
     await page.evaluate("say(''); options(byId('days'), [state.day, '2099-01-01'].map((day) => [day, day]))")
-    for answer, told in (("no", ""), ("yes", "There is no such day.")):
+    for word, told in (("no", ""), ("yes", "There is no such day.")):
         await page.evaluate("byId('days').value = '2099-01-01'; byId('days').dispatchEvent(new Event('change'))")
-        asked = await page.evaluate("[byId('sure').open, byId('sure-words').textContent]")
+        await page.wait_until("byId('sure').open")
+        asked = await read_text(page, "sure-words")
         words = f"Your unfinished order HALF wasn't sent. Leave {await page.evaluate('state.day')} without it?"
-        counts.check(f"another day is asked for: {asked}", asked == [True, words])
-        await click(page, f"#{answer}")
+        counts.check(f"another day is asked for: {asked}", asked == words)
+        await answer(page, word)
         await page.wait_until(f"!byId('sure').open && byId('message').textContent === '{told}'")
         kept = await page.evaluate("[byId('days').value === state.day, byId('name').value]")
-        counts.check(f"{answer} is an answer: {kept}", kept == [True, "HALF"])
+        counts.check(f"{word} is an answer: {kept}", kept == [True, "HALF"])
     count = len(await read_cells(page, "orders-table"))
     await page.evaluate("say('unsure', 'wrong', 'unsure'); byId('days').dispatchEvent(new Event('change'))")  # as if it were another day
-    await click(page, "#yes")
+    await answer(page, "yes")
     await page.wait_until("!byId('sure').open && byId('message').textContent === '' && byId('name').value === ''")
     await wait_for_rows(page, "orders-table", count)
     await page.evaluate("look()")

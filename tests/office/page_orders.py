@@ -1,6 +1,6 @@
 """Orders by the keyboard: entered, amended, cancelled, and half written."""
 
-from page_actions import read_cells, choose, click, focus_on, read_text, type_into, wait_for_rows
+from page_actions import answer, read_cells, choose, click, focus_on, read_text, type_into, wait_for_rows
 from page_signing_in import BLOCK, FIELDS
 
 
@@ -74,11 +74,11 @@ async def check_changing(page, counts):
     counts.check("the message says it", await read_text(page, "message") == amended)
     counts.check("what is changed says by which command of one's own", last[3] == "done; changed by your command 4" and last[-1] == "2")
     await click(page, '[aria-label="Cancel RUN"]')
-    await click(page, "#no")
+    await answer(page, "no")
     await page.evaluate("look()")
     counts.check("a cancel asks first", len(await read_cells(page, "commands-table")) == 4 and not await page.evaluate("byId('sure').open"))
     await click(page, '[aria-label="Cancel RUN"]')
-    await click(page, "#yes")
+    await answer(page, "yes")
     await wait_for_rows(page, "commands-table", 5)
     reason = "blocks name this one as their parent"
     counts.check("a refusal is in words", (await read_cells(page, "commands-table"))[0][1:4] == ["cancel", "RUN", f"refused: {reason}"])

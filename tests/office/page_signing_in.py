@@ -2,7 +2,7 @@
 
 import asyncio
 
-from page_actions import SLOW, read_cells, click, sign_in, read_text, type_into, wait_for_message
+from page_actions import SLOW, answer, read_cells, click, sign_in, read_text, type_into, wait_for_message
 from page_tables import TABLE, write_and_choose_table
 
 # The fields of the form that are seen, those of the periods as one.
@@ -85,10 +85,11 @@ async def check_leaving(page, office, who, other, room, counts):
     await page.evaluate("Object.assign(state, { looks: null, count: -1 }); look(); undefined")
     await page.wait_until("asked.includes('/orders/')")  # its answer is on the way
     await click(page, "#sign-out")
+    await page.wait_until("byId('sure').open")
     asked = await read_text(page, "sure-words")
     lost = "The change of UNIT-8 wasn't sent. The 3 rows of your table weren't sent. Sign out without it?"
-    counts.check(f"what would be lost is told before: {asked}", asked == lost and await page.evaluate("byId('sure').open"))
-    await click(page, "#yes")
+    counts.check(f"what would be lost is told before: {asked}", asked == lost)
+    await answer(page, "yes")
     await page.evaluate("new Promise((done) => setTimeout(done, 1000))")
     counts.check("an answer that comes later is for nobody", await read_cells(page, "orders-table") == [])
     await page.evaluate("fetch = real; undefined")

@@ -9,6 +9,7 @@ import tempfile
 from page_actions import (
     SCROLLED,
     WIDTHS,
+    answer,
     choose,
     click,
     read_cells,
@@ -114,11 +115,11 @@ async def check_demo_page(url, counts, pictures):
         await wait_for_message(page, "NIGHT entered")
         await write_pictures_and_check_shown(page, counts, pictures, "demo")
         await click(page, "#close-now")
-        await click(page, "#no")
+        await answer(page, "no")
         await page.evaluate("look()")
         counts.check("a demo isn't closed by one press", await page.evaluate("isOpen()"))
         await click(page, "#close-now")
-        await click(page, "#yes")
+        await answer(page, "yes")
         await page.wait_until("!document.getElementById('results').hidden")
         await page.wait_until("document.activeElement.id === 'results-title'")
         counts.check("a demo that is closed can't be closed again", await page.evaluate("byId('demo-close').hidden"))
