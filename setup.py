@@ -20,7 +20,7 @@ from lib.crates import sources
 from lib.base.place import TOOLS
 
 LIBRARY = f"{TOP}/library/out/libdam.so.1"
-HAS_LIBRARY = sources.read_stale_words_or_none(LIBRARY, sources.LIBRARY) is None
+HAS_LIBRARY = sources.read_stale_text(LIBRARY, sources.LIBRARY) is None
 
 
 class Built(build_py):

@@ -1,26 +1,81 @@
-"""A line for each figure of the bench: its name, the figure, its quartiles, its target, and the verdict: whether the target holds.
+"""A line for each figure of the bench: its name, the value, its quartiles, its target, and the verdict: whether the target holds.
 
-A figure is the median of several runs, with their quartiles. The quartiles of a multiple are the least and the greatest that the quartiles
+A value is the median of several runs, with their quartiles. The quartiles of a multiple are the least and the greatest that the quartiles
 of both make. A target `holds` if the median and both quartiles meet it, and is `MISSED` if none of them does. Otherwise the verdict is
 `unclear`: the runs differ too much to decide."""
 
+import enum
+import functools
 import math
 import statistics
+from collections.abc import Callable, Mapping, Sequence
 from typing import NamedTuple
 
-HOLDS, MISSED, UNCLEAR = "holds", "MISSED", "unclear"
+from faults import BenchFault
+from running import TimedRun
+
+Values = Sequence[float]  # those of several runs
+Text = Callable[[float], str]  # of a value with its unit
 ONE_RUN = "one run"  # in place of quartiles
 
 
-class Figure(NamedTuple):
-    """A figure in words, as a row of `measured/` has it. Without a target it has no verdict, and a count has no quartiles."""
+class Verdict(enum.Enum):
+    HOLDS, MISSED, UNCLEAR, NONE = "holds", "MISSED", "unclear", ""  # none without a target
 
+
+class Label(NamedTuple):
+    """The key of a figure in its part, such as `replay/wall`, its name, and which of those of this name it is, such as that of a book."""
+
+    key: str
     name: str
-    figure: str
+    variant: str = ""
+
+
+class Figure(NamedTuple):
+    """A figure: its value, quartiles and target as texts with their units, and its median as a number, in seconds or in the unit of the
+    value. A figure without a value has no median."""
+
+    key: str
+    name: str
+    variant: str
+    value: str
     quartiles: str
     target: str
-    verdict: str
+    verdict: Verdict
     details: str
+    median: float | None
+
+    @property
+    def sort_key(self) -> float:
+        return math.inf if self.median is None else self.median
+
+    @property
+    def whole_name(self) -> str:
+        return f"{self.name}: {self.variant}" if self.variant else self.name
+
+    @property
+    def is_wrong(self) -> bool:
+        return self.verdict in (Verdict.MISSED, Verdict.UNCLEAR)
+
+    @property
+    def line(self) -> tuple[str, ...]:
+        return self.whole_name, self.value, self.quartiles, self.target, self.verdict.value, self.details
+
+
+class Target(NamedTuple):
+    """`least` or `most`, and the value that a figure must have at least or at most."""
+
+    kind: str
+    limit: float
+
+    def is_met(self, value: float) -> bool:
+        return value <= self.limit if self.kind == "most" else value >= self.limit
+
+    def text(self, shown: Text) -> str:
+        return f"at {self.kind} {shown(self.limit)}"
+
+
+at_most, at_least = functools.partial(Target, "most"), functools.partial(Target, "least")
 
 
 class Quartiles(NamedTuple):
@@ -30,20 +85,12 @@ class Quartiles(NamedTuple):
     median: float
     upper: float
 
-    def multiple_of(self, other):
-        return Quartiles(self.lower / other.upper, self.median / other.median, self.upper / other.lower)
 
-
-def quartiles_of(values):
+def quartiles_of(values: Values) -> Quartiles:
     return Quartiles(*(statistics.quantiles(values, method="inclusive") if len(values) > 1 else [values[0]] * 3))
 
 
-def verdict_of(is_met):
-    """The verdict on a target that these values meet, or not."""
-    return HOLDS if all(is_met) else UNCLEAR if any(is_met) else MISSED
-
-
-def seconds_text(value):
+def seconds_text(value: float) -> str:
     """A time with a unit that suits it."""
     for unit, size in (("s", 1), ("ms", 1e-3), ("us", 1e-6)):
         if value >= 0.9995 * size:  # which rounds to it
@@ -51,59 +98,69 @@ def seconds_text(value):
     return f"{value / 1e-9:.3g} ns"
 
 
-MIB, PER_SECOND = "{:.1f} MiB".format, "{:,.0f} a second".format
+MIB, PER_SECOND, COUNT = "{:.1f} MiB".format, "{:,.0f} a second".format, "{:,.0f}".format
 
 
-def multiple_text(value, digits=2):
+def multiple_text(value: float, digits: int = 2) -> str:
     """A multiple, with this number of digits after the point, or after its zeros there."""
     zeros = max(-1 - math.floor(math.log10(value)), 0)
     return f"{value:.{digits + zeros}f} x" if value < 100 else f"{value:,.0f} x"
 
 
-def span_text(least, greatest):
+def span_text(least: str, greatest: str) -> str:
     """From one figure to another, with their unit once if it is the same."""
     number, _, unit = least.partition(" ")
     return f"{number if unit and greatest.endswith(f' {unit}') else least} to {greatest}"
 
 
 class Figures:
-    """The figures of a part, each of which is printed."""
+    """The figures of a part, each of which is printed. `targets` has the target of each, by its key or by the first word of the key."""
 
-    def __init__(self):
-        self.recorded = []
+    def __init__(self, targets: Mapping[str, Target]) -> None:
+        self.targets, self.added = targets, list[Figure]()
 
-    def record(self, name, figure, target="", is_met=None, details=""):
-        """Records a figure that isn't of several runs. `is_met` is None if there is no target."""
-        self.keep_and_print(Figure(name, figure, "", target, "" if is_met is None else verdict_of([is_met]), details))
+    def target_of(self, label: Label) -> Target:
+        if target := self.targets.get(label.key) or self.targets.get(label.key.partition("/")[0]):
+            return target
+        raise BenchFault(f"TARGETS has no '{label.key}'")
 
-    def keep_and_print(self, figure):
-        self.recorded.append(figure)
-        print("{:<76} {:>10}  {:<18} {:<18} {:<7} {}".format(*figure).rstrip(), flush=True)
+    def add(self, figure: Figure) -> None:
+        self.added.append(figure)
+        print("{:<76} {:>10}  {:<18} {:<18} {:<7} {}".format(*figure.line).rstrip(), flush=True)
 
-    def record_quartiles(self, name, value, shown, most=None, least=None, details=""):
-        """Records a median between its quartiles, and the verdict on its target, which is `most`, `least` or none."""
-        bound = least if most is None else most
-        verdict = "" if bound is None else verdict_of([each >= bound if most is None else each <= bound for each in value])
-        target = "" if bound is None else f"at {'least' if most is None else 'most'} {shown(bound)}"
+    def add_quartiles(self, label: Label, value: Quartiles, shown: Text, details: str) -> None:
+        """Adds a median between its quartiles, with the verdict on its target."""
         quartiles = ONE_RUN if value.lower == value.upper else span_text(shown(value.lower), shown(value.upper))
-        self.keep_and_print(Figure(name, shown(value.median), quartiles, target, verdict, details))
+        target = self.target_of(label)
+        is_met = [target.is_met(each) for each in value]
+        verdict = Verdict.HOLDS if all(is_met) else Verdict.UNCLEAR if any(is_met) else Verdict.MISSED
+        self.add(Figure(*label, shown(value.median), quartiles, target.text(shown), verdict, details, median=value.median))
 
-    def record_at_most(self, name, values, most, shown=seconds_text, details=""):
-        self.record_quartiles(name, quartiles_of(values), shown, most=most, details=details)
+    def add_median(self, label: Label, values: Values, shown: Text = seconds_text, details: str = "") -> None:
+        self.add_quartiles(label, quartiles_of(values), shown, details)
 
-    def record_ratio(self, name, ours, theirs, most=None, least=None, shown=seconds_text, note=""):
-        """Records the median of our runs as a multiple of the median of theirs; the details have both."""
-        self.record_multiple(name, quartiles_of(ours), quartiles_of(theirs), most, least, shown, note)
-
-    def record_multiple(self, name, ours, theirs, most=None, least=None, shown=seconds_text, note=""):
-        value, bound = ours.multiple_of(theirs), least if most is None else most
-        details = "; ".join(filter(None, [f"{shown(ours.median)} and {shown(theirs.median)}", note]))
+    def add_ratio(self, label: Label, ours: Values, theirs: Values, shown: Text = seconds_text, note: str = "") -> None:
+        """Adds the median of our values as a multiple of the median of theirs; the details have both."""
+        our, their, target = quartiles_of(ours), quartiles_of(theirs), self.target_of(label)
+        value = Quartiles(our.lower / their.upper, our.median / their.median, our.upper / their.lower)
         # a figure on the wrong side of its target doesn't look equal to it
-        is_equal = bound is not None and value.median != bound and multiple_text(value.median) == multiple_text(bound)
-        digits = 3 if is_equal and (value.median > bound) == (most is not None) else 2
-        self.record_quartiles(name, value, lambda each: multiple_text(each, digits), most, least, details)
+        is_equal = multiple_text(value.median) == multiple_text(target.limit)
+        digits = 3 if is_equal and not target.is_met(value.median) else 2
+        details = "; ".join(filter(None, [f"{shown(our.median)} and {shown(their.median)}", note]))
+        self.add_quartiles(label, value, lambda each: multiple_text(each, digits), details)
 
-    def record_times(self, name, ours, theirs, most=None, least=None):
-        """Records the wall and the processor time of runs as multiples of those of theirs."""
+    def add_times(self, key: str, name: str, ours: Sequence[TimedRun], theirs: Sequence[TimedRun]) -> None:
+        """Adds the wall and the processor time of runs as multiples of those of theirs."""
         for field in ("wall", "processor"):
-            self.record_ratio(f"{name}, {field} time", *([getattr(each, field) for each in runs] for runs in (ours, theirs)), most, least)
+            one, other = ([getattr(each, field) for each in runs] for runs in (ours, theirs))
+            self.add_ratio(Label(f"{key}/{field}", name, f"{field} time"), one, other)
+
+    def add_unended(self, label: Label, least: float, shown: Text = seconds_text) -> None:
+        """Adds a figure that is only known to be above this, since a program didn't end."""
+        target = self.target_of(label)
+        verdict = Verdict.HOLDS if target.is_met(least) else Verdict.MISSED
+        self.add(Figure(*label, f"> {shown(least)}", "", target.text(shown), verdict, details="", median=least))
+
+    def add_without_value(self, label: Label, why: str) -> None:
+        """Adds a figure that decides nothing."""
+        self.add(Figure(*label, "?", quartiles="", target="", verdict=Verdict.NONE, details=why, median=None))

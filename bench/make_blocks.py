@@ -22,15 +22,20 @@ both    families of four: of three blocks at most one is accepted, and the fourt
 import math
 import random
 import sys
+from collections.abc import Callable, Collection, Iterator
 
-from generating import BLOCKS, CLOSE, HOURS, MOST_HOURLY, PARTICIPANTS, PERIODS, DayMarket, DrawnBook, Order, parse_number_or_exit
+from faults import BenchFault, run_main
+from drawn_books import CLOSE, HOURS, MOST_BLOCKS, MOST_HOURLY, PARTICIPANTS, PERIODS_OF_HOUR
+from drawn_books import DayMarket, DrawnBook, Order, draw_side, parse_number
 
-HOURLY, MOST_THIN = 3_800, 1_500  # the usual number of hourly orders, and the greatest of a thin market
-MOST_SPREAD, MOST_SEED = 10_000, 1_000_000
+USUAL_HOURLY, USUAL_SPREAD = 3_800, 50
+LIMITS = {"SPREAD": range(10_001), "SEED": range(1_000_001), "PERIODS": PERIODS_OF_HOUR}
+LIMITS |= {"BLOCKS": range(MOST_BLOCKS + 1), "HOURLY": range(MOST_HOURLY + 1)}
 AROUND = 2_000  # by how many cents the limit of an hourly order differs from the price at most
 HOURLY_VOLUMES, BLOCK_VOLUMES = (50, 399), (20, 119)  # from the least to the greatest, in tenths of a MW
 LEVEL, LEVEL_VOLUMES = 6_000, (5_000, 8_999)  # the one price of the hourly orders of a wide book, in cents, and their volumes
 LEAST_WIDE, MOST_WIDE = 10, (60, 300)  # the least volume of a wide block, and between which two its greatest lies
+Volumes = dict[int, int]  # by the period or the hour
 ALL = range(1, HOURS + 1)
 PEAK = range(9, 21)
 NIGHT = [hour for hour in ALL if hour not in PEAK]
@@ -40,31 +45,31 @@ BY_TURNS = [ALL, PEAK, NIGHT]
 class BlockMarket(DayMarket):
     """A day, and the generator of the volumes of its blocks."""
 
-    def draw_volume(self):
+    def draw_volume(self) -> int:
         return self.rng.randint(*BLOCK_VOLUMES)
 
-    def volumes_by_period(self, volumes):
+    def volumes_by_period(self, volumes: Volumes) -> Volumes:
         """The volumes of a block whose volume in each hour is given."""
         return {period: volume for hour, volume in volumes.items() for period in self.periods_of(hour, hour + 1)}
 
-    def draw_flat(self, hours):
+    def draw_flat(self, hours: Collection[int]) -> Volumes:
         return self.volumes_by_period(dict.fromkeys(hours, self.draw_volume()))
 
-    def draw_shaped(self):
+    def draw_shaped(self) -> Volumes:
         """Volumes that rise and fall once in a day, by up to six tenths of their mean."""
         mean, highest, share = self.draw_volume(), self.rng.uniform(0, HOURS), self.rng.uniform(0.2, 0.6)
         wave = {hour: math.cos((hour - highest) * 2 * math.pi / HOURS) for hour in ALL}
         return self.volumes_by_period({hour: round(mean * (1 + share * height)) for hour, height in wave.items()})
 
-    def draw_noise(self, volumes=BLOCK_VOLUMES):
+    def draw_noise(self, volumes: tuple[int, int] = BLOCK_VOLUMES) -> Volumes:
         return {period: self.rng.randint(*volumes) for period in range(1, self.periods + 1)}
 
-    def draw_hours(self, by_hour):
+    def draw_hours(self, by_hour: bool) -> Volumes:
         """A span of hours, with one volume or with a volume for each hour."""
         hours = range(*sorted(self.rng.sample(range(1, HOURS + 2), 2)))
         return self.volumes_by_period({hour: self.draw_volume() for hour in hours}) if by_hour else self.draw_flat(hours)
 
-    def mean_price_of(self, volumes):
+    def mean_price_of(self, volumes: Volumes) -> float:
         """The mean price of these volumes."""
         return sum(self.price_at(period) * volume for period, volume in volumes.items()) / sum(volumes.values())
 
@@ -72,28 +77,28 @@ class BlockMarket(DayMarket):
 class LevelMarket(BlockMarket):
     """A day of which every period has the same price."""
 
-    def price_at(self, _period):
+    def price_at(self, _period: int) -> int:
         return LEVEL
 
 
-def draw_mixed(day, number):
+def draw_mixed(day: BlockMarket, number: int) -> Volumes:
     turn = number % 4
     return day.draw_flat(BY_TURNS[turn]) if turn < 3 else day.draw_hours(by_hour=number % 8 == turn)
 
 
 # The volumes of a day's block, by its number.
-USUAL_KINDS = {
+USUAL_KINDS: dict[str, Callable[[BlockMarket, int], Volumes]] = {
     "base": lambda day, number: day.draw_flat(ALL),
     "peaks": lambda day, number: day.draw_flat(BY_TURNS[number % 3]),
     "shaped": lambda day, number: day.draw_shaped(),
-    "odd": lambda day, number: day.draw_noise() if number == BLOCKS // 2 else day.draw_flat(ALL),
+    "odd": lambda day, number: day.draw_noise() if number == MOST_BLOCKS // 2 else day.draw_flat(ALL),
     "random": lambda day, number: day.draw_noise(),
 }
 WIDE = "wide"
 KINDS = {**USUAL_KINDS, "mixed": draw_mixed, WIDE: lambda day, number: day.draw_noise((LEAST_WIDE, day.rng.randint(*MOST_WIDE)))}
 
 
-def set_participants_for_families(blocks, size):
+def set_participants_for_families(blocks: list[Order], size: int) -> Iterator[tuple[int, list[Order]]]:
     """The blocks by families of this size, each with its number, and with the participant of its first block."""
     for first in range(0, len(blocks), size):
         family = blocks[first : first + size]
@@ -102,57 +107,64 @@ def set_participants_for_families(blocks, size):
         yield first // size, family
 
 
-def set_links(blocks, rng):
+def set_links(blocks: list[Order], rng: random.Random) -> None:
     for _, family in set_participants_for_families(blocks, 6):
         for place, block in enumerate(family[1:], 1):
             block.parent = rng.choice(family[:place]).name
 
 
-def set_groups(blocks, _rng):
+def set_groups(blocks: list[Order], _rng: random.Random) -> None:
     for number, family in set_participants_for_families(blocks, 3):
         for block in family:
             block.group = f"GROUP-{number}"
 
 
-def set_links_and_groups(blocks, _rng):
+def set_links_and_groups(blocks: list[Order], _rng: random.Random) -> None:
     for number, (parent, *children) in set_participants_for_families(blocks, 4):
         for block in children:
             block.parent, block.group = parent.name, f"GROUP-{number}"
 
 
 FREE = "free"
-BONDS = {FREE: lambda blocks, rng: None, "links": set_links, "groups": set_groups, "both": set_links_and_groups}
+Bond = Callable[[list[Order], random.Random], None]
+BONDS: dict[str, Bond] = {FREE: lambda blocks, rng: None, "links": set_links, "groups": set_groups, "both": set_links_and_groups}
 
 
-def book_of_kind(kind, spread, seed, per_hour, hourly=HOURLY, bonds=FREE):
+def book_of_kind(kind: str, spread: int, seed: int, per_hour: int, hourly: int = USUAL_HOURLY, bonds: str = FREE) -> DrawnBook:
     told = f", {bonds}" if bonds != FREE else ""
-    told += f", {hourly:,} orders" if hourly != HOURLY else ""
-    words = [kind, *map(str, (spread, seed, per_hour, BLOCKS, hourly)), bonds]
+    told += f", {hourly:,} orders" if hourly != USUAL_HOURLY else ""
+    words = [kind, *map(str, (spread, seed, per_hour, MOST_BLOCKS, hourly)), bonds]
     return DrawnBook(
         name=f"{kind} {HOURS * per_hour}{told}, spread {spread:,}, seed {seed}",
         kind=kind,
         script="make_blocks.py",
         words=words if told else words[:4],
-        is_thin=kind != WIDE and hourly <= MOST_THIN,
         note="a subset sum of equal limits" if spread == 0 and kind in ("base", "odd") else "",
     )
 
 
-SPREADS, SEEDS = (5, 50, 300, 1_000), (1, 2, 3)
-USUAL = 50  # the spread for which there is a book of each seed; for the others there is one
-BOOKS = [
+# Deep markets: realistic books, of each seed for the usual spread; mixed ones; and wide ones with two orders of each side in a period, or
+# with many.
+SPREADS, SEEDS, FEW_HOURLY = (5, 50, 300, 1_000), (1, 2, 3), {1: 96, 4: 384}
+DEEP = [
     book_of_kind(kind, spread, seed, per_hour)
     for kind in USUAL_KINDS
-    for per_hour in PERIODS
+    for per_hour in PERIODS_OF_HOUR
     for spread in SPREADS
-    for seed in (SEEDS if spread == USUAL else SEEDS[:1])
+    for seed in (SEEDS if spread == USUAL_SPREAD else SEEDS[:1])
+]
+DEEP += [book_of_kind("mixed", spread, 1, per_hour) for per_hour in PERIODS_OF_HOUR for spread in (20, 50)]
+DEEP += [
+    book_of_kind(WIDE, spread, 1, per_hour, orders)
+    for per_hour, few in FEW_HOURLY.items()
+    for spread, orders in ((0, few), (50, few), (0, USUAL_HOURLY))
 ]
 # Thin markets: the spreads take turns, so that each kind has each of them on each length of a day.
 THIN_HOURLY, THIN_SPREADS = (200, 500, 1_500), (0, 20, 50)
 THIN = [
     book_of_kind(kind, THIN_SPREADS[(kinds + lengths + turn) % len(THIN_SPREADS)], 1, per_hour, orders)
     for kinds, kind in enumerate(USUAL_KINDS)
-    for lengths, per_hour in enumerate(PERIODS)
+    for lengths, per_hour in enumerate(PERIODS_OF_HOUR)
     for turn, orders in enumerate(THIN_HOURLY)
 ]
 # One of equal limits, so that a search looks for a sum of volumes, and one that took more than 30 s while bounds came from tables.
@@ -160,52 +172,42 @@ THIN += [book_of_kind("odd", 0, 2, 4, 500), book_of_kind("base", 20, 6, 4, 1_500
 # The thin markets that took a search longest, of 2,575 that were drawn at random: by number of orders, spread and seed.
 ODD = {1_000: [(0, 249)], 800: [(0, 285)], 300: [(0, 242)]}
 RANDOM = {500: [(200, 686), (5, 30), (5, 284), (50, 347), (0, 109), (5, 752)], 800: [(300, 1)]}
-HARDEST = [
+THIN += [
     book_of_kind(kind, *drawn, 4, orders)
     for kind, found in (("odd", ODD), ("random", RANDOM))
     for orders, each in found.items()
     for drawn in each
 ]
-BOUND = [book_of_kind("base", 20, 1, per_hour, orders, bonds) for bonds in list(BONDS)[1:] for per_hour, orders in ((1, 200), (4, 500))]
-# Deep markets with blocks of other kinds: mixed ones, and wide ones with two orders of each side in a period, or with many.
-DEEP = [book_of_kind("mixed", spread, 1, per_hour) for per_hour in PERIODS for spread in (20, 50)]
-FEW = {1: 96, 4: 384}
-DEEP += [
-    book_of_kind(WIDE, spread, 1, per_hour, orders)
-    for per_hour, few in FEW.items()
-    for spread, orders in ((0, few), (50, few), (0, HOURLY))
-]
-MORE = THIN + HARDEST + BOUND + DEEP
+# Thin markets with tied blocks.
+THIN += [book_of_kind("base", 20, 1, per_hour, orders, bonds) for bonds in list(BONDS)[1:] for per_hour, orders in ((1, 200), (4, 500))]
 
 
-def draw_order(day, number, is_wide):
+def draw_order(day: BlockMarket, number: int, is_wide: bool) -> Order:
     """An hourly order; in a wide book by turns a buy and a sell of each period."""
     period, name = 1 + number % day.periods, f"HOUR-{number}"
     if is_wide:
         side, price = "sell" if number // day.periods % 2 else "buy", LEVEL
         return Order(day.rng.choice(PARTICIPANTS), name, "hour", side, price, {period: day.rng.randint(*LEVEL_VOLUMES)})
-    side, price = day.draw_side(), day.price_at(period) + day.rng.randint(-AROUND, AROUND)
+    side, price = draw_side(day.rng), day.price_at(period) + day.rng.randint(-AROUND, AROUND)
     volume = day.rng.randint(*HOURLY_VOLUMES)
     return Order(day.rng.choice(PARTICIPANTS), name, "hour", side, price, {period: volume})
 
 
-def draw_block(day, kind, spread, number):
+def draw_block(day: BlockMarket, kind: str, spread: int, number: int) -> Order:
     volumes = KINDS[kind](day, number)
     price = round(day.mean_price_of(volumes)) + day.rng.randint(-spread, spread)
-    side, who = day.draw_side(), day.rng.choice(PARTICIPANTS)
+    side, who = draw_side(day.rng), day.rng.choice(PARTICIPANTS)
     return Order(who, f"BLOCK-{number}", "block", side, price, volumes)
 
 
-def main():
+def main() -> None:
     words = sys.argv[1:]
     if not 3 <= len(words) <= 7 or words[0] not in KINDS:
         sys.exit(__doc__)
-    kind, spread, seed, per_hour, count, orders, bonds = [*words, *["1", str(BLOCKS), str(HOURLY), FREE][len(words) - 3 :]]
-    spread, seed = parse_number_or_exit("SPREAD", spread, range(MOST_SPREAD + 1)), parse_number_or_exit("SEED", seed, range(MOST_SEED + 1))
-    per_hour, count = parse_number_or_exit("PERIODS", per_hour, PERIODS), parse_number_or_exit("BLOCKS", count, range(BLOCKS + 1))
-    orders = parse_number_or_exit("HOURLY", orders, range(MOST_HOURLY + 1))
+    kind, *given, bonds = [*words, *["1", str(MOST_BLOCKS), str(USUAL_HOURLY), FREE][len(words) - 3 :]]
+    spread, seed, per_hour, count, orders = map(parse_number, LIMITS, given, LIMITS.values())
     if bonds not in BONDS:
-        sys.exit(f"make_blocks.py: BONDS is '{bonds}' and should be one of {' '.join(BONDS)}")
+        raise BenchFault(f"BONDS is '{bonds}' and should be one of {' '.join(BONDS)}")
     drawn = f"{kind} {spread} {seed} {per_hour}"
     day = (LevelMarket if kind == WIDE else BlockMarket)(per_hour, random.Random(drawn))
     print(f"day,{day.periods},,,,,,,")
@@ -217,4 +219,4 @@ def main():
 
 
 if __name__ == "__main__":
-    main()
+    run_main("make_blocks.py", main)

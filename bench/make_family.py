@@ -14,44 +14,49 @@ ties      blocks that don't change the welfare, so that all selections are equal
 
 import random
 import sys
+from collections.abc import Callable, Iterable, Iterator, Sequence
 
-from generating import BLOCKS, CLOSE, HOURS, MOST_HOURLY, PARTICIPANTS, PERIODS, DayMarket, DrawnBook, Order, parse_number_or_exit
+from faults import run_main
+from drawn_books import CLOSE, HOURS, MOST_BLOCKS, MOST_HOURLY, PARTICIPANTS, PERIODS_OF_HOUR
+from drawn_books import DayMarket, DrawnBook, Order, draw_side, parse_number
 
+Span = tuple[int, int]  # from the least to the greatest
 SEED = 20_251_001
-HOURLY, THIN_HOURLY = (500, 4_000), 200  # hourly orders of the deep books, and of the thin ones
+DEEP_HOURLY, THIN_HOURLY = (500, 4_000), (200,)
 
 
 class FamilyMarket(DayMarket):
     """A day, and the generator of blocks over spans of its hours."""
 
-    def draw_span(self, least, most):
+    def draw_span(self, least: int, most: int) -> range:
         length = self.rng.randint(least, most)
         first = self.rng.randint(1, HOURS - length + 1)
         return self.periods_of(first, first + length)
 
-    def mean_price(self, periods):
+    def mean_price(self, periods: Sequence[int]) -> float:
         return sum(map(self.price_at, periods)) / len(periods)
 
-    def draw_blocks(self, count, hours, sizes, above, side):
-        """Blocks over a span of this number of hours, with one volume; `above` draws by how much the limit is above the mean price."""
+    def draw_blocks(self, count: int, hours: Span, sizes: Span, above: Callable[[], float], side: str = "") -> Iterator[Order]:
+        """Blocks over a span of this number of hours, with one volume and of this side, or of a random one; `above` draws by how much the
+        limit is above the mean price."""
         for number in range(count):
             periods, size = self.draw_span(*hours), self.rng.randint(*sizes)
             price = round(self.mean_price(periods) + above())
-            yield block_of_alpha(number, side(), price, dict.fromkeys(periods, size))
+            yield block_of_alpha(number, side or draw_side(self.rng), price, dict.fromkeys(periods, size))
 
 
-def block_of_alpha(number, side, price, volumes):
+def block_of_alpha(number: int, side: str, price: int, volumes: dict[int, int]) -> Order:
     return Order("ALPHA", f"BLOCK-{number}", "block", side, price, volumes)
 
 
-def draw_hourly(day, number):
+def draw_hourly(day: FamilyMarket, number: int) -> Order:
     period = 1 + number % day.periods
     side = "buy" if (number // day.periods) % 2 == 0 else "sell"
     price = day.price_at(period) + round(day.rng.gauss(0, 1_500)) + (700 if side == "buy" else -700)
     return Order(day.rng.choice(PARTICIPANTS), f"HOUR-{number}", "hour", side, price, {period: day.rng.randint(50, 500)})
 
 
-def flat_hourly(day, number):
+def flat_hourly(day: FamilyMarket, number: int) -> Order:
     """Of each period, one buy and one sell that leave much of both at 6,000 cents, and small ones that never matter."""
     period, rank = 1 + number % day.periods, number // day.periods
     side = "buy" if rank % 2 == 0 else "sell"
@@ -59,38 +64,38 @@ def flat_hourly(day, number):
     return Order("ALPHA", f"HOUR-{number}", "hour", side, price, {period: volume})
 
 
-def draw_market(day, count, volume):
-    return day.draw_blocks(count, (4, 12), (volume // 2, volume), lambda: day.rng.gauss(0, 450), day.draw_side)
+def draw_market(day: FamilyMarket, count: int, volume: int) -> Iterable[Order]:
+    return day.draw_blocks(count, (4, 12), (volume // 2, volume), lambda: day.rng.gauss(0, 450))
 
 
-def draw_paradox(day, count, volume):
-    return day.draw_blocks(count, (3, 12), (volume // 2, volume), lambda: -day.rng.uniform(0, 200), lambda: "sell")
+def draw_paradox(day: FamilyMarket, count: int, volume: int) -> Iterable[Order]:
+    return day.draw_blocks(count, (3, 12), (volume // 2, volume), lambda: -day.rng.uniform(0, 200), "sell")
 
 
-def draw_spread(day, count, volume):
+def draw_spread(day: FamilyMarket, count: int, volume: int) -> Iterable[Order]:
     sizes = max(volume // 20, 1), max(volume // 4, 2)
-    return day.draw_blocks(count, (2, 24), sizes, lambda: day.rng.uniform(-1_200, 1_200), day.draw_side)
+    return day.draw_blocks(count, (2, 24), sizes, lambda: day.rng.uniform(-1_200, 1_200))
 
 
-def draw_nearties(day, count, volume):
+def draw_nearties(day: FamilyMarket, count: int, volume: int) -> Iterable[Order]:
     periods = day.periods_of(8, 21)
     price = round(day.mean_price(periods)) - 300
     return [block_of_alpha(number, "sell", price + 20 * number, dict.fromkeys(periods, volume // 4)) for number in range(count)]
 
 
-def draw_links(day, count, volume):
+def draw_links(day: FamilyMarket, count: int, volume: int) -> Iterable[Order]:
     for number, each in enumerate(draw_market(day, count, volume)):
         each.side, each.parent = "sell", f"BLOCK-{number - 1}" if number % 6 else ""
         yield each
 
 
-def draw_groups(day, count, volume):
+def draw_groups(day: FamilyMarket, count: int, volume: int) -> Iterable[Order]:
     for number, each in enumerate(draw_market(day, count, 2 * volume)):
         each.group = f"GROUP-{number // 3}"
         yield each
 
 
-def draw_ties(day, count, _volume):
+def draw_ties(day: FamilyMarket, count: int, _volume: int) -> Iterable[Order]:
     return [block_of_alpha(number, "sell", 6_000, dict.fromkeys(day.draw_span(1, 6), 1)) for number in range(count)]
 
 
@@ -98,22 +103,22 @@ DRAWS = draw_market, draw_paradox, draw_spread, draw_nearties, draw_links, draw_
 FAMILIES = {draw.__name__.removeprefix("draw_"): draw for draw in DRAWS}
 
 
-def book_of_family(family, hourly, per_hour):
+def book_of_family(family: str, hourly: int, per_hour: int) -> DrawnBook:
     name = f"{family} {hourly:,}, {HOURS * per_hour} periods"
-    return DrawnBook(name, family, "make_family.py", [family, str(hourly), str(BLOCKS), str(per_hour)], is_thin=hourly == THIN_HOURLY)
+    return DrawnBook(name, family, "make_family.py", [family, str(hourly), str(MOST_BLOCKS), str(per_hour)])
 
 
-BOOKS = [book_of_family(family, hourly, per_hour) for family in FAMILIES for hourly in HOURLY for per_hour in PERIODS]
-THIN = [book_of_family(family, THIN_HOURLY, per_hour) for family in ("links", "groups") for per_hour in PERIODS]
+DEEP = [book_of_family(family, hourly, per_hour) for family in FAMILIES for hourly in DEEP_HOURLY for per_hour in PERIODS_OF_HOUR]
+THIN = [book_of_family(bond, hourly, per_hour) for bond in ("links", "groups") for hourly in THIN_HOURLY for per_hour in PERIODS_OF_HOUR]
 
 
-def main():
+def main() -> None:
     words = sys.argv[1:]
     if not 2 <= len(words) <= 4 or words[0] not in FAMILIES:
         sys.exit(__doc__)
-    family, orders = words[0], parse_number_or_exit("HOURLY", words[1], range(MOST_HOURLY + 1))
-    count = parse_number_or_exit("BLOCKS", words[2], range(BLOCKS + 1)) if len(words) > 2 else BLOCKS
-    per_hour = parse_number_or_exit("PERIODS", words[3], PERIODS) if len(words) > 3 else 1
+    family, orders = words[0], parse_number("HOURLY", words[1], range(MOST_HOURLY + 1))
+    count = parse_number("BLOCKS", words[2], range(MOST_BLOCKS + 1)) if len(words) > 2 else MOST_BLOCKS
+    per_hour = parse_number("PERIODS", words[3], PERIODS_OF_HOUR) if len(words) > 3 else 1
     day = FamilyMarket(per_hour, random.Random(f"{SEED} {family} {orders}"))
     order = flat_hourly if family == "ties" else draw_hourly
     volume = max(orders * 275 // day.periods // 20, 10)  # a tenth of that of one side of a period
@@ -124,4 +129,4 @@ def main():
 
 
 if __name__ == "__main__":
-    main()
+    run_main("make_family.py", main)

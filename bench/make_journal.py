@@ -6,22 +6,23 @@ journal gets. Every run with the same arguments prints the same bytes."""
 
 import random
 import sys
+from collections.abc import Iterator
 
-from generating import CLOSE, PARTICIPANTS, Order, draw_side
+from drawn_books import CLOSE, HOURS, PARTICIPANTS, Order, draw_side
 
-RECORDS, PERIODS = 10_000, 24
-DAY = f"day,{PERIODS},,,,,,,"
+RECORDS = 10_000
+DAY = f"day,{HOURS},,,,,,,"
 # Of a hundred commands, how many submit a new order and how many cancel one; the book refuses the rest.
 SUBMITS, CANCELS = 62, 33
 
 
-def draw_hour_order(who, name, rng):
+def draw_hour_order(who: str, name: str, rng: random.Random) -> Order:
     side, price = draw_side(rng), rng.randint(-5_000, 30_000)
-    return Order(who, name, "hour", side, price, {rng.randint(1, PERIODS): rng.randint(1, 5_000)})
+    return Order(who, name, "hour", side, price, {rng.randint(1, HOURS): rng.randint(1, 5_000)})
 
 
-def draw_commands(count, rng):
-    standing, made = [], 0
+def draw_commands(count: int, rng: random.Random) -> Iterator[Order | str]:
+    standing, made = list[tuple[str, str]](), 0
     for _ in range(count):
         draw = rng.randrange(100)
         if draw < SUBMITS or not standing:
@@ -37,14 +38,14 @@ def draw_commands(count, rng):
             yield f"cancel,{rng.choice(PARTICIPANTS)},NEVER-{made},,,,,,"
 
 
-def draw_blocks(count, rng):
+def draw_blocks(count: int, rng: random.Random) -> Iterator[Order]:
     for number in range(count):
         volumes = {period: rng.randint(10_000, 99_999) for period in range(1, 101)}
         who, side = rng.choice(PARTICIPANTS), draw_side(rng)
         yield Order(who, f"BLOCK-{number}", "block", side, rng.randint(10_000, 99_999), volumes)
 
 
-def main():
+def main() -> None:
     kind, rng = sys.argv[1] if sys.argv[1:] else "closed", random.Random(20_240_601)
     if kind == "blocks":
         lines = ["day,100,,,,,,,", *draw_blocks(RECORDS, rng)]

@@ -2,6 +2,10 @@
 
 import re
 import subprocess
+from collections.abc import Mapping
+from pathlib import Path
+
+from lib.crates.specs import Repository
 
 from . import navigation, pages
 
@@ -12,25 +16,27 @@ ENTRY = re.compile(r"^- `(\S+)`: (.*?)(?=^- |\Z)", re.MULTILINE | re.DOTALL)
 OF_CODE = re.compile(r"\b(?:fn|struct|enum|trait|mod)\s+(\w+)")
 
 
-def capture_list(top, environment=None):
+def capture_list(top: Path, environment: Mapping[str, str] | None = None) -> str:
     """The page of the notation with the list of the definitions below it, which no file of a clone has."""
-    line = [top / "tools" / "reading-list", "--definitions"]
+    line = [str(top / "tools" / "reading-list"), "--definitions"]
     return subprocess.run(line, stdout=subprocess.PIPE, env=environment, check=True).stdout.decode()
 
 
 class Definitions:
     """The definitions of a clone, with their places in the site. `listed` is their list, as `capture_list` returns it."""
 
-    def __init__(self, top, repository, listed):
+    def __init__(self, top: Path, repository: Repository, listed: str) -> None:
         self.top, self.repository = top, repository
-        self.notation, self.modules, self.pages = listed.partition("\n## `")[0] + "\n", {}, {}
+        self.notation = listed.partition("\n## `")[0] + "\n"
+        self.modules: dict[str, dict[str, tuple[str, dict[str, str]]]] = {}
+        self.pages: dict[tuple[str, str], str] = {}
         for crate, module, text in SECTION.findall(listed):
-            first = ENTRY.search(text)
+            first = next(ENTRY.finditer(text))
             entries = {name: " ".join(sentence.split()) for name, sentence in ENTRY.findall(text)}
             self.modules.setdefault(crate, {})[module] = " ".join(text[: first.start()].split()), entries
             self.pages.update({(crate, name): f"{navigation.DEFINITIONS}/{crate}.md" for name in entries})
 
-    def read_pages_by_name(self):
+    def read_pages_by_name(self) -> dict[str, str]:
         """The page of each name that means one definition, and looks like none of the code."""
         names = [name for _, name in self.pages]
         of_code = set()
@@ -40,7 +46,7 @@ class Definitions:
         return {name: page for (_, name), page in self.pages.items()
                 if names.count(name) == 1 and name not in of_code and not is_plain(name)}
 
-    def page_text(self, crate, naming):
+    def page_text(self, crate: str, naming: Mapping[str, Mapping[str, str]]) -> str:
         """The page of a crate. `naming` has, for a name, the pages that name it."""
         own = f"{navigation.DEFINITIONS}/{crate}.md"
         lines = [f"# The definitions of `{crate}`", "", f"[The notation](../{navigation.NOTATION.rpartition('/')[2]}#notation)", ""]
@@ -55,12 +61,12 @@ class Definitions:
                     lines += [f"Named in: {', '.join(links)}", ""]
         return "\n".join(lines)
 
-    def pages_of_used_names(self, crate, module, name):
+    def pages_of_used_names(self, crate: str, module: str, name: str) -> dict[str, str]:
         """The page of each definition that a definition's text names."""
         nodes = self.repository.read_targets_named_in((crate, "specs", module, name))
         return {other: self.pages[home, other] for home, kind, _, other in nodes if kind == "specs" and (home, other) in self.pages}
 
-    def notation_page_text(self):
+    def notation_page_text(self) -> str:
         """The page of the notation, with a list of the pages below it."""
         lines = ["## By crate", ""]
         for crate, modules in self.modules.items():

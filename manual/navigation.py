@@ -1,5 +1,8 @@
 """The order of the site: for each reader the pages, with their short titles. Every page of docs/ has one place here."""
 
+from collections.abc import Iterable
+from typing import Any
+
 NAVIGATION = {
     "Start": {
         "README.md": "Overview",
@@ -36,6 +39,7 @@ NAVIGATION = {
         "docs/ASSURANCE.md": "Proved and assumed",
         "docs/TESTED.md": "Only tested",
         "docs/THEOREM.md": "The theorem",
+        "docs/BOUND.md": "The bound of the search",
         "docs/DEFINITIONS.md": "Notation",
     },
     "Maintain": {
@@ -52,11 +56,11 @@ NOTATION, DEFINITIONS = "docs/DEFINITIONS.md", "docs/definitions"
 OTHERS, OF_OTHERS = ("bench", "crates", "package", "tests", "tools"), "Maintain"
 
 
-def is_other(page):
+def is_other(page: str) -> bool:
     return page.partition("/")[0] in OTHERS
 
 
-def faults_of_pages(pages):
+def faults_of_pages(pages: Iterable[str]) -> list[str]:
     """Why these pages can't be the site's: each that isn't in the table, and each of the table that is missing."""
     own = {page for page in pages if not is_other(page)}
     return [
@@ -65,18 +69,18 @@ def faults_of_pages(pages):
     ]
 
 
-def title_of_other_page(page):
+def title_of_other_page(page: str) -> str:
     """The title of a page that isn't in the table: its folder, and what it is if it isn't the folder's first one."""
     *folders, name = page.split("/")
     word = name.removesuffix(".md").lower()
     return folders[-1] if word == "readme" else f"{folders[-1]}: {word}"
 
 
-def navigation_of(pages, crates_defined):
+def navigation_of(pages: Iterable[str], crates_defined: Iterable[str]) -> list[dict[str, Any]]:
     """The navigation in the form of mkdocs. The second list has the crates that have a page of definitions."""
     found = []
     for reader, own in NAVIGATION.items():
-        listed = [{title: page} for page, title in own.items()]
+        listed: list[dict[str, Any]] = [{title: page} for page, title in own.items()]
         if NOTATION in own:
             notation = listed.pop(list(own).index(NOTATION))
             listed.append({"Definitions": [notation, *({crate: f"{DEFINITIONS}/{crate}.md"} for crate in crates_defined)]})

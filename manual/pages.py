@@ -3,6 +3,7 @@
 import html
 import os
 import re
+from collections.abc import Collection, Mapping
 
 # A link of a page to another file.
 LINK = re.compile(r"\[([^\]]*)\]\(([^)#:\s]+)(#[^)\s]*)?\)")
@@ -15,16 +16,16 @@ KEPT = re.compile(r"^#.*$|!?\[[^\]]*\]\([^)]*\)", re.MULTILINE)
 CODE = re.compile(r"(?<!`)`(\w+)`(?!`)")
 
 
-def without_missing_links(text, page, files):
+def without_missing_links(text: str, page: str, files: Collection[str]) -> str:
     """A page without the links to files that aren't among these: their words stay."""
     here = os.path.dirname(page)
     return LINK.sub(lambda link: link[0] if os.path.normpath(os.path.join(here, link[2])) in files else link[1], text)
 
 
-def with_lists_indented(text):
+def with_lists_indented(text: str) -> str:
     """The lists of a text with each level indented by four spaces, and an empty line after an item of several paragraphs: Python's Markdown
     needs both, and other readers don't."""
-    lines, open_items, is_fenced, has_parts = [], [], False, False
+    lines, open_items, is_fenced, has_parts = list[str](), list[int](), False, False
     for line in text.split("\n"):
         item, margin = None if is_fenced else ITEM.match(line), len(line) - len(line.lstrip(" "))
         if line.strip() and not is_fenced:
@@ -41,13 +42,13 @@ def with_lists_indented(text):
     return "\n".join(lines)
 
 
-def relative_path(page, target):
+def relative_path(page: str, target: str) -> str:
     return os.path.relpath(target, os.path.dirname(page) or ".")
 
 
-def html_with_links(text, page, targets):
+def html_with_links(text: str, page: str, targets: Mapping[str, str]) -> str:
     """A text with the names of definitions as links. `targets` has the page of each name."""
-    def linked(found):
+    def linked(found: re.Match[str]) -> str:
         name = found[0]
         # mkdocs leaves the addresses of such a link as they are
         path = relative_path(page, targets[name]).removesuffix(".md") if name in targets else None
@@ -56,9 +57,9 @@ def html_with_links(text, page, targets):
     return "<pre><code>" + WORD.sub(linked, html.escape(text, quote=False)) + "</code></pre>"
 
 
-def with_linked_names(text, page, targets):
+def with_linked_names(text: str, page: str, targets: Mapping[str, str]) -> str:
     """Sentences with the names of definitions as links."""
-    def linked(found):
+    def linked(found: re.Match[str]) -> str:
         name = found[1]
         return f"[{found[0]}]({relative_path(page, targets[name])}#{name})" if name in targets else found[0]
 
@@ -69,7 +70,7 @@ def with_linked_names(text, page, targets):
     return "".join([*parts, CODE.sub(linked, text[last:])])
 
 
-def with_linked_definitions(text, page, targets):
+def with_linked_definitions(text: str, page: str, targets: Mapping[str, str]) -> str:
     """A page with the names of definitions as links, in its sentences and in its blocks of text, but not in its headings."""
     parts, last = [], 0
     for fence in FENCED.finditer(text):
@@ -80,6 +81,6 @@ def with_linked_definitions(text, page, targets):
     return "".join([*parts, with_linked_names(text[last:], page, targets)])
 
 
-def text_for_site(text, page, files, targets):
+def text_for_site(text: str, page: str, files: Collection[str], targets: Mapping[str, str]) -> str:
     """A page as the site takes it."""
     return with_linked_definitions(with_lists_indented(COMMENT.sub("", without_missing_links(text, page, files))), page, targets)

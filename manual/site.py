@@ -6,7 +6,9 @@ import os
 import re
 import shutil
 import subprocess
+from collections.abc import Mapping
 from pathlib import Path
+from typing import Any
 
 from lib.crates.specs import Repository
 from lib.tool import exits
@@ -18,33 +20,33 @@ TOP = Path(__file__).resolve().parents[1]
 HERE = TOP / "manual"
 THEME = Path("/usr/share/mkdocs/themes/material")
 # What the site needs: a command or a folder, with Debian's package of each.
-NEEDED = {"mkdocs": "mkdocs", THEME: "mkdocs-material"}
+NEEDED: dict[str | Path, str] = {"mkdocs": "mkdocs", THEME: "mkdocs-material"}
 PICTURES = (".svg", ".png")
-PAGE = re.compile(r"(?:docs/)?[^/]+\.md|crates/(?:[^/]+/)?(?:README|NOTES)\.md")
+PAGE = re.compile(r"(?:docs/)?[^/]+\.md|crates/(?:[^/]+/)?(?:README|NOTES|PROOFS|TRACEABILITY|WORDS)\.md")
 # Files of the theme that no page of the site needs: other languages, maps for those who debug it, and lists of pages for web servers.
 LEFT_OUT = ("404.html", "sitemap.xml", "sitemap.xml.gz", "assets/javascripts/lunr", "**/*.map")
 MAPPED = re.compile(rb"\n?(?://|/\*)# sourceMappingURL=\S+?(?: \*/|\*/)?\s*\Z")
 INDEX = "search/search_index.json"
 
 
-def missing_packages():
+def missing_packages() -> list[str]:
     """The Debian packages that are missing."""
     return [package for name, package in NEEDED.items() if not (name.is_dir() if isinstance(name, Path) else shutil.which(name))]
 
 
-def require_packages():
+def require_packages() -> None:
     """Ends the tool if a package is missing."""
     if lacking := missing_packages():
         words = f"it needs {' and '.join(lacking)}, which Debian has: apt-get install {' '.join(lacking)}"
         raise exits.Stop(words, exits.FAILED)
 
 
-def is_page(name):
+def is_page(name: str) -> bool:
     """Whether a file of the repository is a page of the site."""
     return bool(PAGE.fullmatch(name))
 
 
-def read_pages_and_list_pictures():
+def read_pages_and_list_pictures() -> tuple[dict[str, str], dict[str, Path]]:
     """The pages of this clone, by name, and the pictures of docs/."""
     folders = ("", "docs/", "crates/*/", *(f"{name}/" for name in navigation.OTHERS))
     paths = (path for folder in folders for path in sorted(TOP.glob(f"{folder}*")))
@@ -53,19 +55,19 @@ def read_pages_and_list_pictures():
     return read, {name: path for name, path in found.items() if name.startswith("docs/") and name.endswith(PICTURES)}
 
 
-def write_text(path, text):
+def write_text(path: Path, text: str) -> None:
     path.parent.mkdir(parents=True, exist_ok=True)
     path.write_text(text, encoding="utf-8")
 
 
-def write_staged_pages(own, drawn, folder):
+def write_staged_pages(own: Mapping[str, str], drawn: Mapping[str, Path], folder: Path) -> list[dict[str, Any]]:
     """Writes the pages as mkdocs takes them. Returns the navigation."""
     if wrong := navigation.faults_of_pages(own):
         raise exits.Stop("; ".join(wrong))
     known = Definitions(TOP, Repository(TOP), capture_list(TOP))
     own = {**own, navigation.NOTATION: known.notation_page_text()}
     below = {f"{navigation.DEFINITIONS}/{crate}.md" for crate in known.modules}
-    files, targets, naming = {*own, *drawn, *below}, known.read_pages_by_name(), {}
+    files, targets, naming = {*own, *drawn, *below}, known.read_pages_by_name(), dict[str, dict[str, str]]()
     for page, text in own.items():
         made = pages.text_for_site(text, page, files, targets)
         for name in sorted(set(re.findall(r"#(\w+)[)\"]", made)) & targets.keys()):
@@ -78,14 +80,19 @@ def write_staged_pages(own, drawn, folder):
     return navigation.navigation_of(own, known.modules)
 
 
-def run_mkdocs_and_write_site(own, drawn, room):
+def run_mkdocs_and_write_site(own: Mapping[str, str], drawn: Mapping[str, Path], room: Path) -> Path:
     """Makes the site of some pages and pictures in a folder of a room, which it returns."""
     source, made = room / "pages", room / "site"
-    told = {"INHERIT": str(HERE / "mkdocs.yml"), "nav": write_staged_pages(own, drawn, source), "docs_dir": str(source), "site_dir": str(made)}
-    told["theme"] = {"custom_dir": str(HERE / "theme")}
+    told = {
+        "INHERIT": str(HERE / "mkdocs.yml"),
+        "nav": write_staged_pages(own, drawn, source),
+        "docs_dir": str(source),
+        "site_dir": str(made),
+        "theme": {"custom_dir": str(HERE / "theme")},
+    }
     (room / "mkdocs.yml").write_text(json.dumps(told), encoding="utf-8")
     kept = {name: os.environ[name] for name in ("PATH", "HOME", "TMPDIR") if name in os.environ}
-    line = ["mkdocs", "build", "--quiet", "--config-file", room / "mkdocs.yml"]
+    line = ["mkdocs", "build", "--quiet", "--config-file", str(room / "mkdocs.yml")]
     ran = subprocess.run(line, env={**kept, "LC_ALL": "C.UTF-8", "TZ": "UTC", "SOURCE_DATE_EPOCH": "0"}, capture_output=True)
     if ran.returncode:
         raise exits.Stop(f"mkdocs failed: {(ran.stderr + ran.stdout).decode(errors='replace').strip()}", exits.FAILED)
@@ -93,12 +100,12 @@ def run_mkdocs_and_write_site(own, drawn, room):
     return made
 
 
-def read_generator(made):
+def read_generator(made: Path) -> str:
     """The versions of the programs that made a site."""
-    return re.search(r'<meta name="generator" content="([^"]*)">', (made / "index.html").read_text(encoding="utf-8"))[1]
+    return re.findall(r'<meta name="generator" content="([^"]*)">', (made / "index.html").read_text(encoding="utf-8"))[0]
 
 
-def write_index_and_remove_unneeded(made):
+def write_index_and_remove_unneeded(made: Path) -> None:
     """Leaves out the files that no page needs, and makes the index of the search a script too, for pages that are opened as files."""
     (made / INDEX).with_name("index.js").write_bytes(b"__index(" + (made / INDEX).read_bytes() + b")\n")
     for pattern in LEFT_OUT:
@@ -108,13 +115,13 @@ def write_index_and_remove_unneeded(made):
         path.write_bytes(MAPPED.sub(b"\n", path.read_bytes()))
 
 
-def refuse_other_files(folder):
+def refuse_other_files(folder: Path) -> None:
     """Ends the tool if a folder has files, and they are no site of its own."""
     if folder.exists() and not (folder / INDEX).is_file() and (not folder.is_dir() or any(folder.iterdir())):
         raise exits.Stop(f"{exits.shown(folder)} has other files: name a folder that is empty or missing")
 
 
-def replace_folder(made, folder):
+def replace_folder(made: Path, folder: Path) -> None:
     """Puts a site into its place, in which an earlier one may be."""
     refuse_other_files(folder)
     shutil.rmtree(folder, ignore_errors=True)

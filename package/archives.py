@@ -13,9 +13,12 @@ import shutil
 import subprocess
 import tarfile
 import zlib
-from typing import NamedTuple
+from collections.abc import Callable, Collection, Iterator, Mapping, Sequence
+from pathlib import Path
+from typing import IO, Any, NamedTuple
 
 from lib.base import text
+from lib.base.json_value import Json, JsonObject
 from lib.tool import exits, file_io
 
 from . import clone as made_of
@@ -27,7 +30,7 @@ SHARED = "lib/x86_64-linux-gnu/libdam.so.1"
 FEW = 20  # differences that are named
 LONGEST_SHOWN = 200  # characters of one of the provenance
 DEEPEST = 20  # lists and objects of the provenance, one in another
-COMPRESSED = {b"\xfd7zXZ\0": lzma.open, b"\x1f\x8b": gzip.open, b"BZh": bz2.open}
+COMPRESSED: dict[bytes, Callable[[IO[bytes]], Any]] = {b"\xfd7zXZ\0": lzma.open, b"\x1f\x8b": gzip.open, b"BZh": bz2.open}
 
 
 class Entry(NamedTuple):
@@ -38,11 +41,11 @@ class Entry(NamedTuple):
     owner: tuple[int, int]
     data: bytes
 
-    def __str__(self):
+    def __str__(self) -> str:
         return f"a {self.kind} of mode {self.mode:o} and owner {self.owner[0]}:{self.owner[1]}"
 
 
-def capture_output(line, folder=None, seconds=0):
+def capture_output(line: Sequence[str | Path], folder: Path | None = None, seconds: int = 0) -> bytes:
     """The output of a command."""
     ran = subprocess.run(line, cwd=folder, env=made_of.environment_at(seconds), capture_output=True)
     if ran.returncode:
@@ -72,24 +75,24 @@ fi
 }
 
 
-def debian_package_name(version):
+def debian_package_name(version: str) -> str:
     return f"dam_{version}_amd64.deb"
 
 
-def archive_name(version):
+def archive_name(version: str) -> str:
     return f"dam-{version}-x86_64-linux.tar.xz"
 
 
-def write_and_capture_dependencies(root, room):
+def write_and_capture_dependencies(root: Path, room: Path) -> str:
     """The packages that the programs and the library need, by Debian's own tool: the C library, and since which version."""
     (room / "debian").mkdir()
     (room / "debian" / "control").write_text("Source: dam\n\nPackage: dam\nArchitecture: amd64\n", encoding="utf-8")
     line = ["dpkg-shlibdeps", "-O", *(f"-e{root / 'usr' / name}" for name in ("bin/dam", "bin/dam-desk", SHARED))]
     shown = capture_output(line, room).decode()
-    return re.search(r"^shlibs:Depends=(.*)$", shown, re.MULTILINE)[1]
+    return re.findall(r"^shlibs:Depends=(.*)$", shown, re.MULTILINE)[0]
 
 
-def write_control_files(root, clone, room):
+def write_control_files(root: Path, clone: made_of.Clone, room: Path) -> None:
     """Writes the control files of the Debian package."""
     folder, files = root / "DEBIAN", sorted(path for path in root.rglob("*") if path.is_file() and not path.is_symlink())
     sums = "".join(f"{hashlib.md5(path.read_bytes()).hexdigest()}  {path.relative_to(root)}\n" for path in files)
@@ -108,18 +111,18 @@ def write_control_files(root, clone, room):
         os.utime(path, (clone.seconds, clone.seconds))
 
 
-def write_debian_package(tree, clone, target):
+def write_debian_package(tree: Path, clone: made_of.Clone, target: Path) -> None:
     """Makes the Debian package of a tree, which goes to /usr."""
     room = tree.parent / "debian"
     root = room / "root"
     root.mkdir(parents=True)
     shutil.copytree(tree, root / "usr", symlinks=True)
     write_control_files(root, clone, room)
-    line = ["dpkg-deb", "--root-owner-group", "-Zxz", "-z9", "--threads-max=1", "--build", root, target]
-    capture_output(line, seconds=clone.seconds)
+    line = ["dpkg-deb", "--root-owner-group", "-Zxz", "-z9", "--threads-max=1", "--build"]
+    capture_output([*line, root, target], seconds=clone.seconds)
 
 
-def write_plain_archive(tree, clone, target):
+def write_plain_archive(tree: Path, clone: made_of.Clone, target: Path) -> None:
     """Makes the archive that runs in place."""
     name = archive_name(clone.version).removesuffix(".tar.xz")
     how = ["--sort=name", "--format=gnu", "--owner=0", "--group=0", "--numeric-owner", f"--mtime=@{clone.seconds}"]
@@ -128,20 +131,20 @@ def write_plain_archive(tree, clone, target):
     capture_output(["tar", "--create", f"--file={target}", "--use-compress-program=xz -9 -T1", *how, "--directory", tree, "."])
 
 
-def refuse_large(path, size):
+def refuse_large(path: Path, size: int) -> None:
     """Ends the tool if an archive unpacks to more than any package of dam."""
     if size > file_io.MOST_BYTES:
         raise exits.Stop(f"{exits.shown(path)} isn't a package of dam: it unpacks to more than {file_io.MOST_BYTES:,} bytes")
 
 
-def read_or_refuse_large(path, file):
+def read_or_refuse_large(path: Path, file: IO[bytes]) -> bytes:
     """The bytes of an open file, unless they are too many."""
     data = file_io.read_first_bytes(file, file_io.MOST_BYTES + 1)
     refuse_large(path, len(data))
     return data
 
 
-def decompress_or_refuse_large(path, data):
+def decompress_or_refuse_large(path: Path, data: bytes) -> bytes:
     """The tar archive in compressed bytes."""
     way = next((way for mark, way in COMPRESSED.items() if data.startswith(mark)), None)
     if way is None:
@@ -150,10 +153,11 @@ def decompress_or_refuse_large(path, data):
         return read_or_refuse_large(path, file)
 
 
-def capture_debian_archive(path, way):
+def capture_debian_archive(path: Path, way: str) -> bytes:
     """One of the two tar archives in a Debian package."""
-    line = ["dpkg-deb", way, path.absolute()]
+    line = ["dpkg-deb", way, str(path.absolute())]
     with subprocess.Popen(line, env=made_of.environment_at(), stdout=subprocess.PIPE, stderr=subprocess.DEVNULL) as process:
+        assert process.stdout
         data = read_or_refuse_large(path, process.stdout)
     if process.returncode:
         raise tarfile.TarError(f"dpkg-deb ended with status {process.returncode}")
@@ -163,14 +167,14 @@ def capture_debian_archive(path, way):
 KINDS = {tarfile.DIRTYPE: "folder", tarfile.SYMTYPE: "link", tarfile.LNKTYPE: "hard link"}
 
 
-def name_below(name, top):
+def name_below(name: str, top: str) -> str:
     """The name of a member of an archive below its top folder; with a `/` before it if the member isn't there."""
     if not top:
         return name
     return name[len(top) + 1 :] if f"{name}/".startswith(f"{top}/") else f"/{name}"
 
 
-def number_and_count_if_found(name, found, times):
+def number_and_count_if_found(name: str, found: Collection[str], times: dict[str, int]) -> str:
     """The name, or if it is found already, the name with a number. How often each occurs is counted, so that many take little time."""
     own = name
     while own in found:
@@ -179,24 +183,25 @@ def number_and_count_if_found(name, found, times):
     return own
 
 
-def parse_entries(path, data, top=None, prefix=""):
+def parse_entries(path: Path, data: bytes, top: str | None = None, prefix: str = "") -> dict[str, Entry]:
     """The contents of a tar archive, by name, below its top folder; if none is named, that is the folder of its first member. A member that
     is there again has a name of its own."""
-    found, times, size = {}, {}, 0
+    found, times, size = dict[str, Entry](), dict[str, int](), 0
     with tarfile.open(fileobj=io.BytesIO(data), mode="r:") as archive:
         for member in archive:
             size += member.size
             refuse_large(path, size)  # a file may have holes
-            held = archive.extractfile(member).read() if member.isfile() else member.linkname.encode(errors="surrogateescape")
+            file = archive.extractfile(member) if member.isfile() else None
+            held = file.read() if file else member.linkname.encode(errors="surrogateescape")
             kind = "file" if member.isfile() else KINDS.get(member.type, "device")
             name = member.name.removeprefix("./").rstrip("/").removesuffix(".")
             top = name.partition("/")[0] if top is None and name else top
-            name = number_and_count_if_found(prefix + name_below(name, top), found, times)
+            name = number_and_count_if_found(prefix + name_below(name, top or ""), found, times)
             found[name] = Entry(kind, member.mode, (member.uid, member.gid), held)
     return found
 
 
-def read_package_or_stop(path):
+def read_package_or_stop(path: Path) -> dict[str, Entry]:
     """The files of a package by name: of the Debian package those of /usr and of its control, of the other archive those of its folder."""
     data = file_io.read_bytes(path)
     try:
@@ -208,7 +213,7 @@ def read_package_or_stop(path):
         raise exits.Stop(f"{exits.shown(path)} isn't a package of dam: it is neither a Debian package nor a tar archive") from None
 
 
-def parse_provenance_or_stop(path, files):
+def parse_provenance_or_stop(path: Path, files: Mapping[str, Entry]) -> JsonObject:
     """The provenance of a package."""
     try:
         found = json.loads(files[PROVENANCE].data)
@@ -219,7 +224,7 @@ def parse_provenance_or_stop(path, files):
         raise exits.Stop(f"{exits.shown(path)} isn't a package of dam: it has no {PROVENANCE}") from None
 
 
-def is_nested_too_deep(value):
+def is_nested_too_deep(value: Json) -> bool:
     """Whether a value of JSON has lists and objects in each other, deeper than a provenance."""
     level = [value]
     for _ in range(DEEPEST):
@@ -227,7 +232,7 @@ def is_nested_too_deep(value):
     return bool(level)
 
 
-def differing_entries(there, here):
+def differing_entries(there: JsonObject, here: JsonObject) -> Iterator[str]:
     """Which entries of the provenance differ."""
     for key in sorted({*there, *here}):
         ours, theirs = here.get(key), there.get(key)
@@ -238,7 +243,7 @@ def differing_entries(there, here):
             yield f"{key}: {theirs!r}, made here {ours!r}"
 
 
-def differences(there, here):
+def differences(there: Mapping[str, Entry], here: Mapping[str, Entry]) -> Iterator[str]:
     """What differs between two packages: a line for each file. Names and words of the one that is given may be anything."""
     for it in sorted({*there, *here}):
         ours, theirs, name = here.get(it), there.get(it), text.safe(it, exits.LONGEST_PATH)
@@ -256,7 +261,7 @@ def differences(there, here):
             yield f"{name} differs: {len(theirs.data)} bytes, made here {len(ours.data)}"
 
 
-def read_and_compare(path, made):
+def read_and_compare(path: Path, made: Path) -> tuple[list[str], bool]:
     """Compares a package with one that was made here. Returns the lines to print, and whether they are the same."""
     name = text.safe(path.name, exits.LONGEST_PATH)
     if file_io.read_bytes(path) == made.read_bytes():

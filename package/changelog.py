@@ -12,17 +12,17 @@ SECTION = re.compile(r"^## (\d\S*)\n(.*?)(?=^## |\Z)", re.MULTILINE | re.DOTALL)
 LINK = re.compile(r"\[([^\]]*)\]\([^)]*\)")
 
 
-def read_maintainer():
+def read_maintainer() -> str:
     text = (made_of.TOP / "package" / "control").read_text(encoding="utf-8")
-    return re.search(r"^Maintainer: (.*)$", text, re.MULTILINE)[1]
+    return re.findall(r"^Maintainer: (.*)$", text, re.MULTILINE)[0]
 
 
-def points(section):
+def points(section: str) -> list[str]:
     """The points of a version's section, each as one line."""
     return [" ".join(point.split()) for point in re.findall(r"^- (.*?)(?=^- |\Z)", LINK.sub(r"\1", section), re.MULTILINE | re.DOTALL)]
 
 
-def read_changelog_text(seconds):
+def read_changelog_text(seconds: int) -> str:
     """The changelog. A version has no date of its own, so each entry has the commit's."""
     date, entries = email.utils.formatdate(seconds), []
     for version, section in SECTION.findall((made_of.TOP / "CHANGELOG.md").read_text(encoding="utf-8")):

@@ -7,7 +7,9 @@ import re
 import shutil
 import subprocess
 from pathlib import Path
+from typing import Any
 
+from lib.base.json_value import JsonObject
 from lib.crates import sources
 from lib.tool import exits
 from lib.base.rules import VERSION
@@ -35,13 +37,13 @@ NEEDED = {
 }
 
 
-def environment_at(seconds=0):
+def environment_at(seconds: int = 0) -> dict[str, str]:
     """The environment of the commands that make a package: nothing else may get into their output."""
     kept = {name: os.environ[name] for name in ("PATH", "HOME", "TMPDIR") if name in os.environ}
     return {**kept, "LC_ALL": "C.UTF-8", "TZ": "UTC", "COLUMNS": "100", "SOURCE_DATE_EPOCH": str(seconds)}
 
 
-def run_git(*words):
+def run_git(*words: str) -> str:
     """The output of git."""
     ran = subprocess.run(["git", *words], cwd=TOP, capture_output=True)
     if ran.returncode:
@@ -52,7 +54,7 @@ def run_git(*words):
 class Clone:
     """A clone without changes, whose programs and libraries were built of its sources."""
 
-    def __init__(self):
+    def __init__(self) -> None:
         require_commands()
         self.version, self.commit = VERSION, run_git("rev-parse", "HEAD").strip()
         self.seconds = int(run_git("log", "-1", "--format=%ct"))
@@ -60,14 +62,14 @@ class Clone:
         self.tracked = [name for name in run_git("ls-files", "-z").split("\0") if name]
         refuse_changes()
         require_present_builds()
-        self.records = {name: sources.read_record_or_none(TOP / name) for name in BUILT}
+        self.records = {name: record for name in BUILT if (record := sources.read_record(TOP / name))}
 
-    def tracked_below(self, folder, *endings):
+    def tracked_below(self, folder: str, *endings: str) -> list[str]:
         """The tracked files of a folder, and of those below it, with one of these endings."""
         return [name for name in self.tracked if name.startswith(f"{folder}/") and name.endswith(endings or ("",))]
 
 
-def refuse_changes():
+def refuse_changes() -> None:
     """Ends the tool if a tracked file differs from the commit. Other files don't matter, unless they are among the sources of crates."""
     lines = run_git("status", "--porcelain", "--untracked-files=all").splitlines()
     changed = [line[3:] for line in lines if not line.startswith("??") or re.match(r"crates/.*/(src|specs|proofs)/", line[3:].strip('"'))]
@@ -76,21 +78,21 @@ def refuse_changes():
         raise exits.Stop(f"the clone has changes: commit or remove {', '.join(changed[:SHOWN])}{more}")
 
 
-def require_present_builds():
+def require_present_builds() -> None:
     """Ends the tool if something that was built is missing, or not of the present sources."""
     for name, crate in BUILT.items():
-        fault = sources.read_stale_words_or_none(TOP / name, crate)
+        fault = sources.read_stale_text(TOP / name, crate)
         if fault:
             raise exits.Stop(f"{fault}: run {MADE_BY[name]}")
 
 
-def read_totals_or_raise(path):
+def read_totals_or_raise(path: str | Path) -> tuple[JsonObject, Any]:
     """The totals that a check wrote, and its commit."""
     totals = json.loads(Path(path).read_text(encoding="utf-8"))
     return totals, totals["commit"]
 
 
-def read_last_totals_or_none(commit):
+def read_last_totals_or_none(commit: str) -> JsonObject | None:
     """The totals of the last check of this clone; None if there is none, or if it was of another commit."""
     try:
         totals, of = read_totals_or_raise(CHECKED)
@@ -99,7 +101,7 @@ def read_last_totals_or_none(commit):
     return totals if of == commit else None
 
 
-def read_totals_or_stop(path, commit):
+def read_totals_or_stop(path: str | Path, commit: str) -> JsonObject:
     """The totals of a check of this commit."""
     try:
         totals, of = read_totals_or_raise(path)
@@ -110,7 +112,7 @@ def read_totals_or_stop(path, commit):
     return totals
 
 
-def require_commands():
+def require_commands() -> None:
     """Ends the tool if a command that it needs is missing."""
     for name, debian in NEEDED.items():
         if not shutil.which(name):
@@ -119,7 +121,7 @@ def require_commands():
     site.require_packages()
 
 
-def capture_versions():
+def capture_versions() -> dict[str, str]:
     """The versions of the programs that make the files of a package here; other ones may make others. git makes none, and go-md2man doesn't
     tell its version."""
     return {name: sources.capture_first_line([name, "--version"]) for name in NEEDED if name not in ("git", "go-md2man")}

@@ -1,29 +1,20 @@
 //! The work of `dam replay`, as a plain Rust program with std only, with which `dam` is compared.
 //!
-//! It prints the same replies, and fails if its input isn't a journal. With the word `day` it does what `dam day` does before it clears:
+//! It prints the same replies, and fails if its input isn't a journal of hourly orders. With the word `day` it does what `dam day` does before it clears:
 //! one thread for each participant enters its commands under a `Mutex`, and the journal that they made is compared with the answers to
 //! the threads, and printed.
 
 mod journal;
 
-use std::collections::HashMap;
+use std::collections::{BTreeSet, HashMap};
 use std::env;
 use std::fmt::Write as _;
 use std::io::{self, Read, Write};
 use std::sync::Mutex;
 use std::thread;
 
-use journal::limits::{MOST_BLOCKS, MOST_HOURLY};
-use journal::{Command, Key, MOST_BYTES, Order, read_journal};
-
-impl Order {
-    fn last_period(&self) -> u8 {
-        match self {
-            Order::Hour(order) => order.period,
-            Order::Block(order) => order.volumes.last().map_or(0, |(period, _)| *period),
-        }
-    }
-}
+use journal::limits::MOST_HOURLY;
+use journal::{Command, HourOrder, Key, MOST_BYTES, read_journal};
 
 impl Command {
     fn participant(&self) -> Option<&str> {
@@ -41,21 +32,19 @@ enum Reason {
     NameTaken,
     UnknownOrder,
     HourlyFull,
-    BlocksFull,
 }
 
 /// The orders by participant and name, and their keys in book order; a cancelled one leaves a gap.
 struct Book {
     periods: u8,
-    places: HashMap<Key, (usize, Order)>,
-    blocks: usize,
+    places: HashMap<Key, (usize, HourOrder)>,
     order: Vec<Option<Key>>,
     closed: bool,
 }
 
 impl Book {
     fn new(periods: u8) -> Book {
-        Book { periods, places: HashMap::new(), blocks: 0, order: Vec::new(), closed: false }
+        Book { periods, places: HashMap::new(), order: Vec::new(), closed: false }
     }
 
     fn apply(&mut self, command: &Command) -> Result<(), Reason> {
@@ -65,29 +54,25 @@ impl Book {
         match command {
             Command::Submit(key, order) => self.submit(key, order)?,
             Command::Cancel(key) => {
-                let (place, order) = self.places.remove(key).ok_or(Reason::UnknownOrder)?;
+                let (place, _) = self.places.remove(key).ok_or(Reason::UnknownOrder)?;
                 self.order[place] = None;
-                self.blocks -= usize::from(matches!(order, Order::Block(_)));
             }
             Command::Close => self.closed = true,
         }
         Ok(())
     }
 
-    fn submit(&mut self, key: &Key, order: &Order) -> Result<(), Reason> {
-        if order.last_period() > self.periods {
+    fn submit(&mut self, key: &Key, order: &HourOrder) -> Result<(), Reason> {
+        if order.period > self.periods {
             return Err(Reason::PeriodOutOfDay);
         }
         if self.places.contains_key(key) {
             return Err(Reason::NameTaken);
         }
-        match order {
-            Order::Hour(_) if self.places.len() - self.blocks >= MOST_HOURLY => return Err(Reason::HourlyFull),
-            Order::Block(_) if self.blocks >= MOST_BLOCKS => return Err(Reason::BlocksFull),
-            Order::Hour(_) => (),
-            Order::Block(_) => self.blocks += 1,
+        if self.places.len() >= MOST_HOURLY {
+            return Err(Reason::HourlyFull);
         }
-        self.places.insert(key.clone(), (self.order.len(), order.clone()));
+        self.places.insert(key.clone(), (self.order.len(), *order));
         self.order.push(Some(key.clone()));
         Ok(())
     }
@@ -129,21 +114,12 @@ impl Gate {
     }
 }
 
-fn participants(commands: &[Command]) -> Vec<&str> {
-    let mut found = Vec::new();
-    for who in commands.iter().filter_map(Command::participant) {
-        if !found.contains(&who) {
-            found.push(who);
-        }
-    }
-    found
-}
-
 /// The entries that answered each participant's commands, all entered at the same time, and then the close.
 fn enter(gate: &Mutex<Gate>, commands: &[Command]) -> Vec<Entry> {
     let own = |who| move |command: &&Command| command.participant() == Some(who);
     let mut receipts: Vec<Entry> = thread::scope(|scope| {
-        let started: Vec<_> = participants(commands)
+        let participants: BTreeSet<&str> = commands.iter().filter_map(Command::participant).collect();
+        let started: Vec<_> = participants
             .into_iter()
             .map(|who| {
                 scope.spawn(move || -> Vec<Entry> {

@@ -1,6 +1,6 @@
 //! The greatest welfare of periods over the net volume, as straight segments, with the prices of the periods added up.
 
-use crate::problem::{HIGHEST, LOWEST, Side, Step};
+use crate::problem::{HIGHEST, LOWEST, Step};
 
 /// A straight line over the net volume, whose slope is the prices of some periods, added up.
 #[derive(Clone, Copy, Default)]
@@ -36,7 +36,7 @@ pub fn flat(least: i32, most: i32) -> Vec<Segment> {
 pub fn segments(orders: &[Step]) -> Vec<Segment> {
     let mut rising = orders.to_vec();
     rising.sort_by_key(|step| step.price);
-    let buys = || rising.iter().filter(|step| step.side == Side::Buy);
+    let buys = || rising.iter().filter(|step| !step.sells);
     let volume: i64 = buys().map(|step| step.volume).sum();
     let worth: i64 = buys().map(|step| step.volume * (step.price - LOWEST)).sum();
     let (mut before, mut cost, mut previous) = (0, 0, LOWEST);

@@ -1,4 +1,4 @@
-//! The journals of `dam`, without amends and without blocks that have a parent or a group.
+//! The journals of `dam`, without amends and blocks.
 
 use std::fmt::{self, Display};
 use std::iter;
@@ -17,43 +17,18 @@ const LAST_PERIOD: u32 = 100;
 type Fields = [Vec<u8>; 9];
 
 #[derive(Clone, Copy, PartialEq, Eq)]
-pub enum Side {
-    Buy,
-    Sell,
-}
-
-impl Display for Side {
-    fn fmt(&self, f: &mut fmt::Formatter<'_>) -> fmt::Result {
-        f.write_str(if *self == Side::Buy { "buy" } else { "sell" })
-    }
-}
-
-#[derive(Clone, Copy, PartialEq, Eq)]
 pub struct HourOrder {
-    pub side: Side,
+    pub sells: bool,
     pub price: i32,
     pub period: u8,
     pub volume: u32,
-}
-
-#[derive(Clone, PartialEq, Eq)]
-pub struct BlockOrder {
-    pub side: Side,
-    pub price: i32,
-    pub volumes: Vec<(u8, u32)>,
-}
-
-#[derive(Clone, PartialEq, Eq)]
-pub enum Order {
-    Hour(HourOrder),
-    Block(Box<BlockOrder>),
 }
 
 pub type Key = (String, String);
 
 #[derive(Clone, PartialEq, Eq)]
 pub enum Command {
-    Submit(Key, Order),
+    Submit(Key, HourOrder),
     Cancel(Key),
     Close,
 }
@@ -61,14 +36,10 @@ pub enum Command {
 impl Display for Command {
     fn fmt(&self, f: &mut fmt::Formatter<'_>) -> fmt::Result {
         match self {
-            Command::Submit((who, name), Order::Hour(order)) => {
-                let HourOrder { side, price, period, volume } = order;
+            Command::Submit((who, name), order) => {
+                let HourOrder { sells, price, period, volume } = order;
+                let side = if *sells { "sell" } else { "buy" };
                 writeln!(f, "submit,{who},{name},hour,{side},{price},{period}:{volume},,")
-            }
-            Command::Submit((who, name), Order::Block(order)) => {
-                let BlockOrder { side, price, volumes } = &**order;
-                let pairs: Vec<String> = volumes.iter().map(|(period, volume)| format!("{period}:{volume}")).collect();
-                writeln!(f, "submit,{who},{name},block,{side},{price},{},,", pairs.join(";"))
             }
             Command::Cancel((who, name)) => writeln!(f, "cancel,{who},{name},,,,,,"),
             Command::Close => writeln!(f, "close,,,,,,,,"),
@@ -125,12 +96,6 @@ fn pair(text: &[u8]) -> Option<(u8, u32)> {
     Some((period as u8, volume))
 }
 
-/// Pairs by increasing period.
-fn pairs(text: &[u8]) -> Option<Vec<(u8, u32)>> {
-    let pairs = text.split(|byte| *byte == b';').map(pair).collect::<Option<Vec<_>>>()?;
-    pairs.is_sorted_by(|one, next| one.0 < next.0).then_some(pairs)
-}
-
 fn word(text: &[u8], most: usize, is_fine: impl Fn(u8) -> bool) -> Option<String> {
     let fits = !text.is_empty() && text.len() <= most && text.iter().all(|byte| is_fine(*byte));
     fits.then(|| String::from_utf8_lossy(text).into_owned())
@@ -143,24 +108,10 @@ fn key(fields: &Fields) -> Option<Key> {
     Some((who, name))
 }
 
-fn side(text: &[u8]) -> Option<Side> {
-    match text {
-        b"buy" => Some(Side::Buy),
-        b"sell" => Some(Side::Sell),
-        _ => None,
-    }
-}
-
-fn order(fields: &Fields) -> Option<Order> {
-    let (side, price) = (side(&fields[4])?, price(&fields[5])?);
-    match fields[3].as_slice() {
-        b"hour" => {
-            let (period, volume) = pair(&fields[6])?;
-            Some(Order::Hour(HourOrder { side, price, period, volume }))
-        }
-        b"block" => Some(Order::Block(Box::new(BlockOrder { side, price, volumes: pairs(&fields[6])? }))),
-        _ => None,
-    }
+fn order(fields: &Fields) -> Option<HourOrder> {
+    let (sells, price) = (fields[4] == b"sell", price(&fields[5])?);
+    let (period, volume) = pair(&fields[6])?;
+    (fields[3] == b"hour" && (sells || fields[4] == b"buy")).then_some(HourOrder { sells, price, period, volume })
 }
 
 /// The command of a record; `None` if a field breaks a rule.

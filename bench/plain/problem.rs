@@ -10,22 +10,16 @@ mod limits;
 pub const LOWEST: i64 = limits::LOWEST_PRICE as i64;
 pub const HIGHEST: i64 = limits::HIGHEST_PRICE as i64;
 
-#[derive(Clone, Copy, PartialEq)]
-pub enum Side {
-    Buy,
-    Sell,
-}
-
 /// An order in one period.
 #[derive(Clone, Copy)]
 pub struct Step {
-    pub side: Side,
+    pub sells: bool,
     pub price: i64,
     pub volume: i64,
 }
 
 pub struct Block {
-    pub side: Side,
+    pub sells: bool,
     pub price: i64,
     /// Each of its periods, counted from 0, with the volume there.
     pub volumes: Vec<(usize, i64)>,
@@ -45,7 +39,7 @@ impl Block {
 
     /// The net volume of this block in a period, if it is accepted.
     pub fn change(&self, volume: i64) -> i64 {
-        if self.side == Side::Sell { volume } else { -volume }
+        if self.sells { volume } else { -volume }
     }
 }
 
@@ -63,12 +57,11 @@ impl Problem {
         // The blocks that later ones may name, and the members of each group, as sets of blocks by bits.
         let (mut names, mut groups) = (HashMap::new(), HashMap::<_, u32>::new());
         for fields in lines.filter(|fields| fields[0] == "submit") {
-            let side = if fields[4] == "buy" { Side::Buy } else { Side::Sell };
-            let price = fields[5].parse().expect("a price");
+            let (sells, price) = (fields[4] == "sell", fields[5].parse().expect("a price"));
             let volumes = volumes_of(fields[6]);
             if fields[3] == "hour" {
                 let (at, volume) = volumes[0];
-                problem.hours[at].push(Step { side, price, volume });
+                problem.hours[at].push(Step { sells, price, volume });
                 continue;
             }
             let own = 1 << problem.blocks.len();
@@ -77,7 +70,7 @@ impl Problem {
             let members = groups.entry((fields[1], fields[8])).or_default();
             let rivals = if fields[8].is_empty() { 0 } else { *members };
             *members |= own;
-            problem.add(Block { side, price, volumes, parent, descendants: 0, rivals });
+            problem.add(Block { sells, price, volumes, parent, descendants: 0, rivals });
         }
         problem
     }

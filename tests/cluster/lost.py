@@ -9,12 +9,15 @@ import subprocess
 import sys
 import tempfile
 import time
+from collections.abc import Callable, Iterator, Sequence
 from pathlib import Path
-from typing import NamedTuple
+from typing import Any, NamedTuple, TypeVar
 
-from lib.base import children
+from lib.process import children
+from shared.counts import Counts
+from shared.place import EXAMPLES, TOP
 
-TOP = Path(__file__).resolve().parents[2]
+Value = TypeVar("Value")
 SECONDS = 30  # after which the fault is there
 SOON = 5  # seconds that Ctrl-C may take
 STARTED = 60  # seconds that a scheduler and its workers may take to start
@@ -24,18 +27,18 @@ SCENARIOS = 2_000
 class Processes(NamedTuple):
     """Those of a run on a cluster."""
 
-    scheduler: subprocess.Popen
-    workers: subprocess.Popen
-    tool: subprocess.Popen
+    scheduler: subprocess.Popen[bytes]
+    workers: subprocess.Popen[bytes]
+    tool: subprocess.Popen[bytes]
 
 
-def send_signal(process, number):
+def send_signal(process: subprocess.Popen[bytes], number: int) -> None:
     """Sends a signal to a process and to all that it started."""
     os.killpg(process.pid, number)
 
 
 @contextlib.contextmanager
-def running_process(words, **how):
+def running_process(words: Sequence[str | Path], **how: Any) -> Iterator[subprocess.Popen[bytes]]:
     """A process in a group of its own, which ends with the block."""
     running = subprocess.Popen([str(word) for word in words], start_new_session=True, **how)
     try:
@@ -44,7 +47,7 @@ def running_process(words, **how):
         children.kill_group(running)
 
 
-def wait_for_value_or_raise(found, what):
+def wait_for_value_or_raise(found: Callable[[], Value | None], what: str) -> Value:
     """What a call finds, as soon as that is something."""
     end = time.monotonic() + STARTED
     while not (value := found()):
@@ -55,7 +58,7 @@ def wait_for_value_or_raise(found, what):
 
 
 @contextlib.contextmanager
-def running_scheduler(folder):
+def running_scheduler(folder: Path) -> Iterator[tuple[subprocess.Popen[bytes], str]]:
     """A scheduler, and its address."""
     log = folder / "scheduler"
     words = [sys.executable, "-m", "distributed.cli.dask_scheduler", "--host", "127.0.0.1", "--port", "0", "--no-dashboard"]
@@ -64,7 +67,7 @@ def running_scheduler(folder):
         yield running, at[1]
 
 
-def write_slow_program(folder, program):
+def write_slow_program(folder: Path, program: str) -> Path:
     """A program that takes some time, and leaves a mark when it runs."""
     path = folder / "slow"
     path.write_text(f"#!/bin/sh\n: > {shlex.quote(str(folder / 'mark'))}\nsleep 0.1\nexec {shlex.quote(program)} \"$@\"\n")
@@ -72,16 +75,17 @@ def write_slow_program(folder, program):
     return path
 
 
-def write_table_and_start_whatif(folder, address, program):
+def write_table_and_start_whatif(folder: Path, address: str, program: str) -> contextlib.AbstractContextManager[subprocess.Popen[bytes]]:
     """A run of many scenarios, which differ: a cluster clears equal ones once."""
     table = folder / "scenarios.csv"
     heads = "scenario,participant,order,kind,side,price_eur_mwh,periods,volume_mw\n"
     table.write_text(heads + "".join(f"{number},GAS,MORE,hour,sell,{number}.00,1,0.1\n" for number in range(SCENARIOS)))
-    words = [sys.executable, TOP / "tools" / "whatif", "scenarios", TOP / "examples" / "auction-day.csv", table, "--cluster", address]
+    tool, journal = TOP / "tools" / "whatif", EXAMPLES / "auction-day.csv"
+    words: list[str | Path] = [sys.executable, tool, "scenarios", journal, table, "--cluster", address]
     return running_process([*words, "--program", program], stdin=subprocess.DEVNULL, stdout=subprocess.PIPE, stderr=subprocess.PIPE)
 
 
-def check_ended(counts, what, running, status, said, within):
+def check_ended(counts: Counts, what: str, running: subprocess.Popen[bytes], status: int, said: str, within: float) -> None:
     """The run ends in time with a status and one line."""
     began = time.monotonic()
     try:
@@ -94,19 +98,21 @@ def check_ended(counts, what, running, status, said, within):
     counts.check(found, (running.returncode, out) == (status, b"") and bool(re.fullmatch(said, err.decode(errors="replace"))))
 
 
-def stop_one_worker(processes):
+def stop_one_worker(processes: Processes) -> None:
     """Stops one of both workers, which threads of their process have started."""
     started = [pid for task in Path(f"/proc/{processes.workers.pid}/task").glob("*/children") for pid in task.read_text().split()]
     worker = next(pid for pid in started if b"spawn_main" in Path(f"/proc/{pid}/cmdline").read_bytes())
     os.kill(int(worker), signal.SIGSTOP)
 
 
-def run_and_check_without_workers(counts, folder, program):
+def run_and_check_without_workers(counts: Counts, folder: Path, program: str) -> None:
     with running_scheduler(folder) as (_, address), write_table_and_start_whatif(folder, address, program) as running:
         check_ended(counts, "no workers", running, 3, f"whatif: the cluster {address} has no workers\n", SECONDS)
 
 
-def run_and_check_in_the_middle(counts, folder, program, what, deed, status, said, within):
+def run_and_check_in_the_middle(
+    counts: Counts, folder: Path, program: str, what: str, deed: Callable[[Processes], object], status: int, said: str, within: float
+) -> None:
     """The run, after a deed in the middle of it."""
     words = [sys.executable, "-m", "distributed.cli.dask_worker", "--nworkers", "2", "--nthreads", "1", "--no-dashboard"]
     own = {**os.environ, "PYTHONPATH": str(TOP / "tools"), "DAM": str(write_slow_program(folder, program))}
@@ -120,14 +126,14 @@ def run_and_check_in_the_middle(counts, folder, program, what, deed, status, sai
                 check_ended(counts, what, running, status, said.format(address), within)
 
 
-def run_and_check_whatif(counts, program):
+def run_and_check_whatif(counts: Counts, program: str) -> None:
     """Runs of tools/whatif on a cluster, each of which ends in time."""
     lost, without = "whatif: the cluster {} doesn't answer any more\n", "whatif: the cluster {} has no workers\n"
     hung = "whatif: the workers of the cluster {} don't answer any more\n"
 
     one = r"whatif: the worker tcp://127\.0\.0\.1:[0-9]+ of the cluster {} doesn't answer any more\n"
 
-    def stopped_and_interrupted(processes):
+    def stopped_and_interrupted(processes: Processes) -> None:
         send_signal(processes.scheduler, signal.SIGSTOP)
         time.sleep(2)
         processes.tool.send_signal(signal.SIGINT)

@@ -1,16 +1,19 @@
 """Every crash of recorded runs: the files that a crash may leave at each moment are opened, and so are the files that another crash leaves
 while they are opened.
 
-Whether a file is right is decided by the reader of images.py, for each file, and compared with the program's opening, for each file or a
-sample: its output, its status, and the file afterwards."""
+Whether a file is right is decided by the reader of shared/crash_files.py, for each file, and compared with the program's opening, for each
+file or a sample: its output, its status, and the file afterwards."""
 
 import random
+from collections.abc import Iterable, Iterator, Sequence
 from typing import NamedTuple
 
-import images
-import journals
-from device import DESK, FOLDER, OPEN, OUTPUT, SYNC
-from images import HEAD, DiskMoment, is_at_rest, parse_marked_lines_or_none
+from desk import journals, moments
+from desk.device import DESK, FOLDER, OPEN, OUTPUT, SYNC, DeskProgram, DeskRun, Event
+from desk.journals import DamProgram, DeskInput
+from shared import crash_files
+from shared.counts import Counts
+from shared.crash_files import HEAD, DiskMoment, is_at_rest, parse_marked_lines_or_none
 
 SHOWN = 5
 CHOSEN = 4_000  # files that are opened side by side, or of which the journal is printed
@@ -26,10 +29,10 @@ class CrashedFile(NamedTuple):
 
     image: bytes
     moment: DiskMoment
-    allowed: frozenset
+    allowed: frozenset[int]
 
 
-def is_name_safe(events):
+def is_name_safe(events: Iterable[Event]) -> bool:
     """Whether the folder of the file was synced after the file was made, and before the first answer."""
     kinds = [(event.kind, event.target, event.answer >= 0) for event in events]
     made, answered = kinds.index((OPEN, DESK, True)), [event.kind for event in events].index(OUTPUT)
@@ -39,13 +42,13 @@ def is_name_safe(events):
 class Crashes:
     """The crashes of one run of a desk on an input."""
 
-    def __init__(self, desk, about, given, seed):
+    def __init__(self, desk: DeskProgram, about: str, given: DeskInput, seed: str) -> None:
         self.desk, self.about, self.given, self.journal = desk, about, given, given.journal
         self.rng = random.Random(seed)
-        self.wrong = []
+        self.wrong: list[str] = []
         self.files = self.opened = self.second = self.killed = 0
 
-    def run_and_check_whole_input(self):
+    def run_and_check_whole_input(self) -> DeskRun:
         """Runs the desk on the whole input."""
         folder = self.desk.make_folder()
         ran = self.desk.run(folder / "day.desk", self.given.batches)
@@ -57,17 +60,17 @@ class Crashes:
             self.wrong.append(f"{self.about}: an answer came before the new file's folder was synced")
         return ran
 
-    def allowed_counts(self, moment):
+    def allowed_counts(self, moment: DiskMoment) -> frozenset[int]:
         return frozenset(count for count in self.given.borders if moment.safe <= count <= max(moment.given, moment.safe))
 
-    def draw_crashed_files(self, ran):
+    def draw_crashed_files(self, ran: DeskRun) -> Iterator[CrashedFile]:
         """The files that a crash may leave at each moment of the run."""
-        for moment in images.moments_of_run(ran.events, given_by=self.given.given_by):
+        for moment in moments.moments_of_run(ran.events, given_by=self.given.given_by):
             allowed = self.allowed_counts(moment)
-            for image in images.draw_files_at(moment, self.rng):
+            for image in crash_files.draw_files_at(moment, self.rng):
                 yield CrashedFile(image, moment, allowed)
 
-    def count_of_records_or_none(self, image):
+    def count_of_records_or_none(self, image: bytes) -> int | None:
         """How many records of the journal the file holds; None if it holds others, or isn't a journal."""
         marked = parse_marked_lines_or_none(image)
         if marked is None:
@@ -75,17 +78,17 @@ class Crashes:
         count = marked.count(b"\n")
         return count if count <= len(self.journal) and marked == self.journal.marked_text(count) else None
 
-    def note_fault(self, case, why):
+    def note_fault(self, case: CrashedFile, why: str) -> None:
         held = self.count_of_records_or_none(case.image)
         self.wrong.append(f"{self.about}: {why}: {held} records for {sorted(case.allowed)}, the end {case.image[-TAIL:]!r}")
 
-    def check_file(self, case):
+    def check_file(self, case: CrashedFile) -> None:
         """Compares a file with the records that it may hold."""
         self.files += 1
         if self.count_of_records_or_none(case.image) not in case.allowed:
             self.note_fault(case, "a file that a crash leaves")
 
-    def check_opened(self, case, ran, crash_again=True):
+    def check_opened(self, case: CrashedFile, ran: DeskRun, crash_again: bool = True) -> None:
         """Compares the opening of a file with the reader's, and crashes it."""
         count = self.count_of_records_or_none(case.image)
         self.opened += 1
@@ -98,11 +101,11 @@ class Crashes:
         elif crash_again:
             self.check_second_crash(case, ran, DiskMoment(case.image, (), 0, 0), frozenset([count]))
 
-    def check_second_crash(self, case, ran, first, allowed):
+    def check_second_crash(self, case: CrashedFile, ran: DeskRun, first: DiskMoment, allowed: frozenset[int]) -> None:
         """Looks at the files that another crash leaves while the file is opened. The acknowledged records are also those that the opening
         printed."""
-        others = [(other, image) for other in images.moments_of_run(ran.events, first.base, first.changes, first.safe)
-                  for image in images.draw_files_at(other, self.rng, few=True)]
+        others = [(other, image) for other in moments.moments_of_run(ran.events, first.base, first.changes, first.safe)
+                  for image in crash_files.draw_files_at(other, self.rng, few=True)]
         for other, image in others if len(others) <= OTHER_FILES else self.rng.sample(others, OTHER_FILES):
             self.second += 1
             count = self.count_of_records_or_none(image)
@@ -110,24 +113,24 @@ class Crashes:
                 self.note_fault(case, f"a second crash left {image[-TAIL:]!r}, with {count} records and {other.safe} acknowledged")
                 return
 
-    def open_and_check_killed(self, ran):
+    def open_and_check_killed(self, ran: DeskRun) -> None:
         """Looks at the run as if the process was killed at each moment, and the system went on: the next opening sees all writes, and a
         crash may still take those that weren't synced."""
-        found = [moment for moment in images.moments_of_run(ran.events, given_by=self.given.given_by) if moment.changes]
+        found = [moment for moment in moments.moments_of_run(ran.events, given_by=self.given.given_by) if moment.changes]
         opened = self.desk.run_on_each([moment.seen_file for moment in found])
         for moment, ran_again in zip(found, opened):
             self.killed += 1
             case = CrashedFile(moment.seen_file, moment, self.allowed_counts(moment))
             self.check_second_crash(case, ran_again, moment, case.allowed)
 
-    def run_and_check_printed_journal(self, cases):
+    def run_and_check_printed_journal(self, cases: Sequence[CrashedFile]) -> None:
         """Compares the journals that are printed for files with the reader's, and the files afterwards."""
         for case, ran in zip(cases, self.desk.run_on_each([case.image for case in cases], ["--journal"])):
             count = self.count_of_records_or_none(case.image)
             if count is not None and (ran.status, ran.stdout, ran.stderr, ran.file) != (0, self.journal.text(count), b"", case.image):
                 self.note_fault(case, f"--journal with status {ran.status}, {ran.stderr[:80]!r}, {ran.stdout[-TAIL:]!r}")
 
-    def open_and_check_repaired(self):
+    def open_and_check_repaired(self) -> None:
         """Opens files with lines after the mark that doesn't count, or after another byte in its place; and opens again all files that a
         crash leaves meanwhile."""
         borders = sorted(self.given.borders)
@@ -139,31 +142,31 @@ class Crashes:
         left = []
         for case, ran in zip(cases, self.desk.run_on_each([case.image for case in cases])):
             self.check_opened(case, ran)
-            for moment in images.moments_of_run(ran.events, case.image):
-                left += [CrashedFile(image, moment, case.allowed) for image in images.draw_files_at(moment, self.rng, few=True)]
+            for moment in moments.moments_of_run(ran.events, case.image):
+                left += [CrashedFile(image, moment, case.allowed) for image in crash_files.draw_files_at(moment, self.rng, few=True)]
         for case, ran in zip(left, self.desk.run_on_each([case.image for case in left])):
             self.check_file(case)
             self.check_opened(case, ran, crash_again=False)
 
-    def run_and_check_rest(self, cases):
+    def run_and_check_rest(self, cases: Sequence[CrashedFile]) -> None:
         """Opens files with the rest of the input, which has to end as the run did."""
         for case in cases:
             count = self.count_of_records_or_none(case.image)
             if count is None:
                 continue
-            file = self.desk.make_folder() / "day.desk"
+            file = self.desk.make_path()
             file.write_bytes(case.image)
             rest = journals.draw_batches(self.rng, self.journal.records[count:], 9)
             ran = self.desk.run(file, rest)
-            if (ran.status, ran.stdout, ran.stderr) != (0, self.journal.printed_text(len(self.journal)), b""):
+            if ran.printed != (0, self.journal.all_printed, b""):
                 self.note_fault(case, f"the rest of the input: status {ran.status}, {ran.stderr[:80]!r}, {ran.stdout[-TAIL:]!r}")
-            elif parse_marked_lines_or_none(file.read_bytes()) != self.journal.marked_text(len(self.journal)):
+            elif parse_marked_lines_or_none(file.read_bytes()) != self.journal.all_marked:
                 self.note_fault(case, "the rest of the input isn't in the file as given")
 
-    def try_moments(self, sample=None):
+    def try_moments(self, sample: int | None = None) -> list[str]:
         """Opens a sample of the files by the program, or all, and looks at each of them. Returns the faults."""
         ran = self.run_and_check_whole_input()
-        chosen, next_ones = [], []
+        chosen, next_ones = list[CrashedFile](), list[CrashedFile]()
         for case in self.draw_crashed_files(ran):
             self.check_file(case)
             self.keep_drawn_case(chosen, case, sample or CHOSEN)
@@ -178,7 +181,7 @@ class Crashes:
         self.run_and_check_rest(self.rng.sample(chosen, min(len(chosen), 20)))
         return self.wrong
 
-    def keep_drawn_case(self, chosen, case, most):
+    def keep_drawn_case(self, chosen: list[CrashedFile], case: CrashedFile, most: int) -> None:
         """Keeps a sample of all files so far."""
         if len(chosen) < most:
             chosen.append(case)
@@ -187,17 +190,17 @@ class Crashes:
         if place < most:
             chosen[place] = case
 
-    def open_and_check_files(self, cases):
+    def open_and_check_files(self, cases: Sequence[CrashedFile]) -> None:
         for case, opened in zip(cases, self.desk.run_on_each([case.image for case in cases])):
             self.check_opened(case, opened, crash_again=self.rng.random() < OPENED_TWICE / max(OPENED_TWICE, self.opened))
 
-    def try_moments_and_repairs(self, sample=None):
+    def try_moments_and_repairs(self, sample: int | None = None) -> list[str]:
         self.try_moments(sample)
         self.open_and_check_repaired()
         return self.wrong
 
 
-def draw_inputs(dam, whole):
+def draw_inputs(dam: DamProgram, whole: bool) -> Iterator[tuple[str, DeskInput]]:
     """Yields the inputs whose runs are recorded."""
     yield "a random day", journals.draw_input(dam, "random", journals.draw_day, 60)
     yield "the longest names", journals.draw_input(dam, "long", journals.draw_long_names, 60)
@@ -208,7 +211,7 @@ def draw_inputs(dam, whole):
             yield f"random day {seed}", journals.draw_input(dam, seed, journals.draw_day, 60)
 
 
-def check_crashes(counts, desk, dam, whole):
+def check_crashes(counts: Counts, desk: DeskProgram, dam: DamProgram, whole: bool) -> None:
     files = opened = second = killed = 0
     for about, given in draw_inputs(dam, whole):
         crashes = Crashes(desk, about, given, about)

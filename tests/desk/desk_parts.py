@@ -1,28 +1,19 @@
 """desk_parts.py ROOM [--all | --count] [PART..]: runs the parts of the tests of a desk, on ROOM/dam-desk."""
 
 import os
-import resource
 import sys
 import time
 from pathlib import Path
 
 sys.dont_write_bytecode = True
-TESTS = Path(__file__).resolve().parents[1]
-sys.path[:0] = [str(TESTS), str(TESTS.parent / "tools")]
+sys.path[:1] = [f"{sys.path[0]}/..", f"{sys.path[0]}/../../tools"]  # tests/ and tools/
 
-import crashes
-import files
-import kills
-import names
-import openings
-import refused
-import shape_costs
-import stand_ins
-import streams
-from device import DeskProgram
-from journals import DamProgram
+from desk import crashes, files, kills, names, openings, refused, shape_costs, stand_ins, streams
+from desk.device import DeskProgram
+from desk.journals import DamProgram
 from shared.counts import Counts
 from shared.parts_asked import parse_parts_or_exit
+from shared.processes import read_processor_time
 
 PARTS = {
     "stand_ins": stand_ins.check_stand_ins,
@@ -37,18 +28,14 @@ PARTS = {
 }
 
 
-def read_processor_time():
-    both = (resource.getrusage(who) for who in (resource.RUSAGE_SELF, resource.RUSAGE_CHILDREN))
-    return sum(used.ru_utime + used.ru_stime for used in both)
-
-
-def main():
+def main() -> int:
     room, *words = sys.argv[1:]
     asked = parse_parts_or_exit(words, PARTS)
     counts, dam = Counts(), DamProgram(os.environ["DAM"])
     desk = DeskProgram([Path(room) / "dam-desk"], room)
     if asked.counts_only:
-        return shape_costs.run_and_write_cost_tables(desk)
+        shape_costs.run_and_write_cost_tables(desk)
+        return 0
     for name in asked.names:
         begun = time.monotonic(), read_processor_time()
         PARTS[name](counts, desk, dam, asked.is_whole)

@@ -5,18 +5,19 @@ import os
 import subprocess
 import sys
 import time
+from pathlib import Path
 
 LATE = 0.001  # seconds by which the desk gets the lines later
 
 
-def main():
+def main() -> None:
     path, *words, file = sys.argv[1:]
-    with open(path, "rb") as text:
-        replies = text.read().splitlines(keepends=True)
+    replies = Path(path).read_bytes().splitlines(keepends=True)
     held = 0
     if os.path.exists(file):
         held = subprocess.run([*words, "--journal", file], stdout=subprocess.PIPE, check=True).stdout.count(b"\n")
     desk = subprocess.Popen([*words, file], stdin=subprocess.PIPE, stdout=subprocess.DEVNULL)
+    assert desk.stdin
     os.write(1, b"".join(replies[:held]))
     while text := os.read(0, 1 << 16):
         lines = text.count(b"\n")

@@ -2,20 +2,28 @@
 
 A planted desk, early.py, answers before its desk does. The same test has to find it."""
 
+from __future__ import annotations
+
 import os
 import random
 import signal
-import subprocess
 import sys
 import threading
 import time
+from collections.abc import Iterator
 from pathlib import Path
+from typing import IO
 
-import images
-import journals
-from images import parse_marked_lines_or_none
+from desk import journals
+from desk.device import DeskProgram
+from desk.journals import DamProgram, Journal
+from shared import crash_files
+from shared.place import TOP
+from shared.processes import pipes_of
+from shared.counts import Counts
+from shared.crash_files import parse_marked_lines_or_none
 
-EARLY = Path(__file__).resolve().parent / "early.py"
+EARLY = TOP / "tests/desk/early.py"
 RECORDS, ENOUGH = 9_990, 0.9  # of a journal, and the share of them after which a new file is begun
 MOST_SECONDS = 0.05  # seconds until the kill
 PAUSES = [0, 0, 0, 0.0001, 0.001]  # seconds between batches
@@ -23,7 +31,7 @@ SLOW = ["0", "0", "300", "2000"]  # microseconds that a sync takes longer
 ROUNDS, MANY, PLANTED = 10, 200, 10
 
 
-def draw_load(rng, count):
+def draw_load(rng: random.Random, count: int) -> Iterator[bytes]:
     """A day of hourly orders that are entered and cancelled."""
     yield b"day,24,,,,,,,\n"
     for at in range(count):
@@ -37,93 +45,94 @@ def draw_load(rng, count):
 class Kills:
     """Rounds of one desk on one journal. A file is used by many rounds."""
 
-    def __init__(self, desk, words, journal, seed):
-        self.desk, self.words, self.journal = desk, words, journal
+    def __init__(self, desk: DeskProgram, journal: Journal, seed: str, killed: DeskProgram | None = None) -> None:
+        """Kills the desk, or another program that starts it."""
+        self.desk, self.killed, self.journal = desk, killed or desk, journal
         self.rng = random.Random(seed)
-        self.file = None
+        self.file: Path | None = None
         self.acknowledged = self.unanswered = self.files = 0
-        self.wrong = []
+        self.wrong: list[str] = []
 
-    def count_held_or_none(self):
-        """How many records the file has; None if they aren't the first ones of the journal."""
-        marked = parse_marked_lines_or_none(self.file.read_bytes()) if self.file.exists() else b""
+    def count_held_or_none(self, file: Path) -> int | None:
+        """How many records a file has; None if they aren't the first ones of the journal."""
+        marked = parse_marked_lines_or_none(file.read_bytes()) if file.exists() else b""
         count = None if marked is None else marked.count(b"\n")
         return count if count is not None and marked == self.journal.marked_text(count) else None
 
-    def write_records_to_process(self, process, count):
-        """Gives the records from there on, as fast as the desk takes them, in batches of any length."""
+    def write_records(self, stdin: IO[bytes], count: int) -> None:
+        """Gives a desk the records from there on, as fast as it takes them, in batches of any length."""
         rng = random.Random(self.rng.random())
         try:
             while count < len(self.journal):
                 more = rng.choice([1, 1, 1, 2, 5, 20, 60])
-                os.write(process.stdin.fileno(), b"".join(self.journal.records[count : count + more]))
+                os.write(stdin.fileno(), b"".join(self.journal.records[count : count + more]))
                 count += more
                 time.sleep(rng.choice(PAUSES))
         except BrokenPipeError:
             pass
 
-    def run_and_kill(self, held, is_at_once):
+    def run_and_kill(self, file: Path, held: int, is_at_once: bool) -> bytes:
         """The output of a run that is killed: at once with its start, or once it has answered something."""
-        surroundings = {**os.environ, **self.desk.environment_for(self.file, DESK_SLOW=self.rng.choice(SLOW))}
-        process = subprocess.Popen([*self.words, str(self.file)], stdin=subprocess.PIPE, stdout=subprocess.PIPE, env=surroundings,
-                                   start_new_session=True)
-        giver = threading.Thread(target=self.write_records_to_process, args=(process, held))
+        surroundings = {**os.environ, **self.desk.environment_for(file, DESK_SLOW=self.rng.choice(SLOW))}
+        process = self.killed.start(file, env=surroundings, start_new_session=True)
+        stdin, stdout = pipes_of(process)
+        giver = threading.Thread(target=self.write_records, args=(stdin, held))
         giver.start()
-        text = b"" if is_at_once else os.read(process.stdout.fileno(), 1 << 16)
+        text = b"" if is_at_once else os.read(stdout.fileno(), 1 << 16)
         killer = threading.Timer(self.rng.uniform(0, MOST_SECONDS), os.killpg, (process.pid, signal.SIGKILL))
         killer.start()
-        text += process.stdout.read()
+        text += stdout.read()
         killer.join()
         process.wait()
         giver.join()
-        process.stdin.close()
-        process.stdout.close()
+        stdin.close()
+        stdout.close()
         return text
 
-    def run_kill_and_check(self, may_be_at_once=True):
+    def run_kill_and_check(self, may_be_at_once: bool = True) -> None:
         if self.file is None:
-            self.file, self.files = self.desk.make_folder() / "day.desk", self.files + 1
-        before = self.count_held_or_none() or 0
-        text = self.run_and_kill(before, may_be_at_once and self.rng.random() < 0.3)
-        count, safe = self.count_held_or_none(), images.count_acknowledged(text[: text.rfind(b"\n") + 1], 0)
-        whole = self.journal.printed_text(len(self.journal))
+            self.file, self.files = self.desk.make_path(), self.files + 1
+        before = self.count_held_or_none(self.file) or 0
+        text = self.run_and_kill(self.file, before, may_be_at_once and self.rng.random() < 0.3)
+        count, safe = self.count_held_or_none(self.file), crash_files.count_acknowledged(text[: text.rfind(b"\n") + 1], 0)
+        whole = self.journal.all_printed
         if count is None or count < max(before, safe) or not whole.startswith(text):
             self.wrong.append(f"{before} records, {safe} acknowledged, now {count}; the output ends with {text[-60:]!r}")
             self.file = None
             return
         self.acknowledged, self.unanswered = self.acknowledged + max(0, safe - before), self.unanswered + count - max(before, safe)
-        ran = subprocess.run([*self.desk.words, "--journal", str(self.file)], stdout=subprocess.PIPE, stderr=subprocess.PIPE)
-        if (ran.returncode, ran.stdout, ran.stderr) != (0, self.journal.text(count), b""):
-            self.wrong.append(f"--journal after a kill with {count} records: status {ran.returncode}, {ran.stderr[:80]!r}")
+        ran = self.desk.capture_journal(self.file)
+        if ran != (0, self.journal.text(count), b""):
+            self.wrong.append(f"--journal after a kill with {count} records: status {ran.status}, {ran.stderr[:80]!r}")
         if count > ENOUGH * len(self.journal):
             self.file = None
 
-    def open_and_check_last_file(self):
+    def open_and_check_last_file(self) -> None:
         """The last file is opened and given the rest."""
         if self.file is None:
             return
-        count = self.count_held_or_none() or 0
+        count = self.count_held_or_none(self.file) or 0
         rest = b"".join(self.journal.records[count:])
-        ran = subprocess.run([*self.desk.words, str(self.file)], input=rest, stdout=subprocess.PIPE, stderr=subprocess.PIPE)
-        if (ran.returncode, ran.stdout, ran.stderr) != (0, self.journal.printed_text(len(self.journal)), b""):
-            self.wrong.append(f"opened after the last kill, and given the rest: status {ran.returncode}, {ran.stderr[:80]!r}")
+        ran = self.desk.capture_output([self.file], rest)
+        if ran != (0, self.journal.all_printed, b""):
+            self.wrong.append(f"opened after the last kill, and given the rest: status {ran.status}, {ran.stderr[:80]!r}")
 
 
-def capture_journal_of_dam(dam):
+def capture_journal_of_dam(dam: DamProgram) -> Journal:
     return journals.Journal(list(draw_load(random.Random("load"), RECORDS)), dam)
 
 
-def write_planted_desk(desk, dam_journal, room):
-    """The words of a desk that answers early."""
-    replies = Path(room) / "replies"
-    replies.write_bytes(dam_journal.printed_text(len(dam_journal)))
-    return [sys.executable, "-B", str(EARLY), str(replies), *desk.words]
+def make_planted_desk(desk: DeskProgram, journal: Journal) -> DeskProgram:
+    """A desk that answers early, with a file of its answers."""
+    replies = desk.room / "replies"
+    replies.write_bytes(journal.all_printed)
+    return DeskProgram([sys.executable, "-B", EARLY, replies, *desk.words], desk.room)
 
 
-def check_kills(counts, desk, dam, whole):
+def check_kills(counts: Counts, desk: DeskProgram, dam: DamProgram, whole: bool) -> None:
     given = capture_journal_of_dam(dam)
     begun, rounds = time.monotonic(), MANY if whole else ROUNDS
-    kills = Kills(desk, desk.words, given, "kills")
+    kills = Kills(desk, given, "kills")
     for _ in range(rounds):
         kills.run_kill_and_check()
     kills.open_and_check_last_file()
@@ -132,7 +141,7 @@ def check_kills(counts, desk, dam, whole):
     print("".join(f"differs: {line}\n" for line in kills.wrong[:5]), end="")
     counts.check(f"{kills.acknowledged} records were acknowledged before kills", kills.acknowledged > 10 * rounds)
     counts.check(f"{kills.unanswered} records were kept without an answer", not whole or kills.unanswered > 0)
-    early = Kills(desk, write_planted_desk(desk, given, desk.room), given, "planted")
+    early = Kills(desk, given, "planted", make_planted_desk(desk, given))
     for _ in range(PLANTED):
         early.run_kill_and_check(may_be_at_once=False)
     counts.check(f"answers before the desk's are found by {PLANTED} kills", bool(early.wrong))

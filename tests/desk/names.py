@@ -8,9 +8,13 @@ full journal with amends and cancels: a step for each line that goes over all li
 import errno
 import shutil
 import time
+from collections.abc import Iterable, Iterator
 from concurrent.futures import ThreadPoolExecutor
 
+from desk.device import DeskProgram
+from desk.journals import DamProgram
 from shared import records
+from shared.counts import Counts
 from shared.instructions import DRAWN, TIMES, check_and_print_millions, measure_instructions
 from shared.preload import HostileProgram, RefusedCalls
 from shared.records import journal_text, capture_colliding_names, submits_of
@@ -23,14 +27,17 @@ SOME = 1_000  # of the names, on other days
 FIXED = RefusedCalls("random", first=3, error=errno.ENOSYS)  # a file draws twice before
 
 
-def iterate_instructions_of_desk(program, desk, records, refusal, periods=24):
+def iterate_instructions_of_desk(
+    program: HostileProgram, desk: DeskProgram, records: Iterable[str], refusal: RefusedCalls, periods: int = 24
+) -> Iterator[int]:
     """Yields the instructions of a desk with a new file that takes the records, with that file again, and for the file's journal."""
-    file = desk.make_folder() / "day.desk"
-    for words, data in [([file], journal_text(records, True, periods)), ([file], b""), (["--journal", file], b"")]:
-        yield measure_instructions(program, words, data, refusal)
+    file = desk.make_path()
+    yield measure_instructions(program, [file], journal_text(records, True, periods), refusal)
+    yield measure_instructions(program, [file], b"", refusal)
+    yield measure_instructions(program, ["--journal", file], b"", refusal)
 
 
-def check_names(counts, desk, dam, whole):
+def check_names(counts: Counts, desk: DeskProgram, dam: DamProgram, whole: bool) -> None:
     if not shutil.which("valgrind"):
         counts.leave_out("a desk with names that collide: valgrind, which counts instructions, is missing", 1)
         return
@@ -39,8 +46,8 @@ def check_names(counts, desk, dam, whole):
     others, colliding = submits_of(records.ordinary_names()), submits_of(capture_colliding_names(desk.room))
     tried = [iterate_instructions_of_desk(program, desk, others, DRAWN), iterate_instructions_of_desk(program, desk, colliding, DRAWN)]
     with ThreadPoolExecutor() as pool:
-        fixed = pool.submit(next, iterate_instructions_of_desk(program, desk, colliding, FIXED))
-        usual, drawn = pool.map(list, tried)
+        fixed = pool.submit(lambda: next(iterate_instructions_of_desk(program, desk, colliding, FIXED)))
+        usual, drawn = pool.map(list[int], tried)
     for about, taken, by_others in zip(ABOUT, drawn, usual):
         took = f"names that collide {about} take {taken / by_others:.1f} times the instructions of others"
         print(took, flush=True)
@@ -53,7 +60,7 @@ def check_names(counts, desk, dam, whole):
         for about, taken, by_others in zip(ABOUT, each, usual):
             took = f"{SOME:,} names that collide {about}, on {periods} periods, take {taken / by_others:.1f} times the instructions of"
             counts.check(f"{took} {records.ORDERS:,} others", taken < by_others)
-    full = measure_instructions(program, [desk.make_folder() / "day.desk"], journal_text(records.full_journal()), DRAWN)
+    full = measure_instructions(program, [desk.make_path()], journal_text(records.full_journal()), DRAWN)
     check_and_print_millions(counts, "a full journal takes", full, MILLIONS_OF_FULL_JOURNAL)
     took = f"with the fixed seed, they take {fixed.result() / usual[0]:.1f} times those"
     print(took, flush=True)

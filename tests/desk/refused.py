@@ -10,15 +10,36 @@ import re
 import resource
 import signal
 import subprocess
+from collections.abc import Callable, Iterable, Iterator, Mapping, Sequence
 from concurrent.futures import ThreadPoolExecutor
+from pathlib import Path
+from typing import IO, Any
 
-import crashes
-import images
-import journals
-from files import HELP
+from desk import crashes, journals, moments
+from desk.device import (
+    ABOVE_ANY_CALL,
+    ADVICE,
+    CUT,
+    INPUT,
+    LOCK,
+    LOCKED_LINE,
+    OPEN,
+    OUTPUT,
+    READ,
+    SECONDS,
+    STAT,
+    SYNC,
+    WRITE,
+    DeskProgram,
+    DeskRun,
+    Event,
+    RefusedFileCalls,
+)
+from desk.files import HELP
+from desk.journals import DamProgram, DeskInput
+from shared import crash_files
+from shared.counts import Counts
 from shared.preload import RefusedCalls, make_environment, read_counts
-from device import (ABOVE_ANY_CALL, ADVICE, CUT, INPUT, LOCK, LOCKED_LINE, OPEN, OUTPUT, READ, SECONDS, STAT, SYNC, WRITE,
-                    RefusedFileCalls)
 
 MODE = "M"
 # The errors of each kind of call.
@@ -39,13 +60,13 @@ LONGEST_FILE = 1 << 20  # bytes of a file, more than a desk's
 GARBAGE = b"\n+cancel,A,NEVER,,,,,,\n\nx\n"
 
 
-def is_length_named(ran):
+def is_length_named(ran: DeskRun) -> bool:
     """Whether the fault of the output, if the run ended with it, says how many bytes the whole output has."""
     found = re.fullmatch(rb"device: write after (\d+) bytes\n", ran.stderr)
     return not found or int(found[1]) == len(ran.stdout)
 
 
-def is_fault_line(kind, error, stderr):
+def is_fault_line(kind: str, error: int, stderr: bytes) -> bool:
     """Whether this is the line of the fault."""
     if kind == LOCK and error in (errno.EAGAIN, errno.EACCES):
         return stderr == LOCKED_LINE
@@ -55,12 +76,12 @@ def is_fault_line(kind, error, stderr):
     return any(re.fullmatch(way.format(own) + "\n", stderr.decode()) for way in ways)
 
 
-def is_made_again(kind, error):
+def is_made_again(kind: str, error: int) -> bool:
     """Whether the kit's library makes the call again that failed so."""
     return (kind, error) == (SYNC, errno.EINTR)
 
 
-def are_retried(events):
+def are_retried(events: Iterable[Event]) -> bool:
     """Whether a write or a sync of the file follows a failed one."""
     changes = [event for event in events if event.is_change]
     failed = [at for at, event in enumerate(changes) if event.answer < 0 and not is_made_again(event.kind, -event.answer)]
@@ -70,32 +91,32 @@ def are_retried(events):
 class RunsWithRefusals(crashes.Crashes):
     """Runs of a desk on an input with calls refused: with a new file, or with one that a crash left."""
 
-    def __init__(self, desk, about, given, start=None):
+    def __init__(self, desk: DeskProgram, about: str, given: DeskInput, start: bytes | None = None) -> None:
         super().__init__(desk, about, given, about)
         self.start, self.runs = start, 0
-        self.held = 0 if start is None else self.count_of_records_or_none(start)
+        self.held = 0 if start is None else self.count_of_records_or_none(start) or 0
 
-    def write_held_file(self):
-        file = self.desk.make_folder() / "day.desk"
+    def write_held_file(self) -> Path:
+        file = self.desk.make_path()
         if self.start is not None:
             file.write_bytes(self.start)
         return file
 
-    def is_front(self, text, is_whole):
+    def is_front(self, text: bytes, is_whole: bool) -> bool:
         """Whether this was printed for whole batches, or for a beginning of them."""
         fronts = [self.journal.printed_text(count) for count in {0, self.held} | self.given.borders]
-        return text in fronts if is_whole else self.journal.printed_text(len(self.journal)).startswith(text)
+        return text in fronts if is_whole else self.journal.all_printed.startswith(text)
 
-    def given_by(self, lines):
+    def given_by(self, lines: int) -> int:
         return max(self.held, self.given.given_by(lines))
 
-    def check_after(self, about, ran, file):
+    def check_after(self, about: str, ran: DeskRun, file: Path) -> None:
         """Looks at the files that a crash may leave, and opens the file again."""
         if are_retried(ran.events):
             self.wrong.append(f"{about}: a failed write or sync was followed by another one")
-        for moment in images.moments_of_run(ran.events, self.start or b"", safe=self.held, given_by=self.given_by):
+        for moment in moments.moments_of_run(ran.events, self.start or b"", safe=self.held, given_by=self.given_by):
             allowed = [count for count in {self.held} | self.given.borders if moment.safe <= count <= max(moment.given, moment.safe)]
-            for image in images.draw_files_at(moment, self.rng, few=True):
+            for image in crash_files.draw_files_at(moment, self.rng, few=True):
                 self.files += 1
                 if self.count_of_records_or_none(image) not in allowed:
                     self.wrong.append(f"{about}: a crash leaves {self.count_of_records_or_none(image)} records for {allowed}")
@@ -105,11 +126,11 @@ class RunsWithRefusals(crashes.Crashes):
             self.wrong.append(f"{about}: opened again with status {again.status}, {again.stderr[:80]!r}")
             return
         count = self.count_of_records_or_none(file.read_bytes())
-        safe = images.count_acknowledged(ran.stdout, self.held)
+        safe = crash_files.count_acknowledged(ran.stdout, self.held)
         if count is None or count < safe or again.stdout != self.journal.printed_text(count):
             self.wrong.append(f"{about}: opened again with {count} records, and {safe} were acknowledged")
 
-    def run_and_check_refused(self, refusal, check=None):
+    def run_and_check_refused(self, refusal: RefusedFileCalls, check: Callable[[RefusedFileCalls, DeskRun], bool] | None = None) -> None:
         """Runs the desk with a call refused."""
         file = self.write_held_file()
         ran = self.desk.run(file, self.given.batches, refusal)
@@ -120,17 +141,17 @@ class RunsWithRefusals(crashes.Crashes):
         self.check_after(about, ran, file)
         self.runs += 1
 
-    def is_fault(self, refusal, ran):
+    def is_fault(self, refusal: RefusedFileCalls, ran: DeskRun) -> bool:
         """Whether the run ended with the fault of the refused call, or as if there was none, if the call is made again."""
         if is_made_again(refusal.kind, refusal.error):
             return self.is_whole(refusal, ran)
         is_line = is_fault_line(refusal.kind, refusal.error, ran.stderr) and is_length_named(ran)
         return ran.status == MACHINE and is_line and self.is_front(ran.stdout, True)
 
-    def is_whole(self, _, ran):
-        return (ran.status, ran.stderr, ran.stdout) == (0, b"", self.journal.printed_text(len(self.journal)))
+    def is_whole(self, _: object, ran: DeskRun) -> bool:
+        return (ran.status, ran.stderr, ran.stdout) == (0, b"", self.journal.all_printed)
 
-    def is_short(self, refusal, ran):
+    def is_short(self, refusal: RefusedFileCalls, ran: DeskRun) -> bool:
         """Whether the run wasn't disturbed by a short write. A write of nothing is a fault."""
         if refusal.most:
             return self.is_whole(refusal, ran)
@@ -138,7 +159,9 @@ class RunsWithRefusals(crashes.Crashes):
         line = b"file: the file can't be written: write zero\n" if refusal.kind == WRITE else of_output
         return ran.status == MACHINE and ran.stderr == line and self.is_front(ran.stdout, True)
 
-    def refusals_with_checks(self, made):
+    def refusals_with_checks(
+        self, made: Mapping[str, int]
+    ) -> Iterator[tuple[RefusedFileCalls, Callable[[RefusedFileCalls, DeskRun], bool] | None]]:
         for kind, errors in ERRORS.items():
             for name in errors.split():
                 for number in range(1, made.get(kind, 0) + 1):
@@ -150,10 +173,10 @@ class RunsWithRefusals(crashes.Crashes):
             for most in SHORT[1:]:
                 yield RefusedFileCalls(kind, 1, ABOVE_ANY_CALL, 0, most), self.is_short
 
-    def check_refusals(self):
+    def check_refusals(self) -> list[str]:
         """Refuses each call in turn, and returns the faults."""
         ran = self.desk.run(self.write_held_file(), self.given.batches)
-        made = {}
+        made: dict[str, int] = {}
         for event in ran.events:
             made[event.kind] = made.get(event.kind, 0) + 1
         if not self.is_whole(None, ran) or not {OPEN, WRITE, SYNC, LOCK, INPUT, OUTPUT} <= set(made):
@@ -164,17 +187,19 @@ class RunsWithRefusals(crashes.Crashes):
         return self.wrong
 
 
-def run_with_refused_calls(desk, file, batches, refusal, words=()):
+def run_with_refused_calls(
+    desk: DeskProgram, file: Path, batches: Iterable[bytes], refusal: RefusedCalls, words: Sequence[str] = ()
+) -> tuple[DeskRun, int]:
     """Runs the desk with calls refused by the library of refuse.c, and returns the run and the number of such calls."""
     counts = file.with_suffix(".calls")
-    more = make_environment(f"{desk.library}:{desk.room}/refuse.so", refusal, counts)
-    return desk.run(file, batches, words=words, more=more), read_counts(counts)[0]
+    refusing = desk.with_surroundings(make_environment(f"{desk.library}:{desk.room}/refuse.so", refusal, counts))
+    return refusing.run(file, batches, words=words), read_counts(counts)[0]
 
 
 class RunsWithoutMemory(RunsWithRefusals):
     """The same with calls for memory refused."""
 
-    def run_and_check_without_memory(self, numbers):
+    def run_and_check_without_memory(self, numbers: tuple[int, int]) -> int:
         first, last = numbers
         file = self.write_held_file()
         ran, made = run_with_refused_calls(self.desk, file, self.given.batches, RefusedCalls("memory", first, last))
@@ -185,7 +210,7 @@ class RunsWithoutMemory(RunsWithRefusals):
         self.runs += 1
         return made
 
-    def check_refusals(self):
+    def check_refusals(self) -> list[str]:
         made = self.run_and_check_without_memory((ABOVE_ANY_CALL, ABOVE_ANY_CALL))
         if made < 10:
             self.wrong.append(f"{self.about}: {made} growths are counted")
@@ -195,21 +220,23 @@ class RunsWithoutMemory(RunsWithRefusals):
         return self.wrong
 
 
-def limit_files(bytes_):
+def limit_files(bytes_: int) -> None:
     """Files of this process may not grow beyond this length."""
     signal.signal(signal.SIGXFSZ, signal.SIG_IGN)
     resource.setrlimit(resource.RLIMIT_FSIZE, (bytes_, bytes_))
 
 
-def run_with_file_limit(desk, given, bytes_, stdout=subprocess.PIPE):
+def run_with_file_limit(
+    desk: DeskProgram, given: DeskInput, bytes_: int, stdout: IO[bytes] | int = subprocess.PIPE
+) -> tuple[subprocess.CompletedProcess[bytes], Path]:
     """A run whose files may not grow beyond this length, and the desk's file."""
-    file = desk.make_folder() / "day.desk"
+    file = desk.make_path()
     ran = subprocess.run([*desk.words, str(file)], input=b"".join(given.batches), stdout=stdout, stderr=subprocess.PIPE,
                          preexec_fn=lambda: limit_files(bytes_), timeout=SECONDS)
     return ran, file
 
 
-def run_with_full_output(desk, given, bytes_):
+def run_with_full_output(desk: DeskProgram, given: DeskInput, bytes_: int) -> tuple[subprocess.CompletedProcess[bytes], bytes, Path]:
     """A run whose answers go to a file that has room for this number of bytes, the answers there, and the desk's file."""
     with open(desk.make_folder() / "answers", "w+b") as answers:
         answers.seek(LONGEST_FILE - bytes_)
@@ -218,47 +245,48 @@ def run_with_full_output(desk, given, bytes_):
         return ran, answers.read(), file
 
 
-def check_real_refusals(counts, desk, dam, given):
+def check_real_refusals(counts: Counts, desk: DeskProgram, dam: DamProgram, given: DeskInput) -> None:
     """Refusals by the system itself: a file that may not grow, and a device that is full."""
     for bytes_ in (0, 1, 5, 13, 20, 200):
         ran, file = run_with_file_limit(desk, given, bytes_)
         line = f"file: the file can't be written: {os.strerror(errno.EFBIG)} (os error {errno.EFBIG})\n"
         counts.check(f"a file of at most {bytes_} bytes: {ran}", (ran.returncode, ran.stdout, ran.stderr.decode()) == (MACHINE, b"", line))
         again = desk.run(file, given.batches)
-        is_whole = again.stdout.endswith(given.journal.printed_text(len(given.journal)))
+        is_whole = again.stdout.endswith(given.journal.all_printed)
         counts.check(f"a file of at most {bytes_} bytes, opened again", is_whole)
-    whole = given.journal.printed_text(len(given.journal))
+    whole = given.journal.all_printed
     many = journals.draw_input(dam, "refused many", journals.draw_day, 9_000)
     for answered, bytes_ in [*[(given, it) for it in (0, 1, 7, len(whole) - 1)], *[(many, it) for it in (65_536, 65_537, 90_000)]]:
-        printed = answered.journal.printed_text(len(answered.journal))
+        printed = answered.journal.all_printed
         ran, answers, file = run_with_full_output(desk, answered, bytes_)
         line = f"device: write after {bytes_} bytes\n"
-        counts.check(f"answers cut off after {bytes_} bytes: {ran.returncode}, {ran.stderr}, {answers[-80:]}",
+        counts.check(f"answers cut off after {bytes_} bytes: {ran.returncode}, {ran.stderr!r}, {answers[-80:]!r}",
                      (ran.returncode, answers, ran.stderr.decode()) == (MACHINE, printed[:bytes_], line))
         again = desk.run(file)
         is_right = printed.startswith(again.stdout) and len(again.stdout) > bytes_ and (answered is many or again.stdout == printed)
         counts.check(f"answers cut off after {bytes_} bytes, opened again", is_right)
-    file = desk.make_folder() / "day.desk"
+    file = desk.make_path()
     with open("/dev/full", "wb") as full:
-        ran = desk.run(file, given.batches, stdout=full)
-    counts.check(f"a full device: {ran.stderr!r}", (ran.status, ran.stderr) == (MACHINE, b"device: write after 0 bytes\n"))
+        refused = desk.run(file, given.batches, stdout=full)
+    is_right = (refused.status, refused.stderr) == (MACHINE, b"device: write after 0 bytes\n")
+    counts.check(f"a full device: {refused.stderr!r}", is_right)
     again = desk.run(file)
     count = again.stdout.count(b"\n")
     counts.check("a full device: the first batch is in the file", count in given.borders and count > 0)
 
 
-def write_desk_file_of(desk, given):
+def write_desk_file_of(desk: DeskProgram, given: DeskInput) -> Path:
     """The file of a desk that has entered the input."""
-    file = desk.make_folder() / "day.desk"
+    file = desk.make_path()
     desk.run(file, given.batches)
     return file
 
 
-def check_texts_cut_off(counts, desk, given):
+def check_texts_cut_off(counts: Counts, desk: DeskProgram, given: DeskInput) -> None:
     """The journal and the help, printed to a full device, to a pipe that nobody reads, and to a file that has room for fewer bytes."""
     file = write_desk_file_of(desk, given)
     for words, text in [(["--journal", str(file)], given.journal.text(len(given.journal))), (["--help"], HELP)]:
-        def check_run(about, bytes_, stdout, **how):
+        def check_run(about: str, bytes_: int, stdout: IO[bytes] | int, **how: Any) -> None:
             how = {"stdin": subprocess.DEVNULL, "stdout": stdout, "stderr": subprocess.PIPE, "timeout": SECONDS, **how}
             ran = subprocess.run([*desk.words, *words], **how)
             line = b"device: write after %d bytes\n" % bytes_
@@ -277,25 +305,25 @@ def check_texts_cut_off(counts, desk, given):
                 counts.check(f"{words[0]} cut off after {bytes_} bytes: the bytes before", printed.read() == text[:bytes_])
 
 
-def check_refused_journal(counts, desk, given):
-    """Each call of `--journal` refused in turn: of the file, of the output, and for memory. The file stays as it is. The kit's library makes
-    a read again that a signal interrupts."""
+def check_refused_journal(counts: Counts, desk: DeskProgram, given: DeskInput) -> None:
+    """Each call of `--journal` refused in turn: of the file, of the output, and for memory. The file stays as it is. The kit's library
+    makes a read again that a signal interrupts."""
     file, text, words = write_desk_file_of(desk, given), given.journal.text(len(given.journal)), ["--journal"]
     before = file.read_bytes()
     ran, made = run_with_refused_calls(desk, file, (), RefusedCalls("memory"), words)
     kinds = {event.kind for event in ran.events}
-    counts.check(f"--journal with no call refused: {ran.stderr}, {kinds}, {made}",
-                 (ran.status, ran.stdout, ran.stderr) == (0, text, b"") and {OPEN, READ, OUTPUT} <= kinds and made > 1)
+    counts.check(f"--journal with no call refused: {ran.stderr!r}, {kinds}, {made}",
+                 ran.printed == (0, text, b"") and {OPEN, READ, OUTPUT} <= kinds and made > 1)
     rows = [RefusedFileCalls(kind, number, number, getattr(errno, name)) for kind in kinds for name in ERRORS[kind].split()
             for number in range(1, 1 + sum(event.kind == kind for event in ran.events))]  # fmt: skip
 
-    def check_row(row):
+    def check_row(row: RefusedFileCalls) -> None:
         ran = desk.run(file, refusal=row, words=words)
         own = b"device: write after %d bytes\n" % len(ran.stdout)
         line = own if row.kind == OUTPUT else f"file: {os.strerror(row.error)} (os error {row.error})\n".encode()
         is_read_again = (row.kind, row.error) == (READ, errno.EINTR)
         right = (0, text, b"") if is_read_again else (MACHINE, text[: len(ran.stdout)] if row.kind == OUTPUT else b"", line)
-        counts.check(f"--journal: {row}: {ran}", (ran.status, ran.stdout, ran.stderr) == right)
+        counts.check(f"--journal: {row}: {ran}", ran.printed == right)
 
     with ThreadPoolExecutor(desk.jobs) as pool:
         list(pool.map(check_row, rows))
@@ -307,9 +335,9 @@ def check_refused_journal(counts, desk, given):
     counts.check("--journal: the file is as it was", file.read_bytes() == before)
 
 
-def check_random_bytes(counts, desk, given):
+def check_random_bytes(counts: Counts, desk: DeskProgram, given: DeskInput) -> None:
     """Draws of random bytes refused: all, that of the library that opens a file, and that of the seed, which then is the fixed one."""
-    whole = given.journal.printed_text(len(given.journal))
+    whole = given.journal.all_printed
     for error in (errno.ENOSYS, errno.EPERM, errno.EOPNOTSUPP):
         own = f"{os.strerror(error)} (os error {error})\n".encode()
         for first, last, status, printed, line in [
@@ -317,26 +345,26 @@ def check_random_bytes(counts, desk, given):
             (2, 2, MACHINE, b"", b"file: " + own),
             (3, 3, 0, whole, b""),
         ]:
-            file = desk.make_folder() / "day.desk"
+            file = desk.make_path()
             ran, made = run_with_refused_calls(desk, file, given.batches, RefusedCalls("random", first, last, error))
             about = f"random bytes refused from draw {first} to {last} of {made} with {errno.errorcode[error]}"
-            counts.check(f"{about}: {ran}", made >= first and (ran.status, ran.stdout, ran.stderr) == (status, printed, line))
+            counts.check(f"{about}: {ran}", made >= first and ran.printed == (status, printed, line))
             counts.check(f"{about}: the file is there: {file.exists()}", file.exists() == (first > 1))
 
 
-def draw_inputs(dam, whole):
+def draw_inputs(dam: DamProgram, whole: bool) -> Iterator[tuple[str, DeskInput, bytes | None]]:
     """Yields each input, with the file that it begins with, or None."""
     given = journals.draw_input(dam, "refused", journals.draw_day, 9, most=4)
     yield "a new file", given, None
     held = sorted(given.borders)[1]
     rest = journals.DeskInput(given.journal, given.batches, [True] * len(given.journal))
-    broken = images.HEAD + given.journal.marked_text(held) + GARBAGE
+    broken = crash_files.HEAD + given.journal.marked_text(held) + GARBAGE
     yield "a file after a crash", batches_after(rest, held), broken
     if whole:
         yield "the longest names", journals.draw_input(dam, "refused long", journals.draw_long_names, 12, most=5), None
 
 
-def batches_after(given, held):
+def batches_after(given: DeskInput, held: int) -> DeskInput:
     """The input after the first records."""
     journal, lines = given.journal, given.journal.records[held:]
     half = len(lines) // 2
@@ -346,7 +374,7 @@ def batches_after(given, held):
     return found
 
 
-def check_refused_calls(counts, desk, dam, whole):
+def check_refused_calls(counts: Counts, desk: DeskProgram, dam: DamProgram, whole: bool) -> None:
     runs = files = 0
     for about, given, start in draw_inputs(dam, whole):
         for kind in (RunsWithRefusals, RunsWithoutMemory):

@@ -3,25 +3,25 @@
 import errno
 import os
 import random
-import subprocess
 import time
+from collections.abc import Callable
 
-import crashes
-import journals
-import kills
-import refused
-from device import LOCKED_LINE, SYNC, DeskProgram, RefusedFileCalls
+from desk import crashes, journals, kills, refused
+from desk.device import LOCKED_LINE, SYNC, DeskProgram, RefusedFileCalls
+from shared.processes import pipes_of
+from desk.journals import DamProgram, DeskInput
+from shared.counts import Counts
 
 OPENED = 300  # files of crashes that are opened
 KILLS, MOST_KILLS = 10, 200  # of a desk without a fault, and of one with a fault if none finds it
 
 
-def try_crashes(desk, given):
+def try_crashes(desk: DeskProgram, given: DeskInput) -> list[str]:
     """The files that a crash leaves, opened and crashed again."""
     return crashes.Crashes(desk, "crashes", given, "stand-ins").try_moments(OPENED)
 
 
-def try_refused_syncs(desk, given):
+def try_refused_syncs(desk: DeskProgram, given: DeskInput) -> list[str]:
     """Each sync refused in turn."""
     row = refused.RunsWithRefusals(desk, "syncs", given)
     ran = desk.run(row.write_held_file(), given.batches)
@@ -30,16 +30,16 @@ def try_refused_syncs(desk, given):
     return row.wrong
 
 
-def try_repair(desk, given):
+def try_repair(desk: DeskProgram, given: DeskInput) -> list[str]:
     """Files whose end a crash left torn, opened and crashed again."""
     row = crashes.Crashes(desk, "repair", given, "stand-ins")
     row.open_and_check_repaired()
     return row.wrong
 
 
-def try_kills(desk, given):
+def try_kills(desk: DeskProgram, given: DeskInput) -> list[str]:
     """Kills at random moments. Whether one finds a fault depends on the load of the machine, so it may take several."""
-    row = kills.Kills(desk, desk.words, given.journal, "stand-ins")
+    row = kills.Kills(desk, given.journal, "stand-ins")
     for _ in range(MOST_KILLS if desk.surroundings["STAND_IN"] else KILLS):
         row.run_kill_and_check(may_be_at_once=False)
         if row.wrong:
@@ -47,19 +47,17 @@ def try_kills(desk, given):
     return row.wrong
 
 
-def try_second_desk(desk, given):
+def try_second_desk(desk: DeskProgram, given: DeskInput) -> list[str]:
     """A second desk is started while the first one runs."""
-    file = desk.make_folder() / "day.desk"
-    pipes = {"stdin": subprocess.PIPE, "stdout": subprocess.PIPE, "stderr": subprocess.PIPE}
+    file = desk.make_path()
     surroundings = {**os.environ, **desk.surroundings}
-    with subprocess.Popen([*desk.words, str(file)], env=surroundings, **pipes) as first:
-        first.stdin.write(given.journal.records[0])
-        first.stdin.flush()
-        first.stdout.readline()
-        with subprocess.Popen([*desk.words, str(file)], env=surroundings, **pipes) as second:
-            printed = second.communicate(b"")
+    with desk.start(file, env=surroundings) as first:
+        stdin, stdout = pipes_of(first)
+        stdin.write(given.journal.records[0])
+        stdin.flush()
+        stdout.readline()
+        got = desk.capture_output([file], env=surroundings)
         first.communicate(b"")
-    got = (second.returncode, *printed)
     return [] if got == (4, b"", LOCKED_LINE) else [f"a second desk: {got}"]
 
 
@@ -84,7 +82,7 @@ FAULTS = [
 ]
 
 
-def draw_inputs(dam):
+def draw_inputs(dam: DamProgram) -> tuple[DeskInput, DeskInput]:
     """A short input, and a long one for kills."""
     rng = random.Random("stand-ins")
     short = journals.draw_input(dam, "stand-ins", journals.draw_short_names, 9, most=4)
@@ -92,14 +90,14 @@ def draw_inputs(dam):
     return short, journals.DeskInput(journals.Journal(records, dam), [b"".join(records)], [True] * len(records))
 
 
-def check_stand_ins(counts, desk, dam, _):
+def check_stand_ins(counts: Counts, desk: DeskProgram, dam: DamProgram, _: bool) -> None:
     begun = time.monotonic()
     short, long = draw_inputs(dam)
 
-    def run_test(fault, test):
+    def run_test(fault: str, test: Callable[[DeskProgram, DeskInput], list[str]]) -> list[str]:
         given = long if test is try_kills else short
         replies = desk.room / f"replies-{len(given.journal)}"
-        replies.write_bytes(given.journal.printed_text(len(given.journal)))
+        replies.write_bytes(given.journal.all_printed)
         wrong_desk = DeskProgram([desk.room / "stand_in"], desk.room, {"STAND_IN": fault, "STAND_IN_REPLIES": str(replies)}, desk.jobs)
         return test(wrong_desk, given)
 

@@ -14,7 +14,6 @@ Each case depends only on the seed and its number. A case that goes wrong is kep
 
 import argparse
 import contextlib
-import csv
 import io
 import json
 import random
@@ -25,25 +24,24 @@ from collections import Counter
 from pathlib import Path
 
 sys.dont_write_bytecode = True
-sys.path[:0] = [str(Path(__file__).resolve().parents[2] / name) for name in ("tests", "tools")]
+sys.path[:1] = [f"{sys.path[0]}/..", f"{sys.path[0]}/../../tools"]  # tests/ and tools/
 
-import compare
 from lib.audit import day_audit, recursive_enumeration
+from lib.base.json_value import JsonObject
 from lib.journal import book, journal
 from lib.results import results, selection
-from lib.sheets import kinds
+from lib.tables import kinds
 from lib.tool import exits
-from shared import days
+from shared import days, timed_program
 from shared.arguments import parser_of_cases
 from shared.counts import Counts
+from shared.doctored_texts import decoded_or_none, draw_doctored, draw_other_encoding
 
 MOST_BLOCKS = 6
-# The bytes that somebody who doctors a text, or a broken program, would put there.
-INTERESTING = b"0123456789,-\n\r\" ;ABKacejr\x00\xff"
 RIGHT, WRONG, UNREAD, ENCODING = exits.DONE, exits.DIFFERS, exits.NO_INPUT, exits.ENCODING
 
 
-def parse_arguments():
+def parse_arguments() -> argparse.Namespace:
     parser = parser_of_cases("tests/fuzz/doctored.py", __doc__, "cases", 5_000)
     parser.add_argument("--keep", metavar="FOLDER", help="keeps each pair on which the audit is wrong here")
     return parser.parse_args()
@@ -52,11 +50,11 @@ def parse_arguments():
 class Pairs:
     """Random days with the results that the program prints; some are kept for later cases."""
 
-    def __init__(self, program):
-        self.program = compare.TimedProgram(program)
+    def __init__(self, program: str) -> None:
+        self.program = timed_program.TimedProgram(program)
         self.other = (b"day,24,,,,,,,\nclose,,,,,,,,\n", b"")
 
-    def draw_and_capture_results(self, rng):
+    def draw_and_capture_results(self, rng: random.Random) -> tuple[bytes, bytes]:
         """A closed journal that the program clears, and the results."""
         while True:
             data = days.draw_text(rng, MOST_BLOCKS)
@@ -64,13 +62,13 @@ class Pairs:
             if ran.status == 0 and len(data) < 100_000:
                 return data, ran.stdout
 
-    def capture_results_or_none(self, data):
+    def capture_results_or_none(self, data: bytes) -> bytes | None:
         """The results that the program prints for a journal, or None if it refuses it."""
         ran = self.program.capture_output(["clear"], data)
         return ran.stdout if ran.status == 0 else None
 
 
-def is_open(data):
+def is_open(data: bytes) -> bool:
     """Whether a text is a journal that no command closes."""
     try:
         return not book.book_and_refusals(journal.parse_journal(data))[0].closed
@@ -78,9 +76,9 @@ def is_open(data):
         return False
 
 
-def capture_right_status(pairs, data, text):
+def capture_right_status(pairs: Pairs, data: bytes, text: bytes) -> int:
     """The status that the audit of a pair must have, by the program."""
-    if kinds.kind_or_none(data) not in (None, kinds.JOURNAL) or kinds.kind_or_none(text) not in (None, kinds.RESULTS):
+    if kinds.kind_of_bytes(data) not in (None, kinds.JOURNAL) or kinds.kind_of_bytes(text) not in (None, kinds.RESULTS):
         return UNREAD
     right = pairs.capture_results_or_none(data)
     if right is None:
@@ -90,7 +88,7 @@ def capture_right_status(pairs, data, text):
     return ENCODING if decoded_or_none(text) == right else WRONG
 
 
-def write_and_audit(folder, data, text):
+def write_and_audit(folder: str, data: bytes, text: bytes) -> tuple[int, JsonObject]:
     """The status and the record of the audit of a pair."""
     paths = Path(folder, "journal"), Path(folder, "results")
     for path, content in zip(paths, (data, text)):
@@ -104,98 +102,11 @@ def write_and_audit(folder, data, text):
         with contextlib.redirect_stderr(io.StringIO()):
             audit.read_inputs_and_check_or_stop()
     except exits.Stop as stop:
-        return stop.status, audit.found.record(stop.status, str(stop))
-    return audit.found.status, audit.found.record(audit.found.status)
+        return stop.status, audit.verdict.record(stop.status, str(stop))
+    return audit.verdict.status, audit.verdict.record(audit.verdict.status)
 
 
-def with_changed_byte(rng, data):
-    at = rng.randrange(len(data) + 1)
-    kind = rng.randrange(4)
-    byte = bytes([rng.choice(INTERESTING) if rng.random() < 0.8 else rng.randrange(256)])
-    if kind == 0:
-        return "a byte more", data[:at] + byte + data[at:]
-    if kind == 1:
-        return "a byte less", data[:at] + data[at + 1 :]
-    return "another byte", data[:at] + byte + data[at + 1 :]
-
-
-def with_changed_field(rng, data):
-    """A field of a line, made larger, smaller, empty, or that of another line."""
-    lines = [line.split(b",") for line in data.split(b"\n")]
-    line = rng.choice([line for line in lines if len(line) > 1] or [lines[0]])
-    at = rng.randrange(len(line))
-    other = rng.choice(rng.choice(lines))
-    number = line[at].removeprefix(b"-").isdigit()
-    step = rng.choice([-10, -1, 1, 10])
-    stepped = b"%d" % (int(line[at]) + step) if number else other
-    line[at] = rng.choice([stepped, other, b"", b"0" + line[at], b"-" + line[at], line[at] + b"0"])
-    return "a field", b"\n".join(b",".join(line) for line in lines)
-
-
-def with_changed_line(rng, data):
-    """A line less, twice, moved, or swapped with the next; or one of the text's words changed throughout."""
-    lines = data.splitlines(keepends=True)
-    at, to = rng.randrange(len(lines)), rng.randrange(len(lines))
-    kind = rng.randrange(5)
-    if kind == 0:
-        return "a line less", b"".join(lines[:at] + lines[at + 1 :])
-    if kind == 1:
-        return "a line twice", b"".join(lines[: at + 1] + lines[at:])
-    if kind == 2:
-        line = lines.pop(at)
-        return "a line moved", b"".join(lines[:to] + [line] + lines[to:])
-    if kind == 3:
-        lines[at], lines[to] = lines[to], lines[at]
-        return "two lines swapped", b"".join(lines)
-    one, other = rng.choice([(b"accepted", b"rejected"), (b"rejected", b"accepted"), (b"sell", b"buy"), (b"hour", b"block")])
-    return "a word changed", data.replace(one, other, rng.choice([1, -1]))
-
-
-def with_end_cut(rng, data):
-    return "the end cut off", data[: rng.randrange(len(data) + 1)]
-
-
-def draw_doctored(rng, data):
-    """In words what was changed, and the changed text."""
-    changes = [with_changed_byte, with_changed_field, with_changed_field, with_changed_line, with_changed_line, with_end_cut]
-    return rng.choice(changes)(rng, data)
-
-
-def draw_other_encoding(rng, data):
-    """The same content in another encoding."""
-    kind = rng.randrange(5)
-    if kind == 0:
-        return "CR LF", data.replace(b"\n", b"\r\n")
-    if kind == 1:
-        return "a byte order mark", b"\xef\xbb\xbf" + data
-    if kind == 2:
-        return "no last line end", data[:-1]
-    if kind == 3:
-        return "quotes", b"".join(b",".join(b'"%s"' % field for field in line.split(b",")) + b"\n" for line in data.splitlines())
-    return "UTF-16", data.decode().encode("utf-16")
-
-
-def decoded_or_none(data):
-    """The text in the encoding of results, without what concerns only how it is encoded; None if it isn't one. Python's own modules read
-    it, and nothing of `lib`."""
-    for mark, encoding in ((b"\xef\xbb\xbf", "utf-8-sig"), (b"\xff\xfe", "utf-16"), (b"\xfe\xff", "utf-16")):
-        if data.startswith(mark):
-            break
-    else:
-        encoding = "ascii"
-    try:
-        text = data.decode(encoding)
-        rows = list(csv.reader(io.StringIO(text, newline=""), strict=True))
-    except (UnicodeDecodeError, csv.Error):
-        return None
-    while rows and not rows[-1]:
-        rows.pop()
-    if [] in rows or any(character in field for row in rows for field in row for character in '\r\n",'):
-        return None
-    return "".join(f"{','.join(row)}\n" for row in rows).encode()
-
-
-def draw_worse_results_or_none(rng, data):
+def draw_worse_results_or_none(rng: random.Random, data: bytes) -> bytes | None:
     """The results of another selection of a day's blocks, eligible or not; None if it has no other whose periods balance."""
     problem = selection.Problem(book.book_and_refusals(journal.parse_journal(data))[0])
     for _ in range(8):
@@ -206,7 +117,7 @@ def draw_worse_results_or_none(rng, data):
     return None
 
 
-def draw_changed_pair(rng, pairs, data, text):
+def draw_changed_pair(rng: random.Random, pairs: Pairs, data: bytes, text: bytes) -> tuple[bytes, bytes, str]:
     """A doctored pair, and in words how."""
     kind = rng.randrange(10)
     if kind == 0:
@@ -227,7 +138,7 @@ def draw_changed_pair(rng, pairs, data, text):
     return data, other, f"{words} of the results"
 
 
-def try_audit(folder, pairs, data, text):
+def try_audit(folder: str, pairs: Pairs, data: bytes, text: bytes) -> tuple[int, str | None]:
     """The fault of the audit of a pair; nothing if all is right."""
     right = capture_right_status(pairs, data, text)
     try:
@@ -242,9 +153,9 @@ def try_audit(folder, pairs, data, text):
     return right, None
 
 
-def main():
+def main() -> int:
     args = parse_arguments()
-    pairs, seen, failed = Pairs(args.program), Counter(), 0
+    pairs, seen, failed = Pairs(args.program), Counter[int](), 0
     with tempfile.TemporaryDirectory() as folder:
         for number in range(args.first, args.first + args.count):
             rng = random.Random(f"doctored {args.seed} {number}")

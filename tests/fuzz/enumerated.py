@@ -4,70 +4,65 @@
 The results that the program prints must be as the rules say, and no selection may be better. Then they are altered to those of an eligible
 selection that ranks below, the best one that differs in one block and what hangs on it; and the enumeration must find the program's
 selection above it. Each case is drawn from the seed and its number alone. With --families the days are those of bench/make_family.py with
-24 blocks, which are hard for a search: of 24 and 96 periods, with 500 and 4,000 hourly orders. With --books they are the 60 of
-bench/make_blocks.py, with 24 blocks as users have them and 3,800 hourly orders, with --thin its thin and wide markets, and with --profiles
-random days with such blocks. Without numpy, random days have at most 12 blocks, and the others can't be tried. The last line printed is
+24 blocks, which are hard for a search: of 24 and 96 periods, with 500 and 4,000 hourly orders. With --books they are the 70 deep
+markets of bench/make_blocks.py, with 24 blocks, most of them as users have them, with --thin its thin markets, and with --profiles random
+days with such blocks. Without numpy, random days have at most 12 blocks, and the others can't be tried. The last line printed is
 'N passed, M failed'."""
 
+import argparse
 import random
-import subprocess
 import sys
-from pathlib import Path
+from collections import Counter
+from collections.abc import Iterator
 
 sys.dont_write_bytecode = True
-# an isolated Python leaves out the script's own folder
-sys.path[:0] = [str(Path(__file__).resolve().parents[2] / name) for name in ("tests/fuzz", "tests", "tools")]
+sys.path[:1] = [f"{sys.path[0]}/..", f"{sys.path[0]}/../../tools"]  # tests/ and tools/
 
-import compare
-from shared import days
+from shared import days, timed_program
 from shared.arguments import parser_of_cases
 from shared.counts import Counts
 from lib.audit import better
 from lib.journal import book, journal
+from lib.process.progress import Progress
 from lib.results import check, results, selection
 from lib.tool import exits, modules
-from lib.base.progress import Progress
+from shared.generated_books import generate_book
+from shared.place import TOP
 
-BENCH = Path(__file__).resolve().parents[2] / "bench"
 LEAST_BLOCKS, MOST_BLOCKS = 5, 24
 FEW_BLOCKS = 12  # of a day, without numpy
 
 
-def parse_arguments():
+def parse_arguments() -> argparse.Namespace:
     parser = parser_of_cases("tests/fuzz/enumerated.py", __doc__, "cases", 200)
     parser.add_argument("--blocks", type=int, help="how many blocks are submitted (any number up to 24)")
-    parser.add_argument("--wait", type=float, default=compare.SECONDS, help="how many seconds the program may take to answer (60)")
+    parser.add_argument("--wait", type=float, default=timed_program.SECONDS, help="how many seconds the program may take to answer (60)")
     kinds = parser.add_mutually_exclusive_group()
     kinds.add_argument("--families", action="store_true", help="the days of bench/make_family.py instead of random ones")
-    kinds.add_argument("--books", action="store_true", help="the days of bench/make_blocks.py instead of random ones")
-    kinds.add_argument("--thin", action="store_true", help="the thin and wide markets of bench/make_blocks.py instead of random days")
+    kinds.add_argument("--books", action="store_true", help="the deep markets of bench/make_blocks.py instead of random days")
+    kinds.add_argument("--thin", action="store_true", help="its thin markets")
     kinds.add_argument("--profiles", action="store_true", help="random days with blocks as users have them")
     parser.add_argument("--jobs", type=int, default=1, help="how many threads try the selections (1)")
     return parser.parse_args()
 
 
-def draw_inputs(args):
+def draw_inputs(args: argparse.Namespace) -> Iterator[tuple[str, bytes]]:
     """The days, each with a name."""
     wanted = slice(args.first - 1, args.first - 1 + args.count)
     if args.families or args.books or args.thin:
-        sys.path.insert(0, str(BENCH))
+        sys.path.insert(0, f"{TOP}/bench")
         import make_blocks
         import make_family
 
-        books = make_family.BOOKS if args.families else make_blocks.MORE if args.thin else make_blocks.BOOKS
+        books = make_family.DEEP if args.families else make_blocks.THIN if args.thin else make_blocks.DEEP
         for drawn in books[wanted]:
-            yield f"book {drawn.name}", run_script(drawn.script, drawn.words)
+            yield f"book {drawn.name}", generate_book(drawn.script, *drawn.words)
     else:
         for number in range(args.first, args.first + args.count):
             yield f"case {number} of seed {args.seed}", draw_day(random.Random(f"selections {args.seed} {number}"), args)
 
 
-def run_script(script, words):
-    """The output of a script of the bench."""
-    return subprocess.run([sys.executable, BENCH / script, *words], capture_output=True, check=True).stdout
-
-
-def draw_day(rng, args):
+def draw_day(rng: random.Random, args: argparse.Namespace) -> bytes:
     """A closed day with blocks whose prices and volumes meet, or not; or with profiles as users have them."""
     blocks = args.blocks or min(rng.randint(LEAST_BLOCKS, MOST_BLOCKS), args.most_blocks)
     if args.profiles:
@@ -79,7 +74,7 @@ def draw_day(rng, args):
     return days.text_of_lines([*draft.lines, "close,,,,,,,,"])
 
 
-def find_lower_selection_or_none(problem, accepted, welfare):
+def find_lower_selection_or_none(problem: selection.Problem, accepted: frozenset[int], welfare: int) -> tuple[frozenset[int], int] | None:
     """The best eligible selection below this one, and its welfare, of those that take one block in or out; a block that is out
     takes its descendants along, and one that is in takes its ancestors along and its rivals away. None if there is none."""
     found = []
@@ -91,7 +86,7 @@ def find_lower_selection_or_none(problem, accepted, welfare):
             away = {rival for group in problem.groups().values() if line & set(group) for rival in set(group) - line}
             away |= {below for rival in away for below in problem.rescuers[rival]}
             other = (accepted | line) - away
-        value = selection.eligible_welfare_or_none(problem, other)
+        value = selection.eligible_welfare(problem, other)
         if value is not None and selection.ranks_above(len(problem.blocks), welfare, accepted, value, other):
             found.append((value, [block in other for block in range(len(problem.blocks))], other))
     if not found:
@@ -100,20 +95,20 @@ def find_lower_selection_or_none(problem, accepted, welfare):
     return other, value
 
 
-def find_best_above(problem, said, jobs):
+def find_best_above(problem: selection.Problem, said: results.Results, jobs: int) -> tuple[frozenset[int], int] | None:
     """The selection that ranks above these results, as a set and its welfare; None if none does."""
     found, _ = better.search_by_enumeration(problem, said, Progress("fuzz", 600, quiet=True), jobs, few=0)
     return found and (found.accepted, found.welfare)
 
 
-def try_day(program, data, jobs):
+def try_day(program: timed_program.TimedProgram, data: bytes, jobs: int) -> tuple[str | None, str | None]:
     """The faults of a day, in words; and the altered results, None if they couldn't be."""
     problem = selection.Problem(book.book_and_refusals(journal.parse_journal(data))[0])
     got = program.capture_output(["clear"], data)
     if got.status:
         return f"the program ends with {got.stderr.decode().strip() or f'status {got.status}'}", None
     said, wrong = check.results_and_faults(problem, got.stdout)
-    if wrong:
+    if wrong or said is None:
         return wrong[0], None
     above = find_best_above(problem, said, jobs)
     if above:
@@ -125,7 +120,7 @@ def try_day(program, data, jobs):
     kind = "of less welfare" if altered[1] < said.welfare else "of the same welfare"
     text = results.results_text(problem, altered[0], selection.outcome(problem, altered[0])).encode()
     published, wrong = check.results_and_faults(problem, text)
-    if wrong:
+    if wrong or published is None:
         return f"altered to {sorted(altered[0])} it isn't as the rules say: {wrong[0]}", kind
     above = find_best_above(problem, published, jobs)
     if above != (accepted, said.welfare):
@@ -133,16 +128,16 @@ def try_day(program, data, jobs):
     return None, kind
 
 
-def main():
+def main() -> int:
     args = parse_arguments()
     modules.exec_with_modules("numpy")
     if args.families or args.books or args.thin or (args.blocks or 0) > FEW_BLOCKS:
         modules.exec_or_require_modules("numpy")
     args.most_blocks = MOST_BLOCKS if modules.has_module("numpy") else FEW_BLOCKS
-    program, counts, altered = compare.TimedProgram(args.program, args.wait), Counts(), {}
+    program, counts, altered = timed_program.TimedProgram(args.program, args.wait), Counts(), Counter[str]()
     for name, data in draw_inputs(args):
         wrong, kind = try_day(program, data, args.jobs)
-        altered[kind] = altered.get(kind, 0) + 1
+        altered[kind or ""] += 1
         counts.check(f"{name}: {wrong}", wrong is None)
     for kind in sorted(kind for kind in altered if kind):
         print(f"{altered[kind]} altered to an eligible selection {kind}")

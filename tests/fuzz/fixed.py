@@ -6,16 +6,16 @@ greatest length. The last line is 'N passed, M failed'."""
 
 import argparse
 import sys
-from pathlib import Path
+from collections.abc import Iterator
 
 sys.dont_write_bytecode = True
-sys.path[:0] = [str(Path(__file__).resolve().parents[2] / name) for name in ("tests", "tools")]
+sys.path[:1] = [f"{sys.path[0]}/..", f"{sys.path[0]}/../../tools"]  # tests/ and tools/
 
-import compare
+from shared import right_output, timed_program
 from shared.counts import Counts
 from lib.base import rules
-
-EXAMPLES = Path(__file__).resolve().parents[2] / "examples"
+from shared.place import EXAMPLES
+from shared.records import CLOSE
 
 OPEN = b"""day,24,,,,,,,
 submit,NORD,WIND-8,hour,sell,1200,8:450,,
@@ -26,22 +26,21 @@ amend,GAS,START,,,0,7:10;10:20,,
 amend,STAD,TOWN,,,29999,9:1000,,
 cancel,NORD,WIND-8,,,,,,
 """
-CLOSE = b"close,,,,,,,,\n"
 CLOSED = OPEN + CLOSE
 EMPTY = b"day,24,,,,,,,\n" + CLOSE
 LETTERS = "ABCDEFGH"
 
 
-def with_quotes(text):
+def with_quotes(text: bytes) -> bytes:
     """The same journal, with every field quoted, line ends of two bytes, and an empty line after each record."""
     return b"".join(b'"%b"\r\n\r\n' % record.replace(b",", b'","') for record in text.splitlines())
 
 
-def fronts_of(text):
+def fronts_of(text: bytes) -> list[bytes]:
     return [text[:count] for count in range(len(text) + 1)]
 
 
-def long_day():
+def long_day() -> bytes:
     """The greatest number of commands and participants of a day: blocks with a volume in each of 100 periods. The names have the greatest
     length, and so have nearly all numbers. The book refuses all but the first 24."""
     last = rules.GREATEST_PERIOD
@@ -54,14 +53,14 @@ def long_day():
     return "".join(f"{line}\n" for line in lines).encode()
 
 
-def inputs_with_commands():
+def inputs_with_commands() -> Iterator[tuple[str, list[str], bytes]]:
     """The commands, words and texts."""
-    for spelled in (bytes, with_quotes):
-        for front in fronts_of(spelled(EMPTY)) + fronts_of(spelled(CLOSED)):
+    for closed in (EMPTY, CLOSED, with_quotes(EMPTY), with_quotes(CLOSED)):
+        for front in fronts_of(closed):
             yield "replay", [], front
             yield "clear", [], front
-        for front in fronts_of(spelled(OPEN)):
-            yield "day", [], front
+    for front in fronts_of(OPEN) + fronts_of(with_quotes(OPEN)):
+        yield "day", [], front
     for command in ("replay", "clear", "day"):
         for end in (b"\n", b"A"):
             yield command, [], end * rules.MOST_BYTES
@@ -79,12 +78,12 @@ def inputs_with_commands():
     yield "day", [], day
 
 
-def main():
+def main() -> int:
     parser = argparse.ArgumentParser(prog="tests/fuzz/fixed.py", description=__doc__)
     parser.add_argument("program", metavar="PROGRAM", help="the built program, crates/dam_cli/out/dam_cli")
-    program, counts = compare.TimedProgram(parser.parse_args().program), Counts()
+    program, counts = timed_program.TimedProgram(parser.parse_args().program), Counts()
     for command, words, text in inputs_with_commands():
-        wrong = compare.try_command(program, command, words, text)
+        wrong = right_output.try_command(program, command, words, text)
         counts.check(f"{' '.join([command, *words])} of {len(text)} bytes that end with {text[-20:]!r}: {''.join(wrong[:1])}", not wrong)
     return counts.print_totals_and_return_status()
 

@@ -13,27 +13,27 @@ import random
 import resource
 import sys
 import time
+from collections.abc import Iterable
 from pathlib import Path
 
 sys.dont_write_bytecode = True
-sys.path[:0] = [str(Path(__file__).resolve().parents[2] / folder) for folder in ("tools", "tests")]
+sys.path[:1] = [f"{sys.path[0]}/..", f"{sys.path[0]}/../../tools"]  # tests/ and tools/
 
-from lib.sheets import cell_values, order_table, table_files
+from fuzz.broken_workbooks import BREAKS
+from lib.tables import cell_values, order_table, table_files
 from shared.arguments import parser_of_cases
+from shared.costly_workbooks import FEW, LARGE
 from shared.counts import Counts
-
-from broken_workbooks import BREAKS
-from costly_workbooks import FEW, LARGE
-from drawn_workbooks import RandomWorkbook, trimmed
+from shared.drawn_workbooks import RandomWorkbook, trimmed
 
 MOST_SECONDS, MOST_MEMORY, MOST_BYTES = 10, 42 * 2**20, 5 * 10**6
 
 
-def try_random_workbook(rng):
+def try_random_workbook(rng: random.Random) -> str | None:
     """What is wrong with the reader on a random workbook; None if nothing is."""
     drawn = RandomWorkbook(rng)
     broken = rng.choice(BREAKS) if rng.random() < 0.5 else None
-    words = broken(drawn) if broken else None
+    words = broken(drawn) if broken else ""
     data = words if isinstance(words, bytes) else drawn.draw_bytes()
     try:
         found = [(number, trimmed(cells)) for number, cells in table_files.parse_rows_and_add_notes(data)[0]]
@@ -45,16 +45,16 @@ def try_random_workbook(rng):
         return f"{broken and broken.__name__}: the reader fails: {fault!r}"
     if broken:
         return f"{broken.__name__}: no fault"
-    found, wanted = ([(number, marked_cells(cells)) for number, cells in rows if cells] for rows in (found, drawn.expected_rows()))
-    return None if found == wanted else f"it has {found} instead of {wanted}"
+    read, wanted = ([(number, marked_cells(cells)) for number, cells in rows if cells] for rows in (found, drawn.expected_rows()))
+    return None if read == wanted else f"it has {read} instead of {wanted}"
 
 
-def marked_cells(cells):
+def marked_cells(cells: Iterable[str]) -> list[tuple[str, bool]]:
     """The text of each cell, and whether every column refuses it."""
     return [(str(cell), is_refused(cell)) for cell in cells]
 
 
-def is_refused(cell):
+def is_refused(cell: str) -> bool:
     try:
         cell_values.refuse_unlike(cell, False)
         return False
@@ -62,7 +62,7 @@ def is_refused(cell):
         return True
 
 
-def try_in_fork(data, words):
+def try_in_fork(data: bytes, words: str | None) -> str:
     """What is wrong with a read, in a process of its own that may take as much time and memory as is allowed."""
     reading, writing = os.pipe()
     child = os.fork()
@@ -79,7 +79,7 @@ def try_in_fork(data, words):
     return f"it ends with {os.waitstatus_to_exitcode(status)}" if status else found
 
 
-def try_within_limits(data, words):
+def try_within_limits(data: bytes, words: str | None) -> str:
     """Limits this process, and returns the fault of a read in it."""
     pages = int(Path("/proc/self/statm").read_text().split()[0])
     resource.setrlimit(resource.RLIMIT_AS, (pages * resource.getpagesize() + MOST_MEMORY,) * 2)
@@ -97,7 +97,7 @@ def try_within_limits(data, words):
     return "" if words is None and fault and fault.startswith("line 2,") else f"another fault: {fault}"
 
 
-def main():
+def main() -> int:
     parser = parser_of_cases("tests/fuzz/workbooks.py", __doc__, "cases", 2_000, has_program=False)
     parser.add_argument("--large", action="store_true", help="also all workbooks that take memory or time")
     args = parser.parse_args()
@@ -108,7 +108,7 @@ def main():
     for name, (words, make) in {**FEW, **(LARGE if args.large else {})}.items():
         data = make()
         began = sum(resource.getrusage(resource.RUSAGE_CHILDREN)[:2])
-        wrong = try_in_fork(data, words) or (len(data) > MOST_BYTES and f"the case has {len(data)} bytes")
+        wrong = try_in_fork(data, words) or (f"the case has {len(data)} bytes" if len(data) > MOST_BYTES else "")
         seconds = sum(resource.getrusage(resource.RUSAGE_CHILDREN)[:2]) - began
         counts.check(f"{name}: {wrong} ({seconds:.1f} s)", not wrong)
     return counts.print_totals_and_return_status()

@@ -12,28 +12,28 @@ of a program as `rt ci` builds it: `tools/unproved` doesn't optimize, so count f
 
 import itertools
 import random
-import subprocess
-import sys
+from collections.abc import Iterable, Iterator, Sequence
 from pathlib import Path
 from typing import NamedTuple
 
-from instruction_costs import crowded_book
-from retried_calls import REFUSALS
-from right_answers import UNFINISHED
+from hostile.instruction_costs import crowded_book
+from hostile.retried_calls import REFUSALS
+from hostile.right_answers import UNFINISHED
+from hostile.runs_of_rows import RunsOfRows
+from lib.base import rules
 from shared.cost_tables import Cost
+from shared.full_days import BONDS, MARKETS, FullDay, Size
+from shared.generated_books import generate_book
 from shared.instructions import FIXED, measure_counts
+from shared.place import TOP
 from shared.preload import HostileProgram, RefusedCalls
 from shared.records import capture_colliding_names, journal_text, volumes_text
-from shared.shapes import COMMANDS, LONG, OTHERS, SHORT, SIDES, named_commands
-from lib.base import rules
+from shared.shapes import COMMANDS, LONG, OTHERS, SHORT, SIDES, Shape, named_commands
 
-import full  # of tests/fuzz
-
-TOP = Path(__file__).resolve().parents[2]
-HERE = Path(__file__).resolve().parent
+HERE = TOP / "tests/hostile"  # the folder of the tables
 FULL_HOURS, FULL_COMMANDS = rules.MOST_HOURLY - 10, 2_000  # of a full book, but for the orders that the commands submit
-SEARCHED = full.Size(480, 14, 1_000)
-WHOLE = full.Size(rules.MOST_HOURLY, rules.MOST_BLOCKS, rules.MOST_RECORDS)
+SEARCHED = Size(480, 14, 1_000)
+WHOLE = Size(rules.MOST_HOURLY, rules.MOST_BLOCKS, rules.MOST_RECORDS)
 LONG_TEXT = 2 << 20
 THIN = 240  # hourly orders of a thin market
 COLLIDING, CHANGES = 700, 1_500  # orders whose names collide, and the commands that change them
@@ -45,29 +45,30 @@ FAMILIES = ["market", "paradox", "spread", "nearties", "links", "groups", "ties"
 class Run(NamedTuple):
     """A run with these words and this text, and the statuses that it may end with; of another program, if one is given."""
 
-    words: list
+    words: list[str]
     data: bytes
-    statuses: tuple = (0,)
-    program: Path = None
+    statuses: tuple[int, ...] = (0,)
+    program: Path | None = None
 
     @property
-    def is_alone(self):
+    def is_alone(self) -> bool:
         """Whether one thread does it, so that it always makes as many calls for memory."""
         return self.words[:1] != ["clear"] or self.words[1:3] == ALONE[:2]
 
 
+Runs = Iterator[tuple[str, Run]]  # each with its name
 ALONE = ["--workers", "1", "--cut", "0"]
 REPLAY, CLEAR, DAY = ["replay"], ["clear", *ALONE], ["day", *ALONE]
 
 
-def runs_of_engines(shape, records, is_closed=True):
+def runs_of_engines(shape: Shape, records: Iterable[str], is_closed: bool = True) -> Iterator[Run]:
     """A journal as `dam replay` and as `dam day` take it."""
     records = list(records)
     yield Run(REPLAY, journal_text(records, is_closed, shape.periods))
     yield Run(DAY, journal_text(records, False, shape.periods))
 
 
-def runs_of_commands():
+def runs_of_commands() -> Runs:
     """Yields the runs on commands of each kind."""
     for shape in (SHORT, LONG):
         first = list(shape.submits_of_book())
@@ -83,18 +84,18 @@ def runs_of_commands():
             yield f"{run.words[0]} {shape.periods}: {about}", run
 
 
-def runs_of_full_books():
+def runs_of_full_books() -> Runs:
     """Yields the runs on full books: with commands of each kind, by one participant, and with orders that they refuse."""
     first = list(SHORT.submits_of_book(FULL_HOURS))
-    for about, records in named_commands(SHORT):
+    less_one = [*first, SHORT.cancel_of(SHORT.name_of(1))]
+    for about, commands in named_commands(SHORT):
         if about != "hourly orders":
-            records = [*first, SHORT.cancel_of(SHORT.name_of(1)), *itertools.islice(records, FULL_COMMANDS)]
-            yield f"replay of a full book: {about}", Run(REPLAY, journal_text(records))
-    records = [*first, *itertools.islice(dict(named_commands(SHORT))["blocks submitted and cancelled"], FULL_COMMANDS)]
-    yield "day of a full book: blocks submitted and cancelled", Run(DAY, journal_text(records, False))
-    *_, (about, records) = named_commands(SHORT)
-    records = [*first, SHORT.cancel_of(SHORT.name_of(1)), *itertools.islice(records, rules.MOST_DAY_COMMANDS - len(first) - 1)]
-    yield f"day of a full journal of one participant: {about}", Run(DAY, journal_text(records, False))
+            yield f"replay of a full book: {about}", Run(REPLAY, journal_text([*less_one, *itertools.islice(commands, FULL_COMMANDS)]))
+    cancelled = itertools.islice(dict(named_commands(SHORT))["blocks submitted and cancelled"], FULL_COMMANDS)
+    yield "day of a full book: blocks submitted and cancelled", Run(DAY, journal_text([*first, *cancelled], False))
+    *_, (about, commands) = named_commands(SHORT)
+    journal = journal_text([*less_one, *itertools.islice(commands, rules.MOST_DAY_COMMANDS - len(first) - 1)], False)
+    yield f"day of a full journal of one participant: {about}", Run(DAY, journal)
     for shape in (SHORT, LONG):
         hours = [shape.submit_of_hour(number) for number in range(rules.MOST_HOURLY)]
         refused = [shape.submit_of_hour(5_000 + number) for number in range(COMMANDS)]
@@ -103,7 +104,7 @@ def runs_of_full_books():
             yield f"replay {shape.periods}: {about}", Run(REPLAY, journal_text(records, True, shape.periods))
 
 
-def runs_of_participants():
+def runs_of_participants() -> Runs:
     """Yields the runs on a book in which each order has a participant of its own."""
     names = map("".join, itertools.product("ABCDEFGHIJKLMNOP", repeat=3))
     hours = [SHORT._replace(who=name).submit_of_hour(number) for number, name in enumerate(itertools.islice(names, rules.MOST_HOURLY))]
@@ -111,7 +112,7 @@ def runs_of_participants():
         yield f"{run.words[0]} of {rules.MOST_HOURLY:,} participants", run
 
 
-def runs_of_colliding_names(names):
+def runs_of_colliding_names(names: Sequence[str]) -> Runs:
     """Yields the runs on orders of these names, which collide. Most of their instructions are those of look-ups, so they show one more for
     each command: a command that is decided again, or an order that isn't found at the place of its outcome."""
     submits = [SHORT.submit_of_hour(number, name=name) for number, name in enumerate(names)]
@@ -122,14 +123,14 @@ def runs_of_colliding_names(names):
             yield f"{run.words[0]} of names that collide: hourly orders {about}", run
 
 
-def generate_runs_by_workers():
+def generate_runs_by_workers() -> Runs:
     """Yields the clearings of a book by each number of workers."""
-    data = generate_journal("make_blocks.py", "random", 20, 1, 1, 20, THIN, "free")
+    data = generate_book("make_blocks.py", "random", 20, 1, 1, 20, THIN, "free")
     for workers in range(2, MOST_WORKERS + 1):
         yield f"clear by {workers} workers", Run(["clear", "--workers", str(workers)], data)
 
 
-def runs_of_small_books():
+def runs_of_small_books() -> Runs:
     """Yields the runs on an empty book and on one order, on each length of a day."""
     for periods in rules.DAYS:
         shape = SHORT._replace(periods=periods)
@@ -138,7 +139,7 @@ def runs_of_small_books():
         yield f"clear of one order, {periods} periods", Run(CLEAR, journal_text([shape.submit_of_hour(0)], True, periods))
 
 
-def runs_of_closes():
+def runs_of_closes() -> Runs:
     """Yields the runs on orders and on closes of the operator, whose receipts are settled: `dam_refusals` enters them at a gate, and one
     close more."""
     for count in (30, 3_000):
@@ -146,14 +147,14 @@ def runs_of_closes():
         yield f"{count:,} closes at a gate", Run([], journal_text(records, False), program=REFUSALS)
 
 
-def runs_at_gates():
+def runs_at_gates() -> Runs:
     """Yields the runs on a full book on each length of a day: a keeper takes the orders, and then a gate, with a look after each of them."""
     for periods in rules.DAYS:
         data = journal_text(map(SHORT._replace(periods=periods).submit_of_hour, range(FULL_HOURS)), False, periods)
         yield f"{FULL_HOURS:,} orders at a gate, {periods} periods", Run([], data, program=REFUSALS)
 
 
-def runs_of_gaps():
+def runs_of_gaps() -> Runs:
     """Yields the runs on books from which an order was cancelled. Until its close, a book keeps a gap in the place of the order, and takes
     longer to find each later one."""
     for count in (30, 300, 2_900, FULL_HOURS):
@@ -162,11 +163,11 @@ def runs_of_gaps():
             yield f"{run.words[0]} of {count:,} orders less one", run
 
 
-def runs_of_searches():
+def runs_of_searches() -> Runs:
     """Yields the runs on a book of each length of a day in each market, without a limit that the search comes to, and some with one."""
-    for number, (market, periods) in enumerate(itertools.product(full.MARKETS, rules.DAYS)):
-        bonds, is_flat = full.BONDS[(number + number // 6) % 4], number % 2 == 0
-        drawn = full.FullDay(random.Random(f"shapes {market} {periods}"), periods, market, SEARCHED, is_flat, bonds)
+    for number, (market, periods) in enumerate(itertools.product(MARKETS, rules.DAYS)):
+        bonds, is_flat = BONDS[(number + number // 6) % 4], number % 2 == 0
+        drawn = FullDay(random.Random(f"shapes {market} {periods}"), periods, market, SEARCHED, is_flat, bonds)
         data, about = drawn.draw_text(), f"{market} {periods}, {bonds}"
         yield f"clear: {about}", Run(CLEAR, data)
         if number % 5 == 0:
@@ -177,41 +178,35 @@ def runs_of_searches():
             yield f"clear by {1 << cut} pieces, limited: {about}", Run(words, data, (0, UNFINISHED))
 
 
-def generate_journal(script, *words):
-    """A closed book that a script of the bench prints."""
-    words = [sys.executable, TOP / "bench" / script, *map(str, words)]
-    return subprocess.run(words, stdout=subprocess.PIPE, check=True).stdout
-
-
-def generate_runs_of_blocks():
+def generate_runs_of_blocks() -> Runs:
     """Yields the runs on blocks as users have them, in markets with few orders for a period, and on families of books that are hard."""
     for number, (kind, parts) in enumerate(itertools.product(KINDS, (1, 4))):
-        bonds = full.BONDS[(number + number // 2) % 4]
-        data = generate_journal("make_blocks.py", kind, 50, 1, parts, 12, 400, bonds)
+        bonds = BONDS[(number + number // 2) % 4]
+        data = generate_book("make_blocks.py", kind, 50, 1, parts, 12, 400, bonds)
         yield f"clear: {kind}, {24 * parts} periods, {bonds}", Run(CLEAR, data)
     for family in FAMILIES:
-        yield f"clear: {family}", Run(CLEAR, generate_journal("make_family.py", family, 400, 12))
+        yield f"clear: {family}", Run(CLEAR, generate_book("make_family.py", family, 400, 12))
     for count in (4, 8, *range(16, rules.MOST_BLOCKS + 1)):
-        data = generate_journal("make_blocks.py", "random", 20, 1, 1, count, THIN, "free")
+        data = generate_book("make_blocks.py", "random", 20, 1, 1, count, THIN, "free")
         yield f"clear: {count} blocks in a thin market", Run(CLEAR, data)
         if count == 16:
             words = [*CLEAR, "--nodes", str((2 << count) - 1)]
             yield f"clear: {count} blocks in a thin market, the least limit that can't bind", Run(words, data)
     for periods in rules.DAYS:
-        drawn = full.FullDay(random.Random(f"whole {periods}"), periods, "large", WHOLE, True, "free")
+        drawn = FullDay(random.Random(f"whole {periods}"), periods, "large", WHOLE, True, "free")
         yield f"clear: a full book of large blocks, {periods} periods", Run(CLEAR, drawn.draw_text())
     yield "clear of a crowded period up to a node", Run([*CLEAR, "--nodes", "1"], journal_text(crowded_book()), (UNFINISHED,))
 
 
-def generate_runs_of_one_sided_books():
+def generate_runs_of_one_sided_books() -> Runs:
     """Yields the clearings of books without the hourly orders of a side, and blocks with a volume of their own in each period."""
     for (kind, count), side in itertools.product((("shaped", 16), ("shaped", 20), ("random", 20)), SIDES):
-        data = generate_journal("make_blocks.py", kind, 20, 1, 1, count, THIN, "free").splitlines(keepends=True)
+        data = generate_book("make_blocks.py", kind, 20, 1, 1, count, THIN, "free").splitlines(keepends=True)
         kept = b"".join(line for line in data if f",hour,{side},".encode() not in line)
         yield f"clear: {count} {kind} blocks without an hourly {side}", Run(CLEAR, kept)
 
 
-def runs_of_walks():
+def runs_of_walks() -> Runs:
     """Yields searches by relaxed welfares: of books whose blocks are all accepted, and of books with large net volumes of either sign."""
     limited = [*CLEAR, "--nodes", "500"]
     for periods, count in ((24, 13), (24, rules.MOST_BLOCKS), (rules.GREATEST_PERIOD, rules.MOST_BLOCKS)):
@@ -224,7 +219,7 @@ def runs_of_walks():
         yield f"clear, limited: large {side} blocks", Run(limited, journal_text(draw_large_book(side)), (0, UNFINISHED))
 
 
-def draw_large_book(side):
+def draw_large_book(side: str) -> Iterator[str]:
     """A book of blocks of one side and of hourly orders with large volumes, nearly all in one period."""
     rng, periods = random.Random("large volumes"), [1] * 3_500 + [2, 3, 4] * 60
     for at, period in enumerate(periods):
@@ -234,12 +229,12 @@ def draw_large_book(side):
         yield f"submit,A,K-{at},block,{side},{cents},{found},,\n"
 
 
-def filled_text(begin, part, end=b""):
+def filled_text(begin: bytes, part: bytes, end: bytes = b"") -> bytes:
     """A long text, with that part as often as it fits."""
     return begin + part * ((LONG_TEXT - len(begin) - len(end)) // len(part)) + end
 
 
-def runs_of_long_texts():
+def runs_of_long_texts() -> Runs:
     """Yields the runs on long texts: most aren't journals."""
     day, close = b"day,24,,,,,,,\n", b"close,,,,,,,,\n"
     yield "replay of empty lines", Run(REPLAY, filled_text(day, b"\n", close))
@@ -258,7 +253,7 @@ def runs_of_long_texts():
         yield f"replay of {about}", Run(REPLAY, data, (1,))
 
 
-def runs_of_texts():
+def runs_of_texts() -> Runs:
     """Yields the runs on a text in each form, and on one with a fault in its last record; and on a full book in one form."""
     for words in (CLEAR, DAY):
         text = journal_text(map(SHORT.submit_of_hour, range(FULL_HOURS)), words == CLEAR)
@@ -276,7 +271,7 @@ def runs_of_texts():
         yield f"{words[0]} {shape.periods}: a fault", Run(words, text[:-1] + b",\n", (1,))
 
 
-def generate_runs_of_every_kind(room):
+def generate_runs_of_every_kind(room: Path) -> dict[str, Run]:
     books = [runs_of_commands(), runs_of_full_books(), runs_of_participants(), runs_of_small_books(), runs_of_closes(), runs_at_gates()]
     books += [runs_of_gaps(), runs_of_colliding_names(capture_colliding_names(room, COLLIDING))]
     scripts = [generate_runs_by_workers(), generate_runs_of_blocks(), generate_runs_of_one_sided_books()]
@@ -284,7 +279,7 @@ def generate_runs_of_every_kind(room):
     return dict(itertools.chain(*books, *searches, runs_of_texts(), runs_of_long_texts()))
 
 
-def measure_cost(program, run):
+def measure_cost(program: HostileProgram, run: Run) -> Cost:
     program = HostileProgram(run.program, program.room) if run.program else program
     printed, peak = program.run(run.words, run.data, RefusedCalls("peak"))
     if printed.status not in run.statuses:
@@ -294,7 +289,7 @@ def measure_cost(program, run):
     return Cost(found, peak, growths if run.is_alone else None)
 
 
-def measure_costs(runs):
+def measure_costs(runs: RunsOfRows) -> Iterator[tuple[str, Cost]]:
     """Yields the name of each run, and its cost."""
     tried = generate_runs_of_every_kind(runs.program.room)
     yield from zip(tried, runs.pool.map(lambda run: measure_cost(runs.program, run), tried.values()))

@@ -3,58 +3,52 @@ ROOM/collide."""
 
 import shutil
 import sys
-from pathlib import Path
 
 sys.dont_write_bytecode = True
-TESTS = Path(__file__).resolve().parents[1]
-sys.path[:0] = [str(TESTS), str(TESTS / "fuzz"), str(TESTS.parent / "tools")]
+sys.path[:1] = [f"{sys.path[0]}/..", f"{sys.path[0]}/../../tools"]  # tests/ and tools/
 
-import costs_by_shape
-import instruction_costs
-import peaks
-import program_checks
-import retried_calls
-import rows_of_runs
+from hostile import costs_by_shape, instruction_costs, peaks, program_checks, retried_calls, rows_of_runs
+from hostile.runs_of_rows import RunsOfRows
 from shared.cost_tables import check_costs, write_tables
 from shared.parts_asked import parse_parts_or_exit
 from shared.preload import HostileProgram
 
 
-def check_memory(runs):
+def check_memory(runs: RunsOfRows) -> None:
     runs.check_rows("memory refused once in the worked cases", rows_of_runs.rows_of_cases())
     runs.check_rows("memory refused from one call on in the worked cases", rows_of_runs.rows_of_cases_without_memory())
     runs.check_rows("memory refused in days and other runs", rows_of_runs.rows_of_memory())
 
 
-def check_calls(runs):
+def check_calls(runs: RunsOfRows) -> None:
     runs.check_rows("threads refused", rows_of_runs.rows_of_threads())
     runs.check_rows("random bytes refused", rows_of_runs.rows_of_random_bytes())
     runs.check_rows("reads and writes that fail", rows_of_runs.rows_of_devices())
     program_checks.check_devices(runs)
 
 
-def check_retries(runs):
+def check_retries(runs: RunsOfRows) -> None:
     retried_calls.check_rows(runs, runs.program.room, rows_of_runs.rows_of_calls(runs.program))
 
 
-def check_texts(runs):
+def check_texts(runs: RunsOfRows) -> None:
     program_checks.check_freed_texts(runs)
     program_checks.check_reads(runs)
     program_checks.check_writes(runs)
 
 
-def check_threads(runs):
+def check_threads(runs: RunsOfRows) -> None:
     program_checks.check_seeds(runs)
     program_checks.check_threads(runs)
     program_checks.check_strays(runs)
 
 
-def check_books(runs):
+def check_books(runs: RunsOfRows) -> None:
     program_checks.check_books_by_size(runs)
     program_checks.check_copies(runs)
 
 
-def check_shapes(runs):
+def check_shapes(runs: RunsOfRows) -> None:
     check_costs(runs, costs_by_shape.HERE, costs_by_shape.measure_costs(runs))
 
 
@@ -75,12 +69,13 @@ PARTS = {
 COUNTED = ["names", "cancels", "full", "shapes"]  # by valgrind
 
 
-def main():
+def main() -> int:
     room, program, *words = sys.argv[1:]
     asked = parse_parts_or_exit(words, PARTS)
-    runs = rows_of_runs.RunsOfRows(HostileProgram(program, room), asked.is_whole)
+    runs = RunsOfRows(HostileProgram(program, room), asked.is_whole)
     if asked.counts_only:
-        return write_tables(costs_by_shape.HERE, costs_by_shape.measure_costs(runs))
+        write_tables(costs_by_shape.HERE, costs_by_shape.measure_costs(runs))
+        return 0
     for name in asked.names:
         if name in COUNTED and not shutil.which("valgrind"):
             runs.leave_out(f"{name}: valgrind, which counts instructions, is missing")

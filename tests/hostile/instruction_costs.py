@@ -14,26 +14,29 @@ A run on a full book, or of a full journal, takes about as many instructions as 
 calls at a gate up to a full journal, each with a look after it. With a step for each order, command or look that goes over all orders,
 entries or receipts, they would take several times as many."""
 
+import functools
 import itertools
 import struct
+from collections.abc import Iterable, Iterator, Sequence
 from typing import NamedTuple
 
-from retried_calls import REFUSALS
-from right_answers import UNFINISHED
+from hostile.retried_calls import REFUSALS
+from hostile.right_answers import UNFINISHED
+from hostile.runs_of_rows import RunsOfRows
+from lib.base import rules
 from shared.instructions import DRAWN, FIXED, MOST_TIMES, TIMES, check_and_print_millions, measure_instructions
 from shared.preload import HostileProgram, RefusedCalls
 from shared.records import (
     ORDERS,
+    capture_colliding_names,
     full_journal,
     journal_text,
     ordinary_names,
     participant_codes,
-    capture_colliding_names,
     submits_of,
     submits_of_book,
     volumes_text,
 )
-from lib.base import rules
 
 CANCEL_TIMES = 2  # cancels take less than twice the instructions of others
 SOME = 1_000  # of the names, if there are many runs: with the fixed seed, those that collide take 20 times the instructions
@@ -48,22 +51,24 @@ AGAIN = 2_990  # the orders that are cancelled, each with a submit after it, so 
 SEARCH_TIMES = 1.5  # and as many for a search by relaxed welfares, most of whose time goes to finding places among many steps
 REFUSED = 500  # the commands that are refused, each after an accepted one
 # Each engine by its words, and the two calls of the gate that take a seed by those of `dam_refusals`; those of `OPEN` take no close.
-ENGINES = [["replay"], ["clear"], ["day"], ["clear", "--nodes", "20"], ["clear", "--workers", "1"], ["day", "--workers", "1", "--cut", "0"]]
-GATES = {"begin_seeded": [], "run_commands": ["threads"]}
+ENGINES: list[list[str]] = [["replay"], ["clear"], ["day"], ["clear", "--nodes", "20"], ["clear", "--workers", "1"], ["day", "--workers", "1", "--cut", "0"]]
+GATES: dict[str, list[str]] = {"begin_seeded": [], "run_commands": ["threads"]}
 OPEN = [*(words for words in ENGINES if words[0] == "day"), *GATES.values()]
 LOOKS = 49.7  # millions of instructions of the calls of `dam_refusals` up to a full journal, each with a look after it
 
 
-def check_names(runs):
+def check_names(runs: RunsOfRows) -> None:
     """Tries each engine and each call of the gate with a seed that is drawn and with the fixed one, and with a drawn one on a longer day
     with a second participant too."""
     refusals = HostileProgram(REFUSALS, runs.program.room)
-    tried = [(" ".join(words), runs.program, words) for words in ENGINES] + [(call, refusals, words) for call, words in GATES.items()]
+    tried: list[tuple[str, HostileProgram, list[str]]] = [(" ".join(words), runs.program, words) for words in ENGINES]
+    tried += [(call, refusals, words) for call, words in GATES.items()]
     lists = submits_of(ordinary_names()), submits_of(capture_colliding_names(runs.program.room))
+    plans: list[tuple[RefusedCalls, int, list[str]]] = [(DRAWN, 24, []), (FIXED, 24, []), (DRAWN, 96, ["submit,B,N-1,hour,buy,0,1:1,,\n"])]
     asked = [
         (program, words, journal_text(more + records, words not in OPEN, periods), refusal)
         for _, program, words in tried
-        for refusal, periods, more in ((DRAWN, 24, []), (FIXED, 24, []), (DRAWN, 96, ["submit,B,N-1,hour,buy,0,1:1,,\n"]))
+        for refusal, periods, more in plans
         for records in lists
     ]
     counts = list(runs.pool.map(lambda it: measure_instructions(*it), asked))
@@ -79,30 +84,36 @@ def check_names(runs):
     check_letters(runs)
 
 
-def runs_on_other_days(runs):
+def runs_on_other_days(runs: RunsOfRows) -> Iterator[tuple[str, HostileProgram, list[str], list[tuple[list[str], int]]]]:
     """Each engine and each call of the gate: its name, its program, its words, and the further words and the length of each day."""
     for word, days in WORKERS.items():
         yield word, runs.program, [word], [(["--workers", str(workers)], periods) for workers, periods in days.items()]
     refusals = HostileProgram(REFUSALS, runs.program.room)
-    for about, program, words in [("replay", runs.program, ["replay"]), *((call, refusals, words) for call, words in GATES.items())]:
-        yield about, program, words, [([], periods) for periods in OTHER_DAYS]
+    yield "replay", runs.program, ["replay"], [([], periods) for periods in OTHER_DAYS]
+    for call, words in GATES.items():
+        yield call, refusals, words, [([], periods) for periods in OTHER_DAYS]
 
 
-def check_names_on_other_days(runs):
+def measure_drawn(program: HostileProgram, given: tuple[list[str], bytes]) -> int:
+    """The instructions of a run with these words and this text, which draws its seed."""
+    return measure_instructions(program, *given, DRAWN)
+
+
+def check_names_on_other_days(runs: RunsOfRows) -> None:
     """Names that collide, with several workers and on other days, compared with others on the longest day."""
     others = submits_of(ordinary_names()[:SOME], LONG)
     colliding = submits_of(capture_colliding_names(runs.program.room, SOME, LONG), LONG)
     for name, program, words, days in runs_on_other_days(runs):
         texts = [(words, journal_text(others, words not in OPEN, 100))]
         texts += [(words + more, journal_text(colliding, words not in OPEN, periods)) for more, periods in days]
-        usual, *found = runs.pool.map(lambda it, program=program: measure_instructions(program, *it, DRAWN), texts)
+        usual, *found = runs.pool.map(functools.partial(measure_drawn, program), texts)
         for (more, periods), count in zip(days, found):
             about = f"{' '.join([name, *more])}, {periods} periods"
             took = f"{about}: names that collide take {count / usual:.1f} times the instructions of others"
             runs.check(took, count < TIMES * usual)
 
 
-def check_seed_bytes(runs):
+def check_seed_bytes(runs: RunsOfRows) -> None:
     """The seed is of all random bytes: names that collide under the seed of these take few instructions if any byte is another."""
     refusals = HostileProgram(REFUSALS, runs.program.room)
     records = submits_of(capture_colliding_names(runs.program.room, SOME, LONG, struct.unpack("<2Q", RANDOM)), LONG)
@@ -110,9 +121,9 @@ def check_seed_bytes(runs):
     others = [RANDOM[:place] + b"\0" + RANDOM[place + 1 :] for place in range(len(RANDOM))]
     asked = [(*engine, RANDOM) for engine in engines] + [(*engines[0], other) for other in others]
 
-    def run(program, words, random):
-        given = RefusedCalls("given", *struct.unpack("<2Q", random))
-        return measure_instructions(program, words, journal_text(records, words not in OPEN), given)
+    def run(program: HostileProgram, words: Sequence[str], given: bytes) -> int:
+        refusal = RefusedCalls("given", *struct.unpack("<2Q", given))
+        return measure_instructions(program, words, journal_text(records, words not in OPEN), refusal)
 
     counts = list(runs.pool.map(lambda it: run(*it), asked))
     slow, quick = counts[: len(engines)], counts[len(engines) :]
@@ -122,12 +133,12 @@ def check_seed_bytes(runs):
     runs.check(f"{took}: {slow}, {quick}", min(slow) > TIMES * max(quick))
 
 
-def texts_that_differ(length, place):
+def texts_that_differ(length: int, place: int) -> list[str]:
     """Texts of this length that differ in the letters from this place on alone."""
     return ["Z" * place + letters + "Z" * (length - place - len(letters)) for letters in VARIED]
 
 
-def submits_by_kind():
+def submits_by_kind() -> Iterator[list[str]]:
     """Yields the submits of orders whose participants, or whose names, differ in three letters alone: of each length, in each place."""
     for longest, is_name in ((rules.LONGEST_PARTICIPANT, False), (rules.LONGEST_NAME, True)):
         for length in range(3, longest + 1):
@@ -139,7 +150,7 @@ def submits_by_kind():
                     yield [record for text in texts for record in submits_of([f"B{length}"], text)]
 
 
-def check_letters(runs):
+def check_letters(runs: RunsOfRows) -> None:
     """Each letter of a participant and of a name is hashed. Orders of several kinds share a journal, and take about as long as others."""
     kinds = list(submits_by_kind())
     journals = [journal_text(itertools.chain.from_iterable(kinds[at : at + KINDS])) for at in range(0, len(kinds), KINDS)]
@@ -150,19 +161,19 @@ def check_letters(runs):
     runs.check(f"{took}: {counts}", times < KINDS_TIMES)
 
 
-def numbered_submits(numbers):
+def numbered_submits(numbers: Iterable[int]) -> list[str]:
     return submits_of(f"N-{number}" for number in numbers)
 
 
-def cancels_of(numbers):
+def cancels_of(numbers: Iterable[int]) -> list[str]:
     return [f"cancel,A,N-{number},,,,,,\n" for number in numbers]
 
 
-def in_alternation(*lists):
+def in_alternation(*lists: Iterable[str]) -> list[str]:
     return [record for records in zip(*lists) for record in records]
 
 
-def journals_with_cancels():
+def journals_with_cancels() -> dict[str, tuple[list[str], list[str]]]:
     """The records after the submits of a book's orders, by name, each with those that they are compared with."""
     oldest, newest = range(AGAIN), [ORDERS - 1] * AGAIN
     from_the_back = cancels_of(reversed(range(ORDERS)))
@@ -174,7 +185,7 @@ def journals_with_cancels():
     }
 
 
-def check_cancels(runs):
+def check_cancels(runs: RunsOfRows) -> None:
     """Counts the instructions of each journal with cancels, and of the one that it is compared with."""
     begin = numbered_submits(range(ORDERS))
     tried = {name: tuple(journal_text(begin + records) for records in both) for name, both in journals_with_cancels().items()}
@@ -187,19 +198,19 @@ def check_cancels(runs):
         runs.check(f"replay: {name} takes {times:.2f} times the instructions of the same from the back", times < CANCEL_TIMES)
 
 
-def refused_commands():
+def refused_commands() -> list[str]:
     """A full book, and by turns an amend and a submit that is refused because its order is there."""
     begin = [*submits_of_book(24)]
     amends = [f"amend,{code},N-{at},,,{4_000 + at},{1 + at % 24}:7,,\n" for at, code in zip(range(REFUSED), participant_codes())]
     return begin + in_alternation(amends, begin)
 
 
-def crowded_book():
+def crowded_book() -> list[str]:
     """A full book whose hourly orders are all in one period."""
     return [*submits_of_book(1, blocks=0), *submits_of_book(24, orders=0)]
 
 
-def submits_with_long_amends():
+def submits_with_long_amends() -> Iterator[str]:
     """Amends of a block in each period of the longest day."""
     periods = rules.GREATEST_PERIOD
     yield f"submit,A,K-1,block,sell,5000,{volumes_text(periods, lambda period: period)},,\n"
@@ -212,14 +223,14 @@ class WorkOfRun(NamedTuple):
     many, and the status."""
 
     periods: int
-    records: list
-    words: list
+    records: Iterable[str]
+    words: list[str]
     millions: float
     times: float = MOST_TIMES
     status: int = 0
 
 
-def runs_by_name():
+def runs_by_name() -> dict[str, WorkOfRun]:
     """Each run, by its name."""
     clear, day = ["clear", "--workers", "1"], ["day", "--workers", "1"]
     limited = [*clear, "--cut", "0", "--nodes"]
@@ -236,7 +247,7 @@ def runs_by_name():
     }
 
 
-def check_full_books(runs):
+def check_full_books(runs: RunsOfRows) -> None:
     """Counts the instructions of runs on full books, and of a journal that is filled at a gate."""
     tried = runs_by_name()
     asked = [(it.words, journal_text(it.records, it.words[0] != "day", it.periods), DRAWN, it.status) for it in tried.values()]

@@ -11,12 +11,14 @@ commands it holds at most LITTLE, and with some hundred at most EACH times the t
 twice, holds at most as much each time."""
 
 import itertools
+from collections.abc import Iterable, Iterator
 
-from retried_calls import REFUSALS
-from right_answers import UNFINISHED
+from hostile.retried_calls import REFUSALS
+from hostile.right_answers import UNFINISHED
+from hostile.runs_of_rows import RunsOfRows
+from lib.base import rules
 from shared.preload import HostileProgram, RefusedCalls
 from shared.printed import Printed
-from lib.base import rules
 
 TIMES, ROOM = 4, 10 << 20
 HELD, MORE = {"replay": 2.5, "clear": 2.8, "day": 4.9}, 1.5  # the megabytes that were held with a full book; a copy of the book takes 2
@@ -32,12 +34,12 @@ PERIODS = b";".join(b"%d:%d" % (period, rules.GREATEST_VOLUME) for period in ran
 NAMES = [b"K-%010d" % number for number in range(rules.MOST_BLOCKS)]
 
 
-def filled_text(begin, part, end=b""):
+def filled_text(begin: bytes, part: bytes, end: bytes = b"") -> bytes:
     """A text of the greatest length, or a few bytes less, with that part as often as it fits."""
     return begin + part * ((rules.MOST_BYTES - len(begin) - len(end)) // len(part)) + end
 
 
-def faulty_texts():
+def faulty_texts() -> Iterator[tuple[str, bytes, bytes]]:
     """Yields texts that aren't journals, each with the line of its fault."""
     for number, begin in [(1, b"day,24"), (2, DAY_RECORD)]:
         line = b"input: FieldCount in record %d\n" % number
@@ -59,25 +61,25 @@ def faulty_texts():
     yield "a byte too many", filled_text(b"", b"A") + b"A", b"input: TooLong\n"
 
 
-def block_submit(name):
+def block_submit(name: bytes) -> bytes:
     return b"submit,ABCDEFGH,%b,block,sell,%d,%b,,G-%b\n" % (name, rules.HIGHEST_PRICE, PERIODS, name[2:])
 
 
-def block_amend(name, cents=rules.HIGHEST_PRICE, volumes=PERIODS):
+def block_amend(name: bytes, cents: int = rules.HIGHEST_PRICE, volumes: bytes = PERIODS) -> bytes:
     return b"amend,ABCDEFGH,%b,,,%d,%b,,\n" % (name, cents, volumes)
 
 
-def with_quotes(records):
+def with_quotes(records: Iterable[bytes]) -> bytes:
     return b"".join(b'"%b"\r\n' % record.replace(b",", b'","') for record in b"".join(records).splitlines())
 
 
-def hourly_submits(count):
+def hourly_submits(count: int) -> list[bytes]:
     """As many hourly orders, in the shortest form."""
     sides = [b"buy", b"sell"]
     return [b"submit,A,%d,hour,%b,0,%d:1,,\n" % (at, sides[at % 2], at % 100 + 1) for at in range(count)]
 
 
-def long_journals():
+def long_journals() -> Iterator[tuple[str, bytes, list[list[str]]]]:
     """Yields journals, each with the engines that take it."""
     begin = [DAY_RECORD, *map(block_submit, NAMES)]
     full = [*begin, *(block_amend(NAMES[at % len(NAMES)]) for at in range(rules.MOST_DAY_COMMANDS - len(NAMES)))]
@@ -101,7 +103,7 @@ def long_journals():
     yield "a close after empty lines", filled_text(DAY_RECORD, b"\n", CLOSE), [REPLAY, CLEAR]
 
 
-def limited_journals():
+def limited_journals() -> Iterator[tuple[str, bytes, list[list[str]]]]:
     """Yields journals of a book at its limits, each with the engines whose search comes to a limit on nodes."""
     book = b"".join([DAY_RECORD, *map(block_submit, NAMES), *hourly_submits(rules.MOST_HOURLY)])
     full = book + b"cancel,A,X,,,,,,\n" * (rules.MOST_DAY_COMMANDS - rules.MOST_HOURLY - rules.MOST_BLOCKS)
@@ -110,7 +112,7 @@ def limited_journals():
         yield about, text, [[*DAY, *LIMIT]]
 
 
-def texts_with_engines():
+def texts_with_engines() -> Iterator[tuple[str, bytes, list[list[str]], bytes]]:
     """Yields each text, with the engines that it is tried with and the line of its fault, if it has one."""
     for about, text, line in faulty_texts():
         yield about, text, ENGINES, line
@@ -118,14 +120,14 @@ def texts_with_engines():
         yield about, text, engines, b""
 
 
-def most_bytes_of(engine, size):
+def most_bytes_of(engine: str, size: int) -> float:
     """The most bytes that an engine may hold at once, of a text of this size."""
     if size < SOME:
         return LITTLE + EACH * size * (size >= FEW)
     return HELD[engine] * MORE * 1e6 if size < SHORT else TIMES * size + ROOM
 
 
-def check_peaks(runs):
+def check_peaks(runs: RunsOfRows) -> None:
     """Runs each text, and compares the most bytes that the program held with the text's."""
     most = 0
     for about, text, engines, line in texts_with_engines():
@@ -146,7 +148,7 @@ def check_peaks(runs):
     print(f"the longest texts: at most {most / 1e6:.1f} MB were held at once", flush=True)
 
 
-def check_journals_read(runs):
+def check_journals_read(runs: RunsOfRows) -> None:
     """The same of the journals that `read_journal` returns, of short texts: `dam_refusals` holds two of each."""
     reader = HostileProgram(REFUSALS, runs.program.room)
     for about, text, _ in long_journals() if REFUSALS.exists() else ():

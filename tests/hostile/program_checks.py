@@ -1,18 +1,21 @@
 """Checks of the program on its own, each of one property: its streams, threads, seeds, texts, stacks and books of each size."""
 
 import fcntl
+import io
 import itertools
 import os
 import subprocess
 import sys
+from collections.abc import Iterator, Sequence
 
-import costs_by_shape
-import peaks
-import right_answers
-from shared.preload import LEFT, SECONDS, HostileProgram, RefusedCalls
-from rows_of_runs import AUCTION, CLOSE, DAY, OPEN_AUCTION, TOP
-from shared.printed import Printed
+from hostile import costs_by_shape, peaks, right_answers
+from hostile.rows_of_runs import AUCTION, OPEN_AUCTION
+from hostile.runs_of_rows import AnswerToRow, RunsOfRows
 from lib.base import rules
+from shared.generated_books import generate_book
+from shared.preload import LEFT, SECONDS, HostileProgram, RefusedCalls, Words
+from shared.printed import Printed
+from shared.records import CLOSE, DAY
 
 CHUNK = 65_536  # bytes of a read
 LENGTHS = [10_000, CHUNK - 1, CHUNK, 2 * CHUNK, 100_000, 1_000_000, 4_000_000, 10_000_000, rules.MOST_BYTES]  # of texts that are read
@@ -21,7 +24,7 @@ AMENDS = [9, 1_100, rules.MOST_DAY_COMMANDS - rules.MOST_BLOCKS - 100]  # of all
 SMALL_BOOK, STEP = 30, 250  # orders, and those that a book has more than the one before
 
 
-def run_with_closed_stream(program, words, data, stream):
+def run_with_closed_stream(program: HostileProgram, words: Words, data: bytes, stream: str) -> Printed:
     """The output if a standard stream is closed from the start."""
     command = ["sh", "-c", f'exec "$0" "$@" {stream}', program.path, *words]
     with open(program.write_input(data), "rb") as stdin:
@@ -29,7 +32,7 @@ def run_with_closed_stream(program, words, data, stream):
     return Printed(ran.returncode, ran.stdout, ran.stderr)
 
 
-def check_devices(runs):
+def check_devices(runs: RunsOfRows) -> None:
     """Standard streams that are closed or full, or that no program reads."""
     for words, data in [(["replay"], AUCTION), (["clear"], AUCTION), (["day"], OPEN_AUCTION), (["--help"], b"")]:
         runs.check(f"{words[0]} to a closed stream", is_failed_write(run_with_closed_stream(runs.program, words, data, ">&-")))
@@ -47,47 +50,47 @@ def check_devices(runs):
         runs.check(f"{words[0]} to a closed pipe", is_failed_write(got))
 
 
-def is_failed_write(got):
+def is_failed_write(got: Printed) -> bool:
     line = right_answers.WRITE.fullmatch(got.stderr)
     return line is not None and line[1] == b"0" and got == Printed(right_answers.MACHINE, b"", got.stderr)
 
 
-def check_seeds(runs):
+def check_seeds(runs: RunsOfRows) -> None:
     """Each engine draws one seed. This also shows that calls are counted at all."""
     for words, data in [(["replay"], AUCTION), (["clear"], AUCTION), (["day"], OPEN_AUCTION)]:
         _, asked = runs.program.run(words, data, RefusedCalls("random"))
         runs.check(f"{words[0]} asks for random bytes {asked} times, and not once", asked == 1)
 
 
-def check_threads(runs):
+def check_threads(runs: RunsOfRows) -> None:
     """A search starts a thread for each worker but one, whose work the calling thread does, and so does a day for its participants."""
     lines = [b"cancel,%c,X,,,,,,\n" % ord(code) for code in "ABCDEFGH"[: rules.MOST_DAY_PARTICIPANTS]]
-    tried = [
+    tried: list[tuple[str, bytes, int, Sequence[int], list[str]]] = [
         ("clear", AUCTION, 0, range(1, 9), []),
         ("clear", AUCTION, 0, (1, 8), ["--nodes", "67108863"]),
         ("day", OPEN_AUCTION, 7, (1, 3, 8), []),
     ]
     for periods in rules.DAYS:
         day = b"day,%d,,,,,,,\n" % periods
-        tried += [("clear", AUCTION.replace(DAY, day), 0, (1, 2, 8), more) for more in ([], ["--nodes", "10"])]
+        tried += [("clear", AUCTION.replace(DAY, day), 0, (1, 2, 8), more) for more in (list[str](), ["--nodes", "10"])]
         tried += [("day", day + b"".join(lines[: others + 1]), others, (1,), []) for others in range(len(lines))]
         tried.append(("day", day + 40 * b"".join(lines), len(lines) - 1, (1, 8), []))
     for word, data, others, counts, more in tried:
         for workers in counts:
             words = [word, "--workers", str(workers), "--cut", "8", *more]
             _, started = runs.program.run(words, data, RefusedCalls("thread"))
-            about = f"{' '.join(words)} of {data.splitlines()[0]}, {others} participants more: {started} threads"
+            about = f"{' '.join(words)} of {data.splitlines()[0]!r}, {others} participants more: {started} threads"
             runs.check(about, started == workers - 1 + others)
 
 
-def check_strays(runs):
+def check_strays(runs: RunsOfRows) -> None:
     """A program that writes while a thread of it still runs is found, so the runs of the rows leave none, whatever call is refused."""
     script = "import threading; threading.Thread(target=threading.Event().wait, daemon=True).start(); print()"
     got, _ = HostileProgram(sys.executable, runs.program.room).run(["-c", script], b"", right_answers.NOTHING_REFUSED)
     runs.check("a thread that isn't joined is found", got.stderr == LEFT)
 
 
-def check_freed_texts(runs):
+def check_freed_texts(runs: RunsOfRows) -> None:
     """The journal's text is freed before the search, and before the participants of a day are started."""
     for word, data in [("clear", AUCTION), ("day", OPEN_AUCTION)]:
         words, text = [word, "--workers", "8"], data + b"\n" * (1 << 20)
@@ -102,7 +105,7 @@ def check_freed_texts(runs):
             runs.check(f"{word} --workers {workers} asks for memory {made} times with its text, and not {least}", made == least)
 
 
-def check_reads(runs):
+def check_reads(runs: RunsOfRows) -> None:
     """A text is read in pieces of 65,536 bytes. A program that reads it byte by byte would be seen: it has as many reads as bytes."""
     for word, data in [("replay", AUCTION), ("clear", AUCTION), ("day", OPEN_AUCTION)]:
         text = data + b"\n" * (1 << 18)
@@ -117,7 +120,7 @@ def check_reads(runs):
                 check_whole_reads(runs, word, text, answer)
 
 
-def check_whole_reads(runs, word, text, answer):
+def check_whole_reads(runs: RunsOfRows, word: str, text: bytes, answer: AnswerToRow) -> None:
     """A text of any length is read by as few calls, from a file and from a pipe that holds it. Its empty lines change no answer."""
     about, right = f"{word} reads {len(text):,} bytes that end with {text[-1:]!r} of", -(-len(text) // CHUNK) + 1
     tried = [("file", lambda: runs.program.run([word], text, RefusedCalls("read")))]
@@ -130,12 +133,12 @@ def check_whole_reads(runs, word, text, answer):
     runs.program.write_input(text).unlink()
 
 
-def run_from_pipe(program, word, text):
+def run_from_pipe(program: HostileProgram, word: str, text: bytes) -> tuple[Printed, int]:
     with open_full_pipe(text) as pipe:
         return program.run([word], text, RefusedCalls("read"), source=pipe)
 
 
-def open_full_pipe(text):
+def open_full_pipe(text: bytes) -> io.FileIO:
     """The end of a pipe that has this text, and then nothing more."""
     ours, theirs = os.pipe()
     fcntl.fcntl(theirs, fcntl.F_SETPIPE_SZ, PIPE)
@@ -144,11 +147,11 @@ def open_full_pipe(text):
     return open(ours, "rb", buffering=0)
 
 
-def check_writes(runs):
+def check_writes(runs: RunsOfRows) -> None:
     """A text of any length is written by one call, if the stream takes it whole."""
     refused = DAY + b"cancel,ABCDEFGH,NAME-NUMBER1,,,,,,\n" * rules.MOST_DAY_COMMANDS
-    tried = [("replay", AUCTION, 500), ("replay", refused, 200_000), ("clear", AUCTION, 500), ("day", OPEN_AUCTION, 500)]
-    tried = [(*it, None) for it in tried] + [it for count in AMENDS for it in capture_amended_journals(runs.program, count)]
+    tried = [("replay", AUCTION, 500, b""), ("replay", refused, 200_000, b""), ("clear", AUCTION, 500, b""), ("day", OPEN_AUCTION, 500, b"")]
+    tried += [it for count in AMENDS for it in capture_amended_journals(runs.program, count)]
     for word, data, least, right in tried:
         got, made = runs.program.run([word], data, RefusedCalls("write"))
         about = f"{word} writes {len(got.stdout):,} bytes by {made} calls: status {got.status}, {got.stderr[:80]!r}"
@@ -158,7 +161,7 @@ def check_writes(runs):
         runs.program.write_input(data).unlink()
 
 
-def capture_amended_journals(program, count):
+def capture_amended_journals(program: HostileProgram, count: int) -> Iterator[tuple[str, bytes, int, bytes]]:
     """Yields a day of one participant whose blocks are amended so often, and its closed journal, each with its right output. All blocks
     are accepted, at one price. What a block gains shows its last amend."""
     begin = [b"day,100,,,,,,,\n", *map(peaks.block_submit, peaks.NAMES)]
@@ -172,7 +175,7 @@ def capture_amended_journals(program, count):
     yield "clear", closed, 100, short.stdout
 
 
-def check_books_by_size(runs):
+def check_books_by_size(runs: RunsOfRows) -> None:
     """Books of a few orders, and larger ones with a block, up to a full one, on each length of a day. With more orders, a run asks for
     memory at least as often, and holds at least as many bytes: a copy that is made of books of one size only would be seen."""
     sides, sizes = [b"buy", b"sell"], range(STEP, rules.MOST_HOURLY + 1, STEP)
@@ -190,20 +193,20 @@ def check_books_by_size(runs):
                 runs.check(f"{about}: {held} bytes, and {more_held} with more orders", held <= more_held)
 
 
-def check_stacks(runs):
+def check_stacks(runs: RunsOfRows) -> None:
     """512 KiB of stack are enough for a search, also of these books, whose search has prices of its own for the decisions on most of the 24
     blocks, one after the other."""
     small = ["sh", "-c", 'ulimit -s 512; exec "$@"', "sh"]
     for family in (["paradox", "500"], ["paradox", "4000", "24", "4"], ["nearties", "4000"]):
-        data = subprocess.run([sys.executable, TOP / "bench" / "make_family.py", *family], stdout=subprocess.PIPE, check=True).stdout
-        for limit, status in ([], 0), (["--nodes", "100"], right_answers.UNFINISHED):
+        data = generate_book("make_family.py", *family)
+        for limit, status in (list[str](), 0), (["--nodes", "100"], right_answers.UNFINISHED):
             words = ["clear", "--workers", "1", "--cut", "0", *limit]
             got, _ = runs.program.run(words, data, right_answers.NOTHING_REFUSED, under=small)
             about = f"{' '.join(words)} of {' '.join(family)} with 512 KiB of stack"
             runs.check(f"{about}: status {got.status}, {got.stderr[:80]!r}", got.status == status)
 
 
-def check_copies(runs):
+def check_copies(runs: RunsOfRows) -> None:
     """A day asks for memory as often for each command, however many orders the book holds: no command copies all orders, each into a block
     of its own. The instructions of runs on full books, which the part `shapes` counts, would show another copy."""
     records = ["submit,%s,N-%d,hour,buy,0,1:1,,\n", "amend,%s,N-%d,,,1,1:1,,\n", "cancel,%s,N-%d,,,,,,\n"]

@@ -2,16 +2,19 @@
 refused call changed nothing and that the same call then gives its row's answer."""
 
 import bisect
+from collections.abc import Iterable, Iterator, Sequence
 from pathlib import Path
 from typing import NamedTuple
 
-import right_answers
+from hostile import right_answers
+from hostile.runs_of_rows import RunsOfRows
 from lib.base import rules
 from lib.runs.by_library import MOST_NODES
+from shared.place import TOP
 from shared.preload import ABOVE_ANY_CALL, HostileProgram, RefusedCalls
 from shared.printed import Printed
 
-REFUSALS = Path(__file__).resolve().parents[2] / "crates/dam_refusals/out/dam_refusals"
+REFUSALS = TOP / "crates/dam_refusals/out/dam_refusals"
 # The output if memory is refused before the first call of the row: to its words or its input, or to the state that it needs.
 BEFORE = {Printed(1, b"", b"Error: Kind(OutOfMemory)\n"), Printed(0, b"memory\n", b"")}
 SPREAD = 40  # of the calls for memory of a long beginning, as many as this are refused
@@ -22,18 +25,18 @@ class RowOfRetries(NamedTuple):
     """A row of calls, each of which is refused memory once and then answered."""
 
     about: str
-    words: list
+    words: Sequence[str]
     data: bytes
     answer: str
     least: int = 1  # how many refusals come to the calls of the row, at least
     is_split: bool = False  # whether the state that the row needs is made between its calls too
     goes_on: bool = False  # whether a refused call for memory may change nothing: for a thread, whose work the caller does, or in `clap`
-    beginning: list = ()  # the words of a row that is this one's long beginning
+    beginning: Sequence[str] = ()  # the words of a row that is this one's long beginning
 
-    def right_output(self, refused):
+    def right_output(self, refused: int) -> Printed:
         return Printed(0, f"{self.answer}, {refused} calls refused\n".encode(), b"")
 
-    def is_right(self, printed):
+    def is_right(self, printed: Printed) -> bool:
         """Whether a run may print this, in which a call of the row itself was refused."""
         return printed == self.right_output(1) or self.goes_on and printed == self.right_output(0)
 
@@ -41,24 +44,24 @@ class RowOfRetries(NamedTuple):
 class RetryingRuns:
     """Runs of `dam_refusals`."""
 
-    def __init__(self, runs, room):
+    def __init__(self, runs: RunsOfRows, room: Path) -> None:
         self.runs = runs
         self.program = HostileProgram(REFUSALS, room)
 
-    def run_refused(self, row, refusal):
+    def run_refused(self, row: RowOfRetries, refusal: RefusedCalls) -> Printed:
         return self.program.run(row.words, row.data, refusal)[0]
 
-    def measure_count_of_calls(self, words, data):
+    def measure_count_of_calls(self, words: Sequence[str], data: bytes) -> int:
         """How many calls for memory it makes."""
         return self.program.run(words, data, RefusedCalls("memory", ABOVE_ANY_CALL, ABOVE_ANY_CALL))[1]
 
-    def refused_numbers(self, row, total):
+    def refused_numbers(self, row: RowOfRetries, total: int) -> list[int]:
         """The calls for memory that are refused: each, but of a long beginning only some; and one that no run comes to."""
         first = self.measure_count_of_calls(row.beginning, row.data) if row.beginning else 0
         begun = {1 + at * first // SPREAD for at in range(SPREAD)} if first else set()
         return sorted(begun | set(range(first + 1, total + 2)))
 
-    def run_and_check_row(self, row):
+    def run_and_check_row(self, row: RowOfRetries) -> int:
         """Refuses one call for memory after another. The first ones come before the row's calls; the others come from these, each of
         which is refused once and then answered."""
         check = self.runs.check
@@ -79,14 +82,14 @@ class RetryingRuns:
         return again
 
 
-def journals_at_gate(given):
+def journals_at_gate(given: Iterable[tuple[str, bytes]]) -> Iterator[RowOfRetries]:
     """Journals that are entered at a gate."""
     for about, data in given:
         entries = data.count(b"\n")
         yield RowOfRetries(f"{about} at a gate", [], data, f"{entries} entries", least=entries)
 
 
-def journals_on_threads(given):
+def journals_on_threads(given: Iterable[tuple[str, bytes]]) -> Iterator[RowOfRetries]:
     """Journals of which each participant enters its commands on a thread of its own, at a gate whose turnstile is called as often after its
     jobs as before."""
     for about, data in given:
@@ -94,14 +97,16 @@ def journals_on_threads(given):
         yield RowOfRetries(f"{about} on threads", ["threads"], data, f"{entries} entries", least=entries, goes_on=True)
 
 
-def rows_of_gates():
+def rows_of_gates() -> Iterator[RowOfRetries]:
     """Gates that refuse a call for another reason than memory: a full journal, and passes and receipts of others."""
     yield RowOfRetries("a journal that is filled", ["full"], b"", "10000 entries", least=2, beginning=["filled"])
     yield RowOfRetries("a gate that gives nine passes", ["others"], b"", "0 entries", least=9)
     yield RowOfRetries("receipts of other gates", ["settle"], b"", "2 entries", least=12, is_split=True)
 
 
-def capture_rows_of_texts(program, given, written):
+def capture_rows_of_texts(
+    program: HostileProgram, given: Iterable[tuple[str, bytes]], written: Iterable[tuple[str, bytes]]
+) -> Iterator[RowOfRetries]:
     """Texts that are read, and journals that are written."""
     for about, data in given:
         replies, _ = program.run(["replay"], data, right_answers.NOTHING_REFUSED)
@@ -112,7 +117,7 @@ def capture_rows_of_texts(program, given, written):
         yield RowOfRetries(f"{about}, written", ["write"], data, f"{data.count(LINE) - 1} entries")
 
 
-def rows_of_searches(two_equal, group):
+def rows_of_searches(two_equal: bytes, group: bytes) -> Iterator[RowOfRetries]:
     """Searches of the books of two equal blocks and of a group: by one worker and by several, and one that ends unfinished."""
     for plan in ["--workers 2 --cut 1", "--workers 4 --cut 2", "--workers 8 --cut 0", "--workers 8 --cut 8"]:
         words = ["search", "clear", *plan.split()]
@@ -143,13 +148,13 @@ LINES = [
 ]
 
 
-def rows_of_lines():
+def rows_of_lines() -> Iterator[RowOfRetries]:
     """Command lines that are read."""
     for line, answer in LINES:
         yield RowOfRetries(f"the line {line!r}", ["line", *line.split()], b"", answer, least=5, goes_on=True)
 
 
-def records_of_few_orders(periods):
+def records_of_few_orders(periods: int) -> Iterator[bytes]:
     """A day of some orders, every fifth of them a block."""
     yield b"day,%d,,,,,,,\n" % periods
     for at in range(COPIED):
@@ -157,10 +162,10 @@ def records_of_few_orders(periods):
         yield b"submit,A,%d,%b,%b,%d,%b,,\n" % (at, kind, [b"buy", b"sell"][at % 2], at, volumes)
 
 
-def check_copies_of_books(runs, room):
+def check_copies_of_books(runs: RunsOfRows, room: Path) -> None:
     """A gate copies its book for the call after one that was refused memory. So each call for memory at a gate is refused in turn, on each
     length of a day: the call is made again, and takes as many calls for memory on each length."""
-    refusals, made = RetryingRuns(runs, room), {}
+    refusals, made = RetryingRuns(runs, room), dict[int, list[int]]()
     for periods in rules.DAYS:
         data = b"".join(records_of_few_orders(periods))
         row = RowOfRetries(f"{COPIED} orders on {periods} periods", [], data, f"{COPIED + 1} entries")
@@ -170,13 +175,13 @@ def check_copies_of_books(runs, room):
         for plan, (got, _) in zip(plans, ran):
             runs.check(f"{row.about}: call {plan.first}: {got.stdout!r}, {got.stderr[:80]!r}", got == row.right_output(1))
         made[periods] = [count for _, count in ran]
-    least = [*map(min, zip(*made.values()))]
+    least = [min(counts) for counts in zip(*made.values())]
     for periods, counts in made.items():
         about = f"{COPIED} orders on {periods} periods take {sum(counts) - sum(least)} calls for memory more than on other lengths of a day"
         runs.check(about, counts == least)
 
 
-def check_rows(runs, room, rows):
+def check_rows(runs: RunsOfRows, room: Path, rows: Iterable[RowOfRetries]) -> None:
     runs.check("dam_refusals is built", REFUSALS.exists())
     if not REFUSALS.exists():
         return

@@ -3,7 +3,7 @@
 import re
 import threading
 
-from shared.preload import RefusedCalls
+from shared.preload import HostileProgram, RefusedCalls, Words
 from shared.printed import Printed, faults_of_journal
 from lib.journal import journal
 from lib.results import results
@@ -21,15 +21,15 @@ class RightAnswer:
     each participant's commands in their order and then the close, and its results are those that the program makes of that
     journal."""
 
-    def __init__(self, program, words, data):
+    def __init__(self, program: HostileProgram, words: Words, data: bytes) -> None:
         self.program = program
         self.data = data
         self.usual, _ = program.run(words, data, NOTHING_REFUSED)
         self.is_day = words[:1] == ["day"] and "--help" not in words and self.usual.status == 0
-        self.texts = {}
+        self.texts: dict[bytes, bool] = {}
         self.lock = threading.Lock()
 
-    def is_given_answer(self, got):
+    def is_given_answer(self, got: Printed) -> bool:
         if not self.is_day or got.status or got.stderr:
             return got == self.usual
         with self.lock:
@@ -37,8 +37,8 @@ class RightAnswer:
                 self.texts[got.stdout] = self.is_text_of_day(got.stdout)
             return self.texts[got.stdout]
 
-    def is_text_of_day(self, text):
-        parted = results.journal_and_results_or_none(text)
+    def is_text_of_day(self, text: bytes) -> bool:
+        parted = results.journal_and_results(text)
         if parted is None:
             return False
         written, published = parted
@@ -47,24 +47,24 @@ class RightAnswer:
         return not wrong and cleared == Printed(0, published, b"")
 
 
-def is_right_without_memory(answer, refusal, got, calls):
+def is_right_without_memory(answer: RightAnswer, refusal: RefusedCalls, got: Printed, calls: int) -> bool:
     """Memory is refused: the usual answer, or the line for memory, which needs no memory itself."""
     return answer.is_given_answer(got) or calls >= refusal.first and got == MEMORY
 
 
-def is_unchanged(answer, _refusal, got, _calls):
+def is_unchanged(answer: RightAnswer, _refusal: RefusedCalls, got: Printed, _calls: int) -> bool:
     """A refused thread or refused random bytes change no answer."""
     return answer.is_given_answer(got)
 
 
-def is_right_after_read(answer, refusal, got, calls):
+def is_right_after_read(answer: RightAnswer, refusal: RefusedCalls, got: Printed, calls: int) -> bool:
     """A failed read ends the run, and nothing is written."""
     if calls < refusal.first:
         return answer.is_given_answer(got)
     return got == READ
 
 
-def is_right_after_write(answer, refusal, got, calls):
+def is_right_after_write(answer: RightAnswer, refusal: RefusedCalls, got: Printed, calls: int) -> bool:
     """A failed write ends the run; the written bytes are the first of the text, and the line says how many."""
     text = answer.usual.stdout
     if calls < refusal.first:
@@ -74,7 +74,7 @@ def is_right_after_write(answer, refusal, got, calls):
     return line is not None and int(line[1]) == len(written) and got == Printed(MACHINE, written, got.stderr)
 
 
-def is_right_after_report(answer, refusal, got, calls):
+def is_right_after_report(answer: RightAnswer, refusal: RefusedCalls, got: Printed, calls: int) -> bool:
     """If the fault's line can't be written, its first bytes are there, and its status stays."""
     line = answer.usual.stderr
     if calls < refusal.first:

@@ -1,55 +1,36 @@
 """Rows of runs of the program: on one input, with each of its calls refused in turn."""
 
+from __future__ import annotations
+
 import errno
 import os
-import time
-from concurrent.futures import ThreadPoolExecutor
-from pathlib import Path
-from typing import NamedTuple
+from collections.abc import Callable, Iterator
+from typing import Any
 
-import retried_calls
-import right_answers
-from shared.preload import ABOVE_ANY_CALL, RefusedCalls
+from hostile import retried_calls, right_answers
+from hostile.retried_calls import RowOfRetries
+from hostile.runs_of_rows import ANY, FEW, AnswerToRow, RowOfRuns
 from shared import cases
-from shared.counts import Counts
+from shared.place import EXAMPLES
+from shared.preload import ABOVE_ANY_CALL, HostileProgram, RefusedCalls, Words
+from shared.printed import Printed
+from shared.records import CLOSE, DAY
 
-TOP = Path(__file__).resolve().parents[2]
-EXAMPLES = TOP / "examples"
-SHOWN = 10  # differences of a row
-FEW, MANY = 40, 200  # how many calls of a row are refused if not each is
+MANY = 200  # how many calls of a large row are refused if not each is
 SMALL = 1_100  # each call for memory of a worked case is refused if it makes no more than this
-ANY = 10_000  # more calls than any row makes of which each has to be refused
 
 
-class RowOfRuns(NamedTuple):
-    """Runs on one input that differ in the number of the refused call."""
-
-    about: str
-    words: list
-    data: bytes
-    kind: str
-    judge: object
-    last: object = None  # the last refused call, if that isn't the first one
-    error: int = 0
-    most: int = 0
-    each: int = FEW  # without --all, each call is refused if a run has no more than this
-    some: int = FEW  # of a run that has more, as many as this, evenly spread
-
-    def refused_calls(self, number):
-        return RefusedCalls(self.kind, number, self.last or number, self.error, self.most)
-
-
-def records_of_example(name, wanted=lambda record: True):
+def records_of_example(name: str, wanted: Callable[[bytes], bool] = lambda record: True) -> bytes:
     """The records of an example that are wanted, with the day's."""
     day, *rest = (EXAMPLES / name).read_bytes().splitlines(keepends=True)
     return b"".join([day, *filter(wanted, rest)])
 
 
-def is_command(record):
+def is_command(record: bytes) -> bool:
     return not record.startswith(b"close")
 
 
-def read_worked_cases():
+def read_worked_cases() -> list[tuple[str, list[str], bytes]]:
     """The worked cases for the built program: each with its name, its words and its input."""
     return [(case.name, case.words, case.stdin) for case in cases.read_all_cases()]
 
@@ -63,8 +44,6 @@ ONE_PARTICIPANT = records_of_example("auction-day.csv", lambda record: b",GAS," 
 BROKEN = AUCTION + b"amend,NORD\n"
 QUOTED = b"".join(b'"%b"\r\n' % record.replace(b",", b'","') for record in AUCTION.splitlines())
 QUOTED_IN_PART = AUCTION.replace(b"submit", b'"sub"mit').replace(b"close", b'"clo"se')
-DAY = b"day,24,,,,,,,\n"
-CLOSE = b"close,,,,,,,,\n"
 TWO_ORDERS = DAY + b"submit,A,S1,hour,sell,3000,1:10,,\nsubmit,B,B1,hour,buy,5000,1:10,,\n"
 TWO_BLOCKS = TWO_ORDERS + b"submit,A,K1,block,sell,4000,1:5,,\nsubmit,A,K2,block,sell,4000,1:5,K1,\n"
 # The longest day, with the longest names and codes, and blocks and amends of 100 volumes.
@@ -86,25 +65,25 @@ CLOSED_FIRST = DAY + CLOSE + b"submit,A,B1,hour,buy,5000,1:10,,\namend,A,B1,,,50
 CUTTINGS = [["--workers", "1", "--cut", "0"], ["--workers", "2", "--cut", "3"], ["--workers", "8", "--cut", "8"]]
 
 
-def row_of_growths(about, words, data, **how):
+def row_of_growths(about: str, words: Words, data: bytes, **how: Any) -> RowOfRuns:
     return RowOfRuns(about, words, data, "memory", right_answers.is_right_without_memory, **how)
 
 
-def rows_of_cases():
+def rows_of_cases() -> Iterator[RowOfRuns]:
     """One call for memory refused in the worked cases: each in turn, but in a few large ones."""
     for about, words, data in read_worked_cases():
         yield row_of_growths(f"{about}, one growth", words, data, each=SMALL)
 
 
-def rows_of_cases_without_memory():
+def rows_of_cases_without_memory() -> Iterator[RowOfRuns]:
     """All calls for memory refused from one on, in the worked cases."""
     for about, words, data in read_worked_cases():
         yield row_of_growths(f"{about}, all growths from one on", words, data, last=ABOVE_ANY_CALL, each=0, some=8)
 
 
-def rows_of_memory():
+def rows_of_memory() -> Iterator[RowOfRuns]:
     """A call for memory refused alone, and with all that come later."""
-    inputs = [
+    inputs: list[tuple[str, list[str], bytes, int]] = [
         ("clear of two blocks by eight workers", ["clear", "--workers", "8", "--cut", "8"], TWO_BLOCKS + CLOSE, ANY),
         ("day of two blocks", ["day"], TWO_BLOCKS, ANY),
         ("replay of the auction day", ["replay"], AUCTION, MANY),
@@ -121,7 +100,7 @@ def rows_of_memory():
         ("replay of the longest day", ["replay"], LONGEST_DAY + CLOSE, FEW),
         ("clear of the longest day", ["clear"], LONGEST_DAY + CLOSE, FEW),
         ("day of the longest day", ["day"], LONGEST_DAY, FEW),
-        ("a word that isn't UTF-8", [b"\xff"], b"", ANY),
+        ("a word that isn't UTF-8", [os.fsdecode(b"\xff")], b"", ANY),
     ]
     inputs += [(f"{word} by {' '.join(plan)}", [word, *plan], data, FEW)
                for plan in CUTTINGS for word, data in [("clear", AUCTION), ("day", OPEN_AUCTION)]]
@@ -131,7 +110,7 @@ def rows_of_memory():
         yield row_of_growths(f"{about}, all growths from one on", words, data, last=ABOVE_ANY_CALL, each=each, some=some // 2)
 
 
-def rows_of_calls(program):
+def rows_of_calls(program: HostileProgram) -> Iterator[RowOfRetries]:
     """Rows whose calls `dam_refusals` makes, each again if it was refused memory."""
     worked = {name: (words, data) for name, words, data in read_worked_cases()}
     days = [("two orders", TWO_ORDERS)]
@@ -146,7 +125,7 @@ def rows_of_calls(program):
     yield from retried_calls.rows_of_lines()
 
 
-def rows_of_threads():
+def rows_of_threads() -> Iterator[RowOfRuns]:
     for plan in CUTTINGS:
         for word, data in [("clear", AUCTION), ("day", OPEN_AUCTION)]:
             about, words = f"{word} by {' '.join(plan)}", [word, *plan]
@@ -155,13 +134,13 @@ def rows_of_threads():
             yield row._replace(about=f"{about}, all threads from one on", last=ABOVE_ANY_CALL)
 
 
-def rows_of_random_bytes():
+def rows_of_random_bytes() -> Iterator[RowOfRuns]:
     for words, data in [(["replay"], AUCTION), (["clear"], AUCTION), (["day"], OPEN_AUCTION)]:
         for error in [errno.EIO, errno.ENOSYS]:
             yield RowOfRuns(f"{words[0]} without random bytes", words, data, "random", right_answers.is_unchanged, error=error)
 
 
-def rows_of_devices():
+def rows_of_devices() -> Iterator[RowOfRuns]:
     jobs = [(["replay"], CLOSED_FIRST, ANY), (["replay"], FIRST, FEW), (["replay"], AUCTION, FEW), (["clear"], AUCTION, FEW),
             (["day"], ONE_PARTICIPANT, FEW)]
     for words, data, each in jobs:
@@ -182,85 +161,8 @@ def rows_of_devices():
             yield RowOfRuns(about, words, data, "report", right_answers.is_right_after_report, last=ABOVE_ANY_CALL, error=error, most=1)
 
 
-def is_right_at_end_of_input(answer, refusal, got, calls):
+def is_right_at_end_of_input(answer: AnswerToRow, refusal: RefusedCalls, got: Printed, calls: int) -> bool:
     """A read of 0 bytes is the end of the input: the answer is the answer to the bytes before it."""
     if calls < refusal.first:
         return answer.is_given_answer(got)
     return answer.capture_front(refusal.moved_before(len(answer.data))).is_given_answer(got)
-
-
-class RunsOfRows(Counts):
-    """The runs of rows, side by side, and how many were right."""
-
-    def __init__(self, program, whole):
-        super().__init__()
-        self.program = program
-        self.whole = whole
-        self.pool = ThreadPoolExecutor(os.cpu_count() or 1)
-        self.answers = {}
-        self.tried = self.calls = 0  # the runs, and how many there would be if each call were refused
-        self.rows = self.whole_rows = 0  # all rows, and those of which each call was refused
-
-    def capture_answer(self, words, data):
-        key = (tuple(words), data)
-        if key not in self.answers:
-            self.answers[key] = AnswerToRow(self, words, data)
-        return self.answers[key]
-
-    def refused_numbers(self, row, total):
-        """The refused calls: each, and one that no run comes to; or some of them, evenly spread."""
-        if self.whole or total <= row.each:
-            return list(range(1, total + 2))
-        return sorted({1 + at * total // (row.some - 1) for at in range(row.some)})
-
-    def try_call(self, row, answer, number):
-        """The fault of a run, or nothing."""
-        refusal = row.refused_calls(number)
-        got, calls = self.program.run(row.words, row.data, refusal)
-        if row.judge(answer, refusal, got, calls):
-            return None
-        return f"differs: {row.about}: call {number}: status {got.status}, {len(got.stdout)} bytes, {got.stderr[:80]!r}"
-
-    def run_and_check_row(self, row):
-        begun = time.monotonic()
-        answer = self.capture_answer(row.words, row.data)
-        _, total = self.program.run(row.words, row.data, row.refused_calls(ABOVE_ANY_CALL))
-        if row.kind == "memory":
-            self.check(f"{row.about}: {total} calls are counted", total > 0)
-        numbers = self.refused_numbers(row, total)
-        if row.each == ANY:
-            self.check(f"{row.about}: each of {total} calls is refused", len(numbers) == total + 1)
-        self.tried += len(numbers)
-        self.calls += total + 1
-        self.rows += 1
-        self.whole_rows += len(numbers) == total + 1
-        found = list(self.pool.map(lambda number: self.try_call(row, answer, number), numbers))
-        wrong = [line for line in found if line]
-        self.passed += found.count(None)
-        self.failed += len(wrong)
-        if self.whole or wrong:
-            print(f"{row.about}: {len(numbers)} runs of {total + 1}, {len(wrong)} wrong, {time.monotonic() - begun:.1f} s")
-        print("\n".join(wrong[:SHOWN]), end="\n" if wrong else "", flush=True)
-
-    def check_rows(self, about, rows):
-        """Runs the rows. Says in how many of them each call was refused, and how many runs were left out in the others."""
-        begun, passed, failed = time.monotonic(), self.passed, self.failed
-        before = self.tried, self.calls, self.rows, self.whole_rows
-        for row in rows:
-            self.run_and_check_row(row)
-        after = self.tried, self.calls, self.rows, self.whole_rows
-        tried, calls, count, whole = (now - then for now, then in zip(after, before))
-        shown = f"each call in {whole} of {count} rows; {tried} of {calls} runs, {calls - tried} left out"
-        took = time.monotonic() - begun
-        print(f"{about}: {shown}; {self.passed - passed} right, {self.failed - failed} wrong, {took:.1f} s", flush=True)
-
-
-class AnswerToRow(right_answers.RightAnswer):
-    def __init__(self, runs, words, data):
-        super().__init__(runs.program, words, data)
-        self.runs = runs
-        self.words = words
-
-    def capture_front(self, count):
-        """The answer to the first `count` bytes."""
-        return self.runs.capture_answer(self.words, self.data[:count])

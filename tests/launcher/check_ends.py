@@ -8,9 +8,10 @@ import subprocess
 import sys
 import tempfile
 import types
+from collections.abc import Sequence
 from importlib.machinery import SourceFileLoader
 
-from repository import FORKING, RepositoryCase
+from launcher.repository import FORKING, RepositoryCase
 
 # A part of a check: it starts a process that doesn't end at SIGTERM, and while any of them runs, the file `running` is open.
 PART = """#!/bin/sh
@@ -21,7 +22,7 @@ wait
 
 
 class CheckTests(RepositoryCase):
-    def start_and_assert_end(self, status, signals, ignored=()):
+    def start_and_assert_end(self, status: int, signals: Sequence[int], ignored: Sequence[str] = ()) -> None:
         """Starts a check that ignores some signals, sends signals to it, but not to the part that is running, and sees how both end."""
         running = os.open(f"{self.at.top}/running", os.O_RDONLY | os.O_NONBLOCK)
         shell = [f"trap '' {name}" for name in ignored] + ['exec "$0" --no-install']
@@ -35,14 +36,14 @@ class CheckTests(RepositoryCase):
         self.wait_for(lambda: self.read_pipe_or_none(running) == b"")
         os.close(running)
 
-    def read_pipe_or_none(self, running):
+    def read_pipe_or_none(self, running: int) -> bytes | None:
         """The written bytes: nothing (None) as yet, or no bytes if nobody has it open for writing."""
         try:
             return os.read(running, 100)
         except BlockingIOError:
             return None
 
-    def test_proved_or_kept_libraries_are_copied(self):
+    def test_proved_or_kept_libraries_are_copied(self) -> None:
         check = types.ModuleType("check")
         check.__file__ = f"{self.at.top}/check"
         SourceFileLoader("check", check.__file__).exec_module(check)
@@ -58,7 +59,7 @@ class CheckTests(RepositoryCase):
         self.assertIn("proved 0.0 minutes after the start", rows[0])
         self.assertIn("proved by an earlier run", rows[1])
 
-    def test_a_crate_takes_the_time_of_its_proof(self):
+    def test_a_crate_takes_the_time_of_its_proof(self) -> None:
         check = types.ModuleType("check")
         check.__file__ = f"{self.at.top}/check"
         SourceFileLoader("check", check.__file__).exec_module(check)
@@ -83,7 +84,7 @@ class CheckTests(RepositoryCase):
             self.assertEqual(len(list(crates.rows())), 1)
             self.assertEqual(set(crates.seconds), counted)
 
-    def test_totals_are_written_with_the_commit(self):
+    def test_totals_are_written_with_the_commit(self) -> None:
         check = types.ModuleType("check")
         check.__file__ = f"{self.at.top}/check"
         SourceFileLoader("check", check.__file__).exec_module(check)
@@ -104,7 +105,7 @@ class CheckTests(RepositoryCase):
             told = json.loads(self.at.read("out/check.json"))
             self.assertEqual((told["commit"], told["command"], told["passed"], told["failed"]), (of, "./check", 7, 1))
 
-    def test_a_signal_ends_the_part_as_a_whole(self):
+    def test_a_signal_ends_the_part_as_a_whole(self) -> None:
         with FORKING:
             self.at.write("tests/wrong-bodies", PART)
         os.chmod(f"{self.at.top}/tests/wrong-bodies", 0o755)

@@ -7,14 +7,13 @@ import subprocess
 import sys
 import time
 
-from repository import FORKING, IGNORING_SIGCHLD, LIBRARIES, PROGRAM, TOP, RepositoryCase, TerminalRun
-
+from launcher.repository import FORKING, IGNORING_SIGCHLD, LIBRARIES, PROGRAM, RepositoryCase, TerminalRun
+from shared.place import TOP
 
 # Prints `read_possible_jobs` of tools/prove with a number of processors and with files, each given by its path and its text.
-JOBS = """import importlib.machinery, importlib.util, io, os, sys
-loader = importlib.machinery.SourceFileLoader("prove", sys.argv[1])
-prove = importlib.util.module_from_spec(importlib.util.spec_from_loader("prove", loader))
-loader.exec_module(prove)
+JOBS = """import builtins, io, os, sys
+sys.path.insert(0, sys.argv[1])
+from lib.proving import plan
 files = dict(zip(sys.argv[3::2], sys.argv[4::2]))
 
 def open_given_file(path, **_):
@@ -23,13 +22,13 @@ def open_given_file(path, **_):
     return io.StringIO(files[path])
 
 os.sched_getaffinity = lambda _: range(int(sys.argv[2]))
-prove.open = open_given_file
-print(prove.read_possible_jobs())
+builtins.open = open_given_file
+print(plan.read_possible_jobs())
 """
 
 
 class ProveTests(RepositoryCase):
-    def test_order_and_copies(self):
+    def test_order_and_copies(self) -> None:
         for name in ("left", "right"):
             self.at.write(f"crates/{name}/src/lib.rt", f"SECONDS 0.6 {name}")
         status, out, error = self.at.run_prove("--jobs", "2", "dam_cli")
@@ -47,25 +46,27 @@ class ProveTests(RepositoryCase):
         for name in ("low", "left", "right", "high"):
             self.assertEqual(self.at.read(f"crates/{name}/out/rlib/{name}.rlib/checked"), name)
 
-    def test_proofs_end_if_sigchld_is_ignored(self):
+    def test_proofs_end_if_sigchld_is_ignored(self) -> None:
         words = sys.executable, "-c", IGNORING_SIGCHLD, f"{self.at.top}/tools/prove", "dam_cli"
         self.assertEqual(self.at.run(*words)[0], 0)
         self.at.write("crates/dam_cli/src/main.rt", f"{PROGRAM}# REFUSED")
         self.assertEqual(self.at.run(*words)[0], 1)
 
-    def test_kept_work(self):
+    def test_kept_work(self) -> None:
         self.at.run_prove("dam_cli")
         self.at.run_prove("dam_cli")
         self.assertEqual(self.at.read("crates/low/out/incremental/begun"), "begun\n" * 2)
 
-    def test_other_programs(self):
+    def test_other_programs(self) -> None:
         self.assertEqual(self.at.run_prove("other")[0], 0)
         self.assertTrue(os.access(f"{self.at.top}/crates/other/out/other", os.X_OK))
-        for wrong in (["low"], ["nothing"], ["--jobs", "0", "dam_cli"], []):
+        for wrong in (("low",), ("nothing",), ("--jobs", "0", "dam_cli"), ()):
             status, out, error = self.at.run_prove(*wrong)
             self.assertEqual((status, out), (2, ""))
+        lacks = self.at.make_environment_without("rt")
+        self.assertEqual(self.at.run_prove("dam_cli", env=lacks), (1, "", "there is no rt on the path\n"))
 
-    def test_two_programs(self):
+    def test_two_programs(self) -> None:
         """They are proved side by side; each library is proved once, and each program is recorded."""
         for name in ("dam_cli", "dam_desk"):
             self.at.write(f"crates/{name}/src/main.rt", f"{PROGRAM}# SECONDS 1.5")
@@ -80,7 +81,7 @@ class ProveTests(RepositoryCase):
         for wrong in (["dam_cli", "low"], ["low", "dam_cli"]):
             self.assertEqual(self.at.run_prove(*wrong)[:2], (2, ""))
 
-    def test_one_of_two_programs_fails(self):
+    def test_one_of_two_programs_fails(self) -> None:
         for refused, other in (("dam_cli", "dam_desk"), ("dam_desk", "dam_cli")):
             self.at.write(f"crates/{refused}/src/main.rt", f"{PROGRAM}# REFUSED")
             status, _, error = self.at.run_prove("dam_cli", "dam_desk")
@@ -92,17 +93,17 @@ class ProveTests(RepositoryCase):
             self.assertIsNone(self.capture_stale_words_or_none(refused))
             shutil.rmtree(f"{self.at.top}/crates/{other}/out")
 
-    def test_the_files_of_a_programs_run(self):
-        """The files of data/ are in the folder of the run, and none of them gets into the crate's."""
+    def test_the_files_of_a_programs_run(self) -> None:
+        """The files of data/ are in the folder of the run, and none of them gets into the crate's. Its input is the file stdin."""
         self.at.write("crates/dam_desk/data/of/it", "the data")
-        self.at.write("crates/dam_desk/src/main.rt", '#!/bin/sh\n[ "$(cat of/it)" = "the data" ] && : > of/made && : > made')
+        self.at.write("crates/dam_desk/src/main.rt", '#!/bin/sh\n[ "$(cat of/it) $(cat)" = "the data for the first run" ] && : > of/made && : > made')
         self.assertEqual(self.at.run_prove("dam_desk")[0], 0)
         self.assertEqual(sorted(os.listdir(f"{self.at.top}/crates/dam_desk")), ["args", "data", "out", "src", "stdin"])
         self.assertEqual(os.listdir(f"{self.at.top}/crates/dam_desk/data/of"), ["it"])
         self.at.write("crates/dam_desk/data/of/it", "other data")
         self.assertEqual(self.at.run_prove("dam_desk")[0], 1)
 
-    def test_a_program_runs_while_it_is_proved(self):
+    def test_a_program_runs_while_it_is_proved(self) -> None:
         self.at.run_prove("dam_cli")
         self.at.write("crates/dam_cli/out/more", "kept")
         self.at.write("crates/dam_cli/src/main.rt", f"{PROGRAM}# SECONDS 1.5")
@@ -117,7 +118,7 @@ class ProveTests(RepositoryCase):
         self.assertEqual(self.at.read("crates/dam_cli/out/more"), "kept")
         self.assertTrue(self.at.has_no_copy())
 
-    def test_a_crate_fails(self):
+    def test_a_crate_fails(self) -> None:
         self.at.write("crates/left/src/lib.rt", "REFUSED")
         self.at.write("crates/right/src/lib.rt", "SECONDS 100")
         self.at.write("crates/right/out/incremental/begun", "before\n")
@@ -132,14 +133,14 @@ class ProveTests(RepositoryCase):
         self.assertFalse([it for it in self.at.read_calls() if it[1] in ("high", "dam_cli")])
         self.assertTrue(self.at.has_no_copy())
 
-    def test_the_program_fails(self):
+    def test_the_program_fails(self) -> None:
         self.at.write("crates/dam_cli/src/main.rt", f"{PROGRAM}# REFUSED")
         status, _, error = self.at.run_prove("dam_cli")
         self.assertEqual(status, 1)
         self.assertIn("dam_cli is not proved", error)
         self.assertFalse(os.path.exists(self.at.program))
 
-    def test_a_killed_rt(self):
+    def test_a_killed_rt(self) -> None:
         """It ends without a status of its own, and the earlier program stays, with its record."""
         self.at.run_prove("dam_cli")
         name = "crates/dam_cli/out/dam_cli"
@@ -150,14 +151,14 @@ class ProveTests(RepositoryCase):
             status, out, error = self.at.run_prove("--jobs", "1", "dam_cli")
             self.assertEqual((status, out), (1, ""))
             self.assertTrue(error.endswith(f"{killed} is not proved: rt ended with status {-signal.SIGKILL}\n"), error)
-            above = {"low": ["left", "right", "high", "dam_cli"], "high": ["dam_cli"], "dam_cli": []}[killed]
+            above = {"low": "left right high dam_cli", "high": "dam_cli", "dam_cli": ""}[killed].split()
             self.assertFalse([it for it in self.at.read_calls()[called:] if it[1] in above], "above it nothing is proved")
             self.assertEqual((self.at.read(name), self.at.read(f"{name}.json")), (PROGRAM, record))
             self.assertEqual(self.capture_stale_words_or_none(), f"{name} was built of other sources: {killed} changed since")
             self.assertTrue(self.at.has_no_copy())
             self.at.write(f"crates/{killed}/{source}", before)
 
-    def test_an_edit_meanwhile(self):
+    def test_an_edit_meanwhile(self) -> None:
         self.at.write("crates/low/src/lib.rt", "SECONDS 1")
         with self.at.start(f"{self.at.top}/tools/prove", "dam_cli") as process:
             self.wait_for(lambda: os.path.isdir(f"{self.at.top}/crates/dam_cli/out/beside/low/crates/low/out"))
@@ -169,16 +170,16 @@ class ProveTests(RepositoryCase):
         self.assertLess(os.path.getmtime(self.at.program), os.path.getmtime(f"{self.at.top}/crates/high/src/lib.rt"))
         self.assertFalse(os.path.exists(f"{self.at.program}.json"))
 
-    def capture_stale_words_or_none(self, name="dam_cli"):
+    def capture_stale_words_or_none(self, name: str = "dam_cli") -> str | None:
         """Returns the answer of tools/lib/crates/sources.py about a program."""
         path = f"{self.at.top}/crates/{name}/out/{name}"
-        asked = f"from lib.crates import sources; print(sources.read_stale_words_or_none({path!r}, {name!r}) or '')"
+        asked = f"from lib.crates import sources; print(sources.read_stale_text({path!r}, {name!r}) or '')"
         with FORKING:
-            how = {"cwd": f"{self.at.top}/tools", "stdout": subprocess.PIPE, "universal_newlines": True}
-            process = subprocess.Popen([sys.executable, "-Bc", asked], **how)
+            command, folder = [sys.executable, "-Bc", asked], f"{self.at.top}/tools"
+            process = subprocess.Popen(command, cwd=folder, stdout=subprocess.PIPE, text=True)
         return process.communicate()[0].rstrip("\n") or None
 
-    def test_the_record_of_the_sources(self):
+    def test_the_record_of_the_sources(self) -> None:
         name = "crates/dam_cli/out/dam_cli"
         self.assertEqual(self.capture_stale_words_or_none(), f"{name} is missing")
         self.at.run_prove("dam_cli")
@@ -196,29 +197,31 @@ class ProveTests(RepositoryCase):
         os.remove(f"{self.at.program}.json")
         self.assertEqual(self.capture_stale_words_or_none(), f"{name} has no record of the sources that it was built of")
 
-    def test_stopped_while_it_waits(self):
-        self.at.write("crates/low/src/lib.rt", "SECONDS 1.5")
+    def test_stopped_while_it_waits(self) -> None:
+        self.at.write("crates/low/src/lib.rt", "SECONDS 3")
         with self.at.start(f"{self.at.top}/tools/prove", "dam_cli") as first:
             self.wait_for(lambda: "begun" in self.at.read_moved("low"))
-            with self.at.start(f"{self.at.top}/tools/prove", "dam_cli") as second:
-                self.assertIn("waiting for another run of rt to end", second.stderr.readline())
-                second.terminate()
-                second.communicate(timeout=30)
-            self.assertEqual(second.returncode, 128 + signal.SIGTERM)
-            self.assertIn("begun", self.at.read_moved("low"))
+            for number in (signal.SIGTERM, signal.SIGINT, signal.SIGHUP):
+                with self.at.start(f"{self.at.top}/tools/prove", "dam_cli") as second:
+                    assert second.stderr
+                    self.assertIn("waiting for another run of rt to end", second.stderr.readline())
+                    second.send_signal(number)
+                    second.communicate(timeout=30)
+                self.assertEqual(second.returncode, 128 + number)
+                self.assertIn("begun", self.at.read_moved("low"))
             first.communicate(timeout=30)
         self.assertEqual(first.returncode, 0)
         self.assertTrue(self.at.has_no_copy())
 
-    def test_killed(self):
+    def test_killed(self) -> None:
         self.at.write("crates/low/src/lib.rt", "LOCKED SECONDS 1.5")
         self.at.write("crates/low/out/incremental/begun", "before\n")
         with self.at.start(f"{self.at.top}/tools/prove", "dam_cli") as process:
             self.wait_for(lambda: os.path.isdir(f"{self.at.top}/crates/dam_cli/out/beside/low/crates/low/out/locked"))
             process.kill()
-            process.stdin.close()
-            process.stdout.close()
-            process.stderr.close()
+            for pipe in (process.stdin, process.stdout, process.stderr):
+                assert pipe
+                pipe.close()
             process.wait(30)
         self.at.write("crates/low/src/lib.rt", "")
         status, _, error = self.at.run_prove("dam_cli")
@@ -226,7 +229,7 @@ class ProveTests(RepositoryCase):
         self.assertIn("waiting for another run of rt to end", error)
         self.assertEqual(self.at.read("crates/low/out/incremental/begun"), "before\nbegun\nbegun\n")
 
-    def test_plan(self):
+    def test_plan(self) -> None:
         status, out, error = self.at.run(f"{TOP}/tools/prove", "--plan", "--jobs", "4", "dam_cli")
         self.assertEqual((status, error), (0, ""))
         names = [line.partition(":")[0] for line in out.splitlines()[:-1]]
@@ -234,14 +237,14 @@ class ProveTests(RepositoryCase):
         self.assertEqual(names[-1], "dam_cli")
         self.assertIn(" minutes, ", out.splitlines()[-1])
 
-    def test_the_number_of_jobs(self):
+    def test_the_number_of_jobs(self) -> None:
         """It is limited by the processors and by the free memory, of the machine and of the control group."""
         meminfo = lambda free: {"/proc/meminfo": f"MemTotal:       65536000 kB\nMemFree:        1024 kB\nMemAvailable:   {free} kB\n"}
         group = lambda name, text: {f"/sys/fs/cgroup/{name}": f"{text}\n"}
         # 2.5 GB are 2,441,406.25 KiB
         many, three, two, one = (meminfo(free) for free in (50_000_000, 7_324_219, 7_324_218, 2_441_407))
         held = group("memory.current", 1_000_000_000)
-        for processors, files, jobs in (
+        rows: list[tuple[int, dict[str, str], int]] = [
             (8, {}, 8),
             (8, many, 8),
             (2, many, 2),
@@ -257,12 +260,13 @@ class ProveTests(RepositoryCase):
             (8, two | group("memory.max", 11_000_000_000) | held, 2),
             (8, many | group("memory.max", 900_000_000) | held, 1),
             (8, many | group("memory.max", "max") | held, 8),
-        ):
+        ]
+        for processors, files, jobs in rows:
             words = [word for it in files.items() for word in it]
-            ran = self.at.run(sys.executable, "-c", JOBS, f"{self.at.top}/tools/prove", f"{processors}", *words)
+            ran = self.at.run(sys.executable, "-c", JOBS, f"{self.at.top}/tools", f"{processors}", *words)
             self.assertEqual(ran, (0, f"{jobs}\n", ""), (processors, files))
 
-    def test_the_bar_of_a_proof(self):
+    def test_the_bar_of_a_proof(self) -> None:
         self.at.write("crates/left/src/lib.rt", "SECONDS 2")
         terminal = TerminalRun(self.at, f"{self.at.top}/dam", "prove")
         self.assertEqual(terminal.close(), (0, ""))

@@ -3,8 +3,11 @@
 import os
 import shutil
 import subprocess
+from collections.abc import Iterable, Sequence
 
-TOP = os.path.dirname(os.path.dirname(os.path.dirname(os.path.realpath(__file__))))
+from shared.counts import Counts
+from shared.place import TOP
+
 TAKEN = ("build", "dam.h", "exports.map", "heap.c")
 MODULES = ("__init__", "crates", "sources")  # of tools/lib/crates
 CALLS = "void {}(void) {{}}\n"
@@ -41,7 +44,7 @@ CHANGED = "build: the sources changed meanwhile, so they are not recorded\n"
 class SmallLibrary:
     """A copy of library/ over two crates of a few words, and the stand-ins."""
 
-    def __init__(self, folder):
+    def __init__(self, folder: str) -> None:
         self.top, self.kit = f"{folder}/small", f"{folder}/kit"
         for it in ("crates/low/src", "crates/dam_c/src", "library", "tools/lib/crates", "proved/low.rlib"):
             os.makedirs(f"{self.top}/{it}")
@@ -58,43 +61,43 @@ class SmallLibrary:
                 file.write(STAND_IN + text)
             os.chmod(path, 0o755)
         self.environment = {**os.environ, "PATH": f"{self.kit}/bin:{os.environ['PATH']}", "KIT": self.kit, "CC": "cc",
-                            "COMPILER": shutil.which("cc")}
+                            "COMPILER": shutil.which("cc") or "cc"}
         self.built = [f"{self.top}/library/out/{name}" for name in ("libdam.a", "libdam.so.1")]
 
-    def write(self, path, text):
+    def write(self, path: str, text: str) -> None:
         with open(f"{self.top}/{path}", "w", encoding="utf-8") as file:
             file.write(text)
 
-    def make_calls(self, names):
+    def make_calls(self, names: Iterable[str]) -> None:
         """Makes the archive that the stand-ins take for the proved library."""
         with open(f"{self.kit}/calls.c", "w", encoding="utf-8") as file:
             file.writelines(CALLS.format(name) for name in names)
         for words in (["cc", "-fPIC", "-c", "calls.c"], ["ar", "rc", "calls.a", "calls.o"]):
             subprocess.run(words, cwd=self.kit, check=True)
 
-    def write_sums(self):
+    def write_sums(self) -> None:
         """Writes the sums of the present sources for --over, as the check does before the proofs."""
         self.write("proved/sums", self.run("python3", "-B", "tools/lib/crates/sources.py", "dam_c")[1])
 
-    def run(self, *words, **variables):
+    def run(self, *words: str, **variables: str) -> tuple[int, str]:
         """Runs a command. Returns its status and output."""
         ran = subprocess.run(words, cwd=self.top, env={**self.environment, **variables}, stdout=subprocess.PIPE, stderr=subprocess.STDOUT,
                              timeout=120, errors="replace")
         return ran.returncode, ran.stdout
 
-    def run_build(self, *words, **variables):
+    def run_build(self, *words: str, **variables: str) -> tuple[int, str]:
         return self.run("library/build", *words, **variables)
 
-    def has_no_record(self):
+    def has_no_record(self) -> bool:
         return not any(os.path.exists(f"{path}.json") for path in self.built)
 
-    def are_present(self):
+    def are_present(self) -> bool:
         """Whether both files are recorded as built of the present sources."""
         asked = [self.run("python3", "-B", "tools/lib/crates/sources.py", "dam_c", "--fault", path) for path in self.built]
         return asked == [(0, "")] * len(self.built)
 
 
-def check_edit(counts, at, words, edits, edited):
+def check_edit(counts: Counts, at: SmallLibrary, words: Sequence[str], edits: str, edited: str) -> None:
     """Builds, and builds again with an edit of a source: before the build, or while a stand-in runs."""
     at.write_sums()
     about = f"{' '.join(['library/build', *words])}, with an edit of {edited} {f'while {edits} runs' if edits else 'before it'}"
@@ -105,7 +108,7 @@ def check_edit(counts, at, words, edits, edited):
     counts.check(f"{about}: {status}, {said!r}", (status, said) == (0, CHANGED) and at.has_no_record())
 
 
-def check_records(counts, folder, exports):
+def check_records(counts: Counts, folder: str, exports: Iterable[str]) -> None:
     """Files are recorded as built of the sources from before the proof. If one of these is edited meanwhile, no record is left, also of an
     earlier build."""
     if not shutil.which("ar"):
@@ -117,6 +120,6 @@ def check_records(counts, folder, exports):
     for edited in SOURCES:
         check_edit(counts, at, [], "rt", edited)
         check_edit(counts, at, over, "rattle", edited)
-    for words in ([], over):
+    for words in (list[str](), over):
         check_edit(counts, at, words, "cc", "library/heap.c")
     check_edit(counts, at, over, "", "crates/low/src/lib.rt")

@@ -3,16 +3,18 @@
 import random
 import sys
 import unittest
+from collections.abc import Sequence
 from pathlib import Path
 
-sys.path[:0] = [str(Path(__file__).resolve().parents[2] / name) for name in ("tests", "tools")]
+TOP = Path(__file__).resolve().parents[2]
+sys.path[:0] = [f"{TOP}/tests", f"{TOP}/tools"]
 
-import books
-import laws
-from books import MarketBook, OrderRow
-from laws import Results
 from lib.base import rules
 from lib.journal.journal import Order
+from market import laws
+from market.laws import Results
+from shared import market_books
+from shared.market_books import MarketBook, OrderRow
 
 UNIT = OrderRow("GEN", "UNIT", Order("block", "sell", 4_000, ((1, 20),)))
 START = OrderRow("GAS", "START", Order("block", "sell", 3_000, ((1, 10),)))
@@ -24,38 +26,38 @@ NOTHING = Results(0, [5_000], [0], {UNIT.key: (False, 20_000), TOWN.key: 0})
 
 
 class FixedMarket:
-    """A market whose results are given: for one book, and for every other."""
+    """A market whose results are given: first those for one book, and last those for every other."""
 
-    def __init__(self, book, printed, others=None):
-        self.book, self.printed, self.others = book, printed, others
+    def __init__(self, book: MarketBook, results: Sequence[Results]) -> None:
+        self.book, self.printed, self.others = book, results[0], results[-1]
 
-    def capture_results(self, book):
+    def capture_results(self, book: MarketBook) -> Results:
         return self.printed if book == self.book else self.others
 
 
-def faults_of_law(law, printed, others=None, book=BOOK):
+def faults_of_law(law: laws.Law, results: Sequence[Results], book: MarketBook = BOOK) -> list[str]:
     """The faults that a law finds by several changes of the book."""
-    return [text for seed in range(10) for text in law(FixedMarket(book, printed, others), book, random.Random(seed))]
+    return [text for seed in range(10) for text in law(FixedMarket(book, results), book, random.Random(seed))]
 
 
 class Laws(unittest.TestCase):
-    def check_law(self, law, right, breaking, book=BOOK):
+    def check_law(self, law: laws.Law, right: Sequence[Results], breaking: Sequence[Results], book: MarketBook = BOOK) -> None:
         """The law holds for the first pair of results, and not for the second."""
-        self.assertEqual(faults_of_law(law, *right, book=book), [])
-        self.assertNotEqual(faults_of_law(law, *breaking, book=book), [])
+        self.assertEqual(faults_of_law(law, right, book), [])
+        self.assertNotEqual(faults_of_law(law, breaking, book), [])
 
-    def test_welfare_is_shared_out(self):
+    def test_welfare_is_shared_out(self) -> None:
         self.check_law(laws.try_that_welfare_is_shared_out, [RIGHT], [RIGHT._replace(welfare=20_001)])
 
-    def test_money_balances(self):
+    def test_money_balances(self) -> None:
         self.check_law(laws.try_that_money_balances, [RIGHT], [RIGHT._replace(orders={**RIGHT.orders, TOWN.key: 19})])
         self.check_law(laws.try_that_money_balances, [RIGHT], [RIGHT._replace(volumes=[40])])
 
-    def test_nobody_loses(self):
+    def test_nobody_loses(self) -> None:
         self.check_law(laws.try_that_nobody_loses, [RIGHT], [RIGHT._replace(prices=[5_001])])
         self.check_law(laws.try_that_nobody_loses, [RIGHT], [RIGHT._replace(prices=[3_999])])
 
-    def test_a_family_may_not_lose(self):
+    def test_a_family_may_not_lose(self) -> None:
         child = OrderRow("GEN", "NEXT", Order("block", "sell", 5_010, ((1, 20),), parent="UNIT"))
         book = MarketBook(1, (UNIT, child, TOWN))
         printed = RIGHT._replace(orders={**RIGHT.orders, child.key: (False, -200)})
@@ -66,7 +68,7 @@ class Laws(unittest.TestCase):
             book,
         )
 
-    def test_the_better_of_two_blocks(self):
+    def test_the_better_of_two_blocks(self) -> None:
         start = START._replace(order=UNIT.order._replace(price=3_000))
         book = MarketBook(1, (UNIT, start, TOWN))
         right = RIGHT._replace(orders={UNIT.key: (False, 20_000), start.key: (True, 40_000), TOWN.key: 20})
@@ -75,7 +77,7 @@ class Laws(unittest.TestCase):
         others = right._replace(orders={key: (True, 0) for key in keys})
         self.check_law(laws.try_the_better_of_two_blocks, [right, others], [breaking, others], book)
 
-    def test_fair_in_a_period(self):
+    def test_fair_in_a_period(self) -> None:
         two = MarketBook(1, (UNIT, TOWN, MILL))
         first = RIGHT._replace(orders={**RIGHT.orders, MILL.key: 0})
         self.check_law(
@@ -86,25 +88,30 @@ class Laws(unittest.TestCase):
         )
         self.check_law(laws.try_that_a_period_is_fair, [RIGHT], [RIGHT._replace(prices=[5_001])])
 
-    def test_a_better_limit_keeps_a_block(self):
+    def test_a_better_limit_keeps_a_block(self) -> None:
         self.check_law(laws.try_a_better_limit, [RIGHT, RIGHT], [RIGHT, NOTHING])
 
-    def test_there_is_a_worst_limit(self):
-        class Best(FixedMarket):
-            def capture_results(self, book):
-                return RIGHT if (book.rows[0].order.price <= 4_000) == self.printed else NOTHING
+    def test_there_is_a_worst_limit(self) -> None:
+        class Sided:
+            """A market that accepts the block with low limits alone, or with high ones alone."""
 
-        self.assertEqual(list(laws.try_that_there_is_a_worst_limit(Best(None, True), BOOK, random.Random(1))), [])
-        self.assertNotEqual(list(laws.try_that_there_is_a_worst_limit(Best(None, False), BOOK, random.Random(1))), [])
+            def __init__(self, accepts_low: bool) -> None:
+                self.accepts_low = accepts_low
 
-    def test_a_worse_limit_keeps_a_rejection(self):
+            def capture_results(self, book: MarketBook) -> Results:
+                return RIGHT if (book.rows[0].order.price <= 4_000) == self.accepts_low else NOTHING
+
+        self.assertEqual(list(laws.try_that_there_is_a_worst_limit(Sided(True), BOOK, random.Random(1))), [])
+        self.assertNotEqual(list(laws.try_that_there_is_a_worst_limit(Sided(False), BOOK, random.Random(1))), [])
+
+    def test_a_worse_limit_keeps_a_rejection(self) -> None:
         other = NOTHING._replace(orders={**NOTHING.orders, UNIT.key: (False, 10_000)})
         self.check_law(laws.try_a_worse_limit, [NOTHING, other], [NOTHING, RIGHT])
         self.check_law(
             laws.try_a_worse_limit, [NOTHING, other], [NOTHING, other._replace(prices=[4_999])]
         )
 
-    def test_a_withdrawn_block_changes_nothing(self):
+    def test_a_withdrawn_block_changes_nothing(self) -> None:
         alone = NOTHING.lines_but(UNIT.key)
         self.check_law(
             laws.try_a_rejected_block_withdrawn, [NOTHING, alone], [NOTHING, alone._replace(prices=[0])]
@@ -115,21 +122,21 @@ class Laws(unittest.TestCase):
             [NOTHING, alone._replace(orders={TOWN.key: 1})],
         )
 
-    def test_a_block_more_never_lowers_welfare(self):
+    def test_a_block_more_never_lowers_welfare(self) -> None:
         class Sized:
             """A market in which the welfare depends on the number of blocks alone."""
 
-            def __init__(self, *welfares):
+            def __init__(self, *welfares: int) -> None:
                 self.welfares = welfares
 
-            def capture_results(self, book):
+            def capture_results(self, book: MarketBook) -> Results:
                 return RIGHT._replace(welfare=self.welfares[len(book.blocks)])
 
         for welfares, is_kept in (((0, 0, 5), True), ((1, 0, 5), False), ((0, 5, 0), False)):
             found = list(laws.try_a_block_more(Sized(*welfares), BOOK, random.Random(1)))
             self.assertEqual(found == [], is_kept)
 
-    def test_book_order(self):
+    def test_book_order(self) -> None:
         hourly = MarketBook(1, (UNIT, TOWN, MILL, START))
         given = RIGHT._replace(orders={**RIGHT.orders, MILL.key: 0, START.key: (False, 0)})
         turned = RIGHT._replace(orders={**given.orders, TOWN.key: 0, MILL.key: 20})
@@ -148,7 +155,7 @@ class Laws(unittest.TestCase):
 
 
 class Books(unittest.TestCase):
-    def test_parents_stay_before_their_children(self):
+    def test_parents_stay_before_their_children(self) -> None:
         parent = OrderRow("A", "K1", Order("block", "sell", 0, ((1, 1),)))
         child = OrderRow("A", "K2", Order("block", "sell", 0, ((1, 1),), "K1"))
         book = MarketBook(24, (parent, START, child, TOWN))
@@ -156,16 +163,16 @@ class Books(unittest.TestCase):
         self.assertEqual(len(shuffled), 3)
         self.assertTrue(all(rows.index(parent) < rows.index(child) and rows[3] == TOWN for rows in shuffled))
 
-    def test_limits_move_as_they_should(self):
+    def test_limits_move_as_they_should(self) -> None:
         for seed in range(100):
             rng = random.Random(seed)
-            self.assertLess(books.draw_better_limit_or_none(rng, UNIT.order), 4_000)
-            self.assertGreater(books.draw_worse_limit_or_none(rng, UNIT.order), 4_000)
-            self.assertGreater(books.draw_better_limit_or_none(rng, TOWN.order), 5_000)
-            self.assertIsNone(books.draw_better_limit_or_none(rng, UNIT.order._replace(price=rules.LOWEST_PRICE)))
+            self.assertLess(market_books.draw_better_limit_or_none(rng, UNIT.order) or 4_000, 4_000)
+            self.assertGreater(market_books.draw_worse_limit_or_none(rng, UNIT.order) or 4_000, 4_000)
+            self.assertGreater(market_books.draw_better_limit_or_none(rng, TOWN.order) or 5_000, 5_000)
+            self.assertIsNone(market_books.draw_better_limit_or_none(rng, UNIT.order._replace(price=rules.LOWEST_PRICE)))
 
-    def test_drawn_books_fit_the_laws(self):
-        drawn = [books.draw_book(random.Random(f"market check {number}")) for number in range(1, 201)]
+    def test_drawn_books_fit_the_laws(self) -> None:
+        drawn = [market_books.draw_book(random.Random(f"market check {number}")) for number in range(1, 201)]
         self.assertTrue(any(book.periods == 24 for book in drawn))
         self.assertTrue(any(book.periods == 96 for book in drawn))
         for has in ("parent", "group"):

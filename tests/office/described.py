@@ -5,19 +5,24 @@ import json
 import random
 import re
 import time
+from typing import Any
 from unittest import mock
 
 from lib.base import rules
-from lib.office import fixed_files, refusals, web
+from lib.base.json_value import JsonObject
+from lib.office import fixed_files, refusals, routes
 from lib.seal import heads
+from shared.counts import Counts
+from shared.processes import wait_until
+from shared.served_office import ServedOffice
 
 API, DEMO = (json.loads(fixed_files.read_openapi_text(is_demo)) for is_demo in (False, True))
 RANDOM = 60  # requests of a day
 WAIT_SECONDS = 20  # for the office to take requests again
-TYPES = {"string": str, "integer": int, "number": (int, float), "boolean": bool, "array": list, "object": dict}
+TYPES: dict[str, Any] = {"string": str, "integer": int, "number": (int, float), "boolean": bool, "array": list, "object": dict}
 
 
-def schema_referred_to(described):
+def schema_referred_to(described: JsonObject) -> JsonObject:
     """A part of the description, or the component to which it refers."""
     if "$ref" not in described:
         return described
@@ -25,7 +30,7 @@ def schema_referred_to(described):
     return API[components][kind][name]
 
 
-def fault_of_value_or_none(value, schema, at="answer"):
+def fault_of_value_or_none(value: Any, schema: JsonObject, at: str = "answer") -> str | None:
     """How a value breaks a schema; None if it doesn't."""
     schema = schema_referred_to(schema)
     if "oneOf" in schema:
@@ -51,7 +56,16 @@ def fault_of_value_or_none(value, schema, at="answer"):
     return None
 
 
-def send_and_check(office, counts, method, template, values, headers=None, body=None, query=""):
+def send_and_check(
+    counts: Counts,
+    office: ServedOffice,
+    method: str,
+    template: str,
+    values: JsonObject,
+    headers: dict[str, str] | None = None,
+    body: bytes | None = None,
+    query: str = "",
+) -> tuple[int, bytes]:
     """Sends a request, and compares the answer with its description. Returns the status and the body."""
     status, got, data = office.send_request(template.format(**values) + query, headers, method, body)
     described = API["paths"][template][method.lower()]["responses"].get(str(status))
@@ -68,21 +82,21 @@ def send_and_check(office, counts, method, template, values, headers=None, body=
     return status, data
 
 
-def check_answer_of_demo(counts, method, template, answer):
+def check_answer_of_demo(counts: Counts, method: str, template: str, answer: bytes) -> None:
     """The answer to a request that only a demo answers is as described."""
     described = DEMO["paths"][template][method]["responses"]["200"]["content"]["application/json"]["schema"]
     fault = fault_of_value_or_none(json.loads(answer), described)
     counts.check(f"{method} {template} in a demo: {fault}", fault is None)
 
 
-def check_all_are_described(counts):
+def check_all_are_described(counts: Counts) -> None:
     """The routes of the application and of the file are the same, in an office and in a demo."""
     plain = lambda path: re.sub(r"\{(\w+):[^/]*\}(?=/|$)", r"{\1}", path)
     for demo in (None, {"GAS": "GAS.token"}):
-        made = web.Web(mock.Mock(public_key=""), demo=demo)
-        routes = [route for route in made.new_application().router.routes() if route.method != "HEAD"]
-        served = {(route.method, plain(route.resource.canonical)) for route in routes}
-        api = json.loads(made.files["/openapi.json"][0])
+        made = routes.Web(mock.Mock(public_key=""), demo=demo)
+        answered = [route for route in made.new_application().router.routes() if route.method != "HEAD"]
+        served = {(route.method, plain(route.resource.canonical)) for route in answered if route.resource}
+        api = json.loads(made.public.files["/openapi.json"][0])
         described = {(method.upper(), path) for path, methods in api["paths"].items() for method in methods if method != "x-demo"}
         counts.check(f"described and served: {served ^ described}", served == described)
         counts.check("only a demo has requests of its own", (api == DEMO, api == API) == (bool(demo), not demo))
@@ -92,7 +106,7 @@ def check_all_are_described(counts):
     counts.check(f"requests that may come too often, and don't say so: {unsaid}", len(every) > 20 and not unsaid)
 
 
-def draw_command(rng, periods):
+def draw_command(rng: random.Random, periods: int) -> JsonObject:
     """A command in JSON, mostly right."""
     name = rng.choice(["A", "B", "ABCDEFGHIJKL", "A-1"])
     volumes = [[period, rng.choice([1, 99_999, 7])] for period in sorted(rng.sample(range(1, periods + 1), rng.choice([1, 1, periods])))]
@@ -116,7 +130,7 @@ def draw_command(rng, periods):
     return made
 
 
-def check_routes(office, counts, periods):
+def check_routes(counts: Counts, office: ServedOffice, periods: int) -> None:
     rng = random.Random(f"described {periods}")
     if periods == min(rules.DAYS):
         check_all_are_described(counts)
@@ -124,17 +138,17 @@ def check_routes(office, counts, periods):
     values = {"day": office.day, "who": who, "number": 1}
     token = {"Authorization": f"Bearer {office.tokens[who]}"}
     typed = {**token, "Content-Type": "application/json"}
-    entered, records, template = 0, [], "/days/{day}/commands/{who}/{number}"
+    entered, records, template = 0, list[str](), "/days/{day}/commands/{who}/{number}"
     for _ in range(RANDOM):
         commands = [draw_command(rng, periods) for _ in range(rng.choice([1, 1, 1, 3]))]
         number = entered + rng.choice([1, 1, 1, 1, 2, 0])
         number = max(1, number)
         body = json.dumps(commands if len(commands) > 1 or rng.random() < 0.5 else commands[0]).encode()
-        status, data = send_and_check(office, counts, "PUT", template, {**values, "number": number}, typed, body)
+        status, data = send_and_check(counts, office, "PUT", template, {**values, "number": number}, typed, body)
         if status == 200:
             found = [heads.parse_value_and_is_written(line, heads.parse_receipt) for line in data.splitlines(keepends=True)]
             counts.check("receipts are in their written form", all(is_written for _, is_written in found) and len(found) == len(commands))
-            again = send_and_check(office, counts, "PUT", template, {**values, "number": number}, typed, body)
+            again = send_and_check(counts, office, "PUT", template, {**values, "number": number}, typed, body)
             counts.check("the same request again gets the same receipts", again == (200, data))
             records = records[: number - 1] + [receipt.record for receipt, _ in found]
             entered = max(entered, number - 1 + len(found))
@@ -144,31 +158,29 @@ def check_routes(office, counts, periods):
     for template, methods in API["paths"].items():
         for method in methods:
             if method == "get":
-                for header in (token, {}):
-                    send_and_check(office, counts, "GET", template, values, header)
+                for header in (token, dict[str, str]()):
+                    send_and_check(counts, office, "GET", template, values, header)
                     send_and_check(
-                        office, counts, "GET", template, {**values, "day": "nothing", "who": office.who[0], "number": 99_999}, header
+                        counts, office, "GET", template, {**values, "day": "nothing", "who": office.who[0], "number": 99_999}, header
                     )
     for query in ("?since=0", "?since=1", "?since=99999", "?since=x", "?since=-1", "?since="):
-        send_and_check(office, counts, "GET", "/days/{day}/head", values, query=query)
-        send_and_check(office, counts, "GET", "/days/{day}/commands/{who}", values, token, query=query)
+        send_and_check(counts, office, "GET", "/days/{day}/head", values, query=query)
+        send_and_check(counts, office, "GET", "/days/{day}/commands/{who}", values, token, query=query)
     table = f"participant,order,kind,side,price_eur_mwh,periods,volume_mw\n{who},T,block,sell,12.5,1-{periods},3\n"
-    for data in (table, table.replace(who, "OTHER"), "", "x\n", "PK\x03\x04"):
-        send_and_check(office, counts, "POST", "/days/{day}/tables/{who}", values, token, data.encode())
+    for sent in (table, table.replace(who, "OTHER"), "", "x\n", "PK\x03\x04"):
+        send_and_check(counts, office, "POST", "/days/{day}/tables/{who}", values, token, sent.encode())
     office.close_day()
     office.run_tool("publish", office.folder)
-    until = time.monotonic() + WAIT_SECONDS
     # tables count as many requests
-    while office.send_request(f"/days/{office.day}/orders/{who}", token)[0] == 429 and time.monotonic() < until:
-        time.sleep(0.1)
+    wait_until(lambda: office.send_request(f"/days/{office.day}/orders/{who}", token)[0] != 429, WAIT_SECONDS, 0.1)
     time.sleep(1)  # in which it allows enough for what follows
     for template in API["paths"]:
         if template.startswith("/days/") and "get" in API["paths"][template]:
-            status, _ = send_and_check(office, counts, "GET", template, values, token)
+            status, _ = send_and_check(counts, office, "GET", template, values, token)
             counts.check(f"{template} after the close", status == 200 or template.endswith("statement/{who}"))
     answer = send_and_check(
-        office,
         counts,
+        office,
         "PUT",
         "/days/{day}/commands/{who}/{number}",
         {**values, "number": entered + 1},

@@ -10,16 +10,25 @@ import ssl
 import subprocess
 import threading
 import time
+from collections.abc import Sequence
 from pathlib import Path
+
+from shared.counts import Counts
+from shared.processes import wait_until
+from shared.served_office import ServedOffice
 
 SECONDS = 40  # that an answer, or the end of a connection, may take
 MOST_IDLE = 20 << 10  # KiB of 150 connections over TLS
 MOST_KEPT, KEPT_SECONDS = 60 << 10, 15  # KiB of as many slow downloads, and how long it may take until all is kept
 
 
-def send_and_read_answer(office, data, wait=True, context=None):
+def connect(office: ServedOffice) -> socket.socket:
+    return socket.create_connection(("127.0.0.1", office.port), timeout=SECONDS)
+
+
+def send_and_read_answer(office: ServedOffice, data: bytes, wait: bool = True, context: ssl.SSLContext | None = None) -> bytes:
     """Sends bytes, and returns all that comes until the connection ends."""
-    with contextlib.closing(socket.create_connection(("127.0.0.1", office.port), timeout=SECONDS)) as plain:
+    with connect(office) as plain:
         connection = context.wrap_socket(plain, server_hostname="localhost") if context else plain
         with contextlib.suppress(ConnectionError, BrokenPipeError):
             connection.sendall(data)
@@ -33,35 +42,35 @@ def send_and_read_answer(office, data, wait=True, context=None):
         return found
 
 
-def request_bytes(method, path, headers=(), body=b""):
+def request_bytes(method: str, path: str, headers: Sequence[str] = (), body: bytes = b"") -> bytes:
     lines = [f"{method} {path} HTTP/1.1", "Host: x", "Connection: close", *headers]
     lines += [f"Content-Length: {len(body)}"] if body else []
     return "".join(f"{line}\r\n" for line in lines).encode("latin-1") + b"\r\n" + body
 
 
-def wide_headers(size):
+def wide_headers(size: int) -> list[str]:
     """Headers with which a request for the days has a head of this number of bytes."""
-    headers = []
+    headers: list[str] = []
     while (left := size - len(request_bytes("GET", "/days", headers)) - len("X: \r\n")) > 3_000:
         headers.append(f"X: {'a' * 2_900}")
     return [*headers, f"X: {'a' * left}"]
 
 
-def status_or_none(answer):
+def status_or_none(answer: bytes) -> int | None:
     return int(answer[9:12]) if answer.startswith((b"HTTP/1.1 ", b"HTTP/1.0 ")) else None
 
 
-def send_and_read_status(office, method, path, headers=(), body=b""):
+def send_and_read_status(office: ServedOffice, method: str, path: str, headers: Sequence[str] = (), body: bytes = b"") -> int | None:
     """Sends a request, and returns the status of its answer."""
     return status_or_none(send_and_read_answer(office, request_bytes(method, path, headers, body)))
 
 
-def read_peak_memory(office):
+def read_peak_memory(office: ServedOffice) -> int:
     """The greatest memory of the office so far, in KiB."""
-    return int(re.search(r"VmHWM:\s+(\d+) kB", Path(f"/proc/{office.process.pid}/status").read_text())[1])
+    return int(re.findall(r"VmHWM:\s+(\d+) kB", Path(f"/proc/{office.process.pid}/status").read_text())[0])
 
 
-def check_tokens(office, counts):
+def check_tokens(counts: Counts, office: ServedOffice) -> None:
     who, other = office.who[:2]
     right = office.tokens[who]
     path = f"/days/{office.day}/commands/{who}"
@@ -94,7 +103,7 @@ def check_tokens(office, counts):
     counts.check("and the right one isn't", send_and_read_status(office, "GET", path, headers) == 200)
 
 
-def check_paths(office, counts):
+def check_paths(counts: Counts, office: ServedOffice) -> None:
     secret = (office.folder / "operator.pem").read_bytes().splitlines()[1]
     for path in (
         "/../operator.pem",
@@ -125,25 +134,25 @@ def check_paths(office, counts):
         counts.check(f"{method} /days", send_and_read_status(office, method, "/days") in (400, 404, 405, 501))
 
 
-def check_messages(office, counts):
+def check_messages(counts: Counts, office: ServedOffice) -> None:
     """Requests that aren't one, are malformed, ask for something odd, or have no end; and answers that aren't read."""
-    check_malformed_requests(office, counts)
-    check_expectations(office, counts)
-    check_log_of_requests(office, counts)
-    check_names(office, counts)
-    check_endless_requests(office, counts)
-    check_unread_answers(office, counts)
-    check_large_bodies(office, counts)
+    check_malformed_requests(counts, office)
+    check_expectations(counts, office)
+    check_log_of_requests(counts, office)
+    check_names(counts, office)
+    check_endless_requests(counts, office)
+    check_unread_answers(counts, office)
+    check_large_bodies(counts, office)
     counts.check("nothing was entered", office.client_of(office.who[0]).next(office.day) == 1)
 
 
-def first_path_and_token(office, place=0):
+def first_path_and_token(office: ServedOffice, place: int = 0) -> tuple[str, str]:
     """The path of the first command of a participant, and the header with its token."""
     who = office.who[place]
     return f"/days/{office.day}/commands/{who}/1", f"Authorization: Bearer {office.tokens[who]}"
 
 
-def check_malformed_requests(office, counts):
+def check_malformed_requests(counts: Counts, office: ServedOffice) -> None:
     """What is no request, or would be two."""
     path, token = first_path_and_token(office)
     body = f"cancel,{office.who[0]},A,,,,,,".encode()
@@ -170,7 +179,7 @@ def check_malformed_requests(office, counts):
         counts.check(f"a length behind {odd} is refused: {status_or_none(answer)}", status_or_none(answer) == 400)
 
 
-def check_expectations(office, counts):
+def check_expectations(counts: Counts, office: ServedOffice) -> None:
     path, token = first_path_and_token(office)
     answer = send_and_read_answer(office, request_bytes("GET", "/days", ["Expect: <script>alert(1)</script>"]))
     counts.check("an expectation isn't said again", status_or_none(answer) == 200 and b"<script>" not in answer)
@@ -181,7 +190,7 @@ def check_expectations(office, counts):
     counts.check("a client that waits may go on", answer.startswith(b"HTTP/1.1 100 Continue\r\n\r\nHTTP/1.1 400 "))
 
 
-def check_log_of_requests(office, counts):
+def check_log_of_requests(counts: Counts, office: ServedOffice) -> None:
     before_log = len(office.log.read_bytes())
     send_and_read_answer(office, b"GET http://[INJECTED]/days HTTP/1.1\r\nHost: x\r\n\r\n", wait=False)
     counts.check("a request's words aren't in the log", b"INJECTED" not in office.log.read_bytes()[before_log:])
@@ -193,7 +202,7 @@ def check_log_of_requests(office, counts):
     counts.check("a client that ends before its answer isn't a defect", b"defect" not in office.log.read_bytes()[before_log:])
 
 
-def check_endless_requests(office, counts):
+def check_endless_requests(counts: Counts, office: ServedOffice) -> None:
     """A body that is a bomb, and requests and chunks without end: they take no memory, and hold up nobody."""
     path, token = first_path_and_token(office, 1)  # of another participant, whose rate this uses up
     headers = [token, "Content-Encoding: gzip", "Content-Type: text/csv"]
@@ -212,18 +221,18 @@ def check_endless_requests(office, counts):
     counts.check("a body without a length isn't read", status_or_none(answer) == 400)
     with contextlib.ExitStack() as stack:
         for _ in range(20):
-            one = stack.enter_context(socket.create_connection(("127.0.0.1", office.port), timeout=SECONDS))
+            one = stack.enter_context(connect(office))
             with contextlib.suppress(OSError):
                 one.sendall(request_bytes("GET", "/days", ["Transfer-Encoding: chunked"]) + b"1\r\na\r\n" * 90_000)
         began = time.monotonic()
         counts.check("tiny chunks hold up nobody", office.send_request("/days")[0] == 200 and time.monotonic() - began < 3)
 
 
-def check_unread_answers(office, counts):
+def check_unread_answers(counts: Counts, office: ServedOffice) -> None:
     before = read_peak_memory(office)
     with contextlib.ExitStack() as stack:
         for _ in range(6):
-            one = stack.enter_context(socket.create_connection(("127.0.0.1", office.port), timeout=SECONDS))
+            one = stack.enter_context(connect(office))
             one.setsockopt(socket.SOL_SOCKET, socket.SO_RCVBUF, 4_096)
             wide = request_bytes("GET", "/openapi.json", [f"X-{number}: {'a' * 4_000}" for number in range(100)])
             with contextlib.suppress(OSError):
@@ -234,23 +243,23 @@ def check_unread_answers(office, counts):
         )
 
 
-def check_large_bodies(office, counts):
+def check_large_bodies(counts: Counts, office: ServedOffice) -> None:
     path, token = first_path_and_token(office)
     counts.check("a body of 2 MB is refused", send_and_read_status(office, "PUT", path, [token], b"a" * (2 << 20)) == 413)
     counts.check("without a token it isn't read", send_and_read_status(office, "PUT", path, [], b"a" * (2 << 20)) == 401)
 
 
-def check_names(office, counts):
+def check_names(counts: Counts, office: ServedOffice) -> None:
     """Names of the office in requests, which take seconds to decode: digits of which each is compared with all others."""
     name = "xn--" + ("\u0661" * 3_900).encode("punycode").decode()
     for line in (f"GET http://{name}/days", f"CONNECT {name}:1"):
-        with contextlib.closing(socket.create_connection(("127.0.0.1", office.port), timeout=SECONDS)) as one:
+        with connect(office) as one:
             began = time.monotonic()
             one.sendall(f"{line} HTTP/1.1\r\nHost: x\r\n\r\n".encode())
             counts.check(f"{line[:12]} holds up nobody", office.send_request("/days")[0] == 200 and time.monotonic() - began < 1)
 
 
-def check_slow(office, counts):
+def check_slow(counts: Counts, office: ServedOffice) -> None:
     """Half a head and half a body: the connection ends, and others are served in the meantime."""
     who = office.who[0]
     token = f"Authorization: Bearer {office.tokens[who]}"
@@ -258,7 +267,7 @@ def check_slow(office, counts):
     halves = [b"GET /days HTT", put[:-2] + b"\r\ncancel"]
     with contextlib.ExitStack() as stack:
         slow = [
-            stack.enter_context(contextlib.closing(socket.create_connection(("127.0.0.1", office.port), timeout=SECONDS)))
+            stack.enter_context(connect(office))
             for _ in range(200)
         ]
         began = time.monotonic()
@@ -273,13 +282,13 @@ def check_slow(office, counts):
     counts.check("half a body enters nothing", office.client_of(who).next(office.day) == 1)
 
 
-def check_tables(office, counts):
+def check_tables(counts: Counts, office: ServedOffice) -> None:
     """A participant has one table read at a time, and another one's isn't kept waiting."""
     rows = "".join(f"{{who}},A{number},hour,buy,1,1-2,1\n" for number in range(3_000)).replace("1-2", "1")
     form = "participant,order,kind,side,price_eur_mwh,periods,volume_mw\n" + rows
     answers, tables = [], {who: form.format(who=who) for who in office.who[:2]}
 
-    def send(who):
+    def send(who: str) -> None:
         answers.append((who, office.send_request(f"/days/{office.day}/tables/{who}", office.bearer_header(who), "POST", tables[who])[0]))
 
     who, other = office.who[:2]
@@ -295,7 +304,7 @@ def check_tables(office, counts):
     counts.check("and another's in the meantime", (other, 200) in answers)
 
 
-def check_charges(office, counts):
+def check_charges(counts: Counts, office: ServedOffice) -> None:
     """Each command of a request counts, however short it is, and the length of an answer too."""
     who = office.who[2]
     day, bearer = f"/days/{office.day}", office.bearer_header(who)
@@ -311,22 +320,20 @@ def check_charges(office, counts):
     counts.check("and their length counts", office.send_request(f"{day}/orders/{who}", bearer)[0] == 429)
 
 
-def check_silent(office, counts):
+def check_silent(counts: Counts, office: ServedOffice) -> None:
     """More connections than the office takes, which never begin TLS: it neither ends nor misses the close."""
     with contextlib.ExitStack() as stack:
         for _ in range(1_700):
             with contextlib.suppress(OSError):
-                stack.enter_context(contextlib.closing(socket.create_connection(("127.0.0.1", office.port), timeout=SECONDS)))
+                stack.enter_context(connect(office))
         (office.files / "close-now").touch()
-        until = time.monotonic() + SECONDS
-        while not (office.files / "results.txt").exists() and time.monotonic() < until:
-            time.sleep(0.1)
-        counts.check("silent connections don't stop the close", (office.files / "results.txt").exists() and office.process.poll() is None)
+        has_results = wait_until((office.files / "results.txt").exists, SECONDS)
+        counts.check("silent connections don't stop the close", has_results and office.process.poll() is None)
         files = len(os.listdir(f"/proc/{office.process.pid}/fd"))
         counts.check(f"and those that are too many are ended: {files} files", files < 1_100)
 
 
-def check_downloads(office, counts, context):
+def check_downloads(counts: Counts, office: ServedOffice, context: ssl.SSLContext) -> None:
     """Slow readers of what is published, over TLS: each keeps little memory."""
     office.run_tool("publish", office.folder, office.day)
     (office.files / "journal.csv").write_bytes(b"x" * (9 << 20))
@@ -344,27 +351,24 @@ def check_downloads(office, counts, context):
             one.sendall(request_bytes("GET", f"/days/{office.day}/journal"))
         for one in readers:
             one.recv(1)  # the answer has begun
-        until = time.monotonic() + KEPT_SECONDS
-        while (kept := read_peak_memory(office) - before) < MOST_KEPT and time.monotonic() < until:
-            time.sleep(0.5)
+        wait_until(lambda: read_peak_memory(office) - before >= MOST_KEPT, KEPT_SECONDS, 0.5)
+        kept = read_peak_memory(office) - before
         counts.check(f"slow downloads keep little memory: {kept} KiB", kept < MOST_KEPT)
 
 
-def check_many(office, counts, most):
+def check_many(counts: Counts, office: ServedOffice, most: int) -> None:
     """More connections than the office takes: it ends those that are too many, and serves others once they go."""
     with contextlib.ExitStack() as stack:
         with contextlib.suppress(OSError):
             for _ in range(most):
-                stack.enter_context(contextlib.closing(socket.create_connection(("127.0.0.1", office.port), timeout=SECONDS)))
+                stack.enter_context(connect(office))
         time.sleep(0.5)
-    until = time.monotonic() + 20
-    while not office.is_ready() and time.monotonic() < until:
-        time.sleep(0.1)
+    wait_until(office.is_ready, step=0.1)
     counts.check(f"it serves after {most} connections", office.send_request("/days")[0] == 200)
-    counts.check("it refused some", office.read_metric_or_none("dam_office_connections_refused_total") > 0)
+    counts.check("it refused some", (office.read_metric_or_none("dam_office_connections_refused_total") or 0) > 0)
 
 
-def check_headers(office, counts):
+def check_headers(counts: Counts, office: ServedOffice) -> None:
     for path, code in (
         ("/", 200),
         ("/office.js", 200),
@@ -380,7 +384,7 @@ def check_headers(office, counts):
         )
 
 
-def check_secrets(office, counts):
+def check_secrets(counts: Counts, office: ServedOffice) -> None:
     """Nothing secret in the log, the answers to faults, or the list of processes."""
     listed = subprocess.run(["ps", "axww", "-o", "args="], capture_output=True, text=True).stdout
     log = office.log.read_text()
@@ -392,42 +396,19 @@ def check_secrets(office, counts):
     counts.check(f"no file is for others: {private}", not private)
 
 
-def make_certificate(room):
+def make_certificate(room: str) -> tuple[Path, Path]:
     """A certificate and its key, made by openssl."""
     cert, key = Path(room, "cert.pem"), Path(room, "key.pem")
-    words = [
-        "openssl",
-        "req",
-        "-x509",
-        "-newkey",
-        "ec",
-        "-pkeyopt",
-        "ec_paramgen_curve:prime256v1",
-        "-nodes",
-        "-days",
-        "2",
-        "-subj",
-        "/CN=localhost",
-    ]
-    words += ["-addext", "subjectAltName=DNS:localhost,IP:127.0.0.1"]
+    words = ["openssl", "req", "-x509", "-newkey", "ec", "-pkeyopt", "ec_paramgen_curve:prime256v1", "-nodes", "-days", "2"]
+    words += ["-subj", "/CN=localhost", "-addext", "subjectAltName=DNS:localhost,IP:127.0.0.1"]
     subprocess.run([*words, "-out", cert, "-keyout", key], check=True, capture_output=True)
     return cert, key
 
 
-def check_tls(office, cert, counts):
+def check_tls(counts: Counts, office: ServedOffice, cert: Path) -> None:
     """By openssl s_client, and by the client of dam_tools, which trusts this certificate alone."""
-    words = [
-        "openssl",
-        "s_client",
-        "-connect",
-        f"127.0.0.1:{office.port}",
-        "-servername",
-        "localhost",
-        "-CAfile",
-        cert,
-        "-verify_return_error",
-        "-quiet",
-    ]
+    words = ["openssl", "s_client", "-connect", f"127.0.0.1:{office.port}", "-servername", "localhost", "-CAfile", str(cert)]
+    words += ["-verify_return_error", "-quiet"]
     ran = subprocess.run(words, input=request_bytes("GET", "/days"), capture_output=True, timeout=SECONDS)
     counts.check("openssl s_client gets the days", status_or_none(ran.stdout) == 200 and b"max-age" in ran.stdout)
     for version in ("-tls1", "-tls1_1"):

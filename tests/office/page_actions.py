@@ -2,6 +2,12 @@
 
 from pathlib import Path
 
+from shared.counts import Counts
+from shared.served_office import ServedOffice
+
+from shared.browser import BrowserTab
+
+Pictures = str | None  # the folder of the pictures, if they are asked for
 WIDTHS = 390, 1_280
 # How many controls have no name.
 UNNAMED = """[...document.querySelectorAll('input, select, button')].filter((one) => one.checkVisibility())
@@ -18,54 +24,54 @@ CONTRAST = """(() => { const light = (words) => words.match(/[0-9.]+/g).slice(0,
   return Math.min(...['enter', 'enter-all', 'yes'].map((id) => of(byId(id))), of(document.querySelector('#sign-in-form button'))); })()"""
 
 
-async def focus_on(page, name):
+async def focus_on(page: BrowserTab, name: str) -> None:
     await page.evaluate(f"document.getElementById('{name}').focus()")
     await page.evaluate(f"document.getElementById('{name}').select?.()")
 
 
-async def type_into(page, name, words):
+async def type_into(page: BrowserTab, name: str, words: str) -> None:
     await focus_on(page, name)
     await page.type_text(words) if words else await page.evaluate(f"document.getElementById('{name}').value = ''")
 
 
-async def choose(page, name, value):
+async def choose(page: BrowserTab, name: str, value: str | int) -> None:
     await page.evaluate(f"document.getElementById('{name}').value = '{value}'")
 
 
-async def click(page, selector):
+async def click(page: BrowserTab, selector: str) -> None:
     await page.evaluate(f"document.querySelector('{selector}').click()")
 
 
-async def answer(page, word):
+async def answer(page: BrowserTab, word: str) -> None:
     """Presses yes or no, once the page asks: a question that follows another one waits until that one's dialog is closed."""
     await page.wait_until("byId('sure').open")
     await click(page, f"#{word}")
 
 
-async def read_text(page, name):
+async def read_text(page: BrowserTab, name: str) -> str:
     return await page.evaluate(f"document.getElementById('{name}').textContent")
 
 
-async def read_focused_name(page):
+async def read_focused_name(page: BrowserTab) -> str:
     return await page.evaluate("document.activeElement.id")
 
 
-async def wait_for_message(page, words):
+async def wait_for_message(page: BrowserTab, words: str) -> None:
     """Waits until the page says so."""
     await page.wait_until(f"document.getElementById('message').textContent.includes({words!r})")
 
 
-async def read_cells(page, name):
+async def read_cells(page: BrowserTab, name: str) -> list[list[str]]:
     """The cells of a table's rows."""
     script = f"[...document.querySelectorAll('#{name} tbody tr')].map((row) => [...row.cells].map((cell) => cell.textContent))"
     return await page.evaluate(script)
 
 
-async def wait_for_rows(page, name, count):
+async def wait_for_rows(page: BrowserTab, name: str, count: int) -> None:
     await page.wait_until(f"document.querySelectorAll('#{name} tbody tr').length === {count}")
 
 
-async def write_pictures_and_check_shown(page, counts, pictures, name):
+async def write_pictures_and_check_shown(counts: Counts, page: BrowserTab, pictures: Pictures, name: str) -> None:
     """No part is broader than the screen, each control has a name, and the pictures can be looked at."""
     for width in WIDTHS:
         for scheme in ("light", "dark"):
@@ -79,7 +85,7 @@ async def write_pictures_and_check_shown(page, counts, pictures, name):
     counts.check(f"each control of {name} has a name", await page.evaluate(UNNAMED) == 0)
 
 
-async def sign_in(page, office, who):
+async def sign_in(page: BrowserTab, office: ServedOffice, who: str) -> None:
     await page.wait_until("!document.getElementById('sign-in').hidden")
     await type_into(page, "token", office.tokens[who])
     await page.press_key("Enter", 13)

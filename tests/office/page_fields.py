@@ -1,7 +1,19 @@
 """Faults at the fields: a wrong one is reported in the trader's units, and nothing is sent."""
 
-from page_actions import read_cells, write_pictures_and_check_shown, choose, click, focus_on, read_focused_name, read_text, type_into
-from page_results import ON_SCREEN
+from office.page_actions import (
+    Pictures,
+    choose,
+    click,
+    focus_on,
+    read_cells,
+    read_focused_name,
+    read_text,
+    type_into,
+    write_pictures_and_check_shown,
+)
+from office.page_results import ON_SCREEN
+from shared.browser import BrowserTab
+from shared.counts import Counts
 
 RIGHT = """[limitRule('4000').value, limitRule('-500').value, limitRule('12,5').value, volumeRule('0.1').value, volumeRule('9999,9').value,
   nameRule('-').value, nameRule('ABCDEFGHIJ-9').value, groupRule('').value].join(' ')"""
@@ -35,20 +47,20 @@ PASTE = """{ const clipboardData = new DataTransfer(); const place = cells()[%d]
   place.dispatchEvent(new ClipboardEvent('paste', { clipboardData, bubbles: true, cancelable: true })); }"""
 
 
-async def check_faults(page, counts, pictures):
+async def check_faults(counts: Counts, page: BrowserTab, pictures: Pictures) -> None:
     """A wrong field is reported in the trader's units at the field, and nothing is sent."""
     before = len(await read_cells(page, "commands-table"))
-    await check_faults_at_fields(page, counts)
+    await check_faults_at_fields(counts, page)
     await click(page, "input[value=block]")
-    await check_faults_of_block(page, counts)
-    await check_unfilled_volumes(page, counts)
-    await check_faults_of_grid(page, counts)
-    await check_shown_faults(page, counts, pictures)
+    await check_faults_of_block(counts, page)
+    await check_unfilled_volumes(counts, page)
+    await check_faults_of_grid(counts, page)
+    await check_shown_faults(counts, page, pictures)
     await page.evaluate("change(null)")
     counts.check("a wrong field sends nothing", len(await read_cells(page, "commands-table")) == before)
 
 
-async def check_faults_at_fields(page, counts):
+async def check_faults_at_fields(counts: Counts, page: BrowserTab) -> None:
     counts.check("right values are right", await page.evaluate(RIGHT) == "400000 -50000 1250 1 99999 - ABCDEFGHIJ-9 ")
     await click(page, "input[value=hour]")
     counts.check(
@@ -69,7 +81,7 @@ async def check_faults_at_fields(page, counts):
     counts.check(f"a fault goes when its field is changed: {gone}", gone == ["", "", None])
 
 
-async def check_faults_of_block(page, counts):
+async def check_faults_of_block(counts: Counts, page: BrowserTab) -> None:
     wrong = [("group", "G_1", "1 to 12 of the characters"), ("group", "EVENING-PEAK-1", "14 characters")]
     for name, words, fault in (*wrong, ("fill-volume", "0", "from 0.1 to 9999.9 MW")):
         await type_into(page, name, words)
@@ -79,7 +91,7 @@ async def check_faults_of_block(page, counts):
     await type_into(page, "group", "")
 
 
-async def check_unfilled_volumes(page, counts):
+async def check_unfilled_volumes(counts: Counts, page: BrowserTab) -> None:
     """A volume for several periods that isn't filled in yet, or can't be."""
     await choose(page, "fill-volume", 30)
     await choose(page, "fill-from", 11)
@@ -106,7 +118,7 @@ async def check_unfilled_volumes(page, counts):
     await choose(page, "fill-volume", "")
 
 
-async def check_faults_of_grid(page, counts):
+async def check_faults_of_grid(counts: Counts, page: BrowserTab) -> None:
     """A volume of a period, and cells of a spreadsheet that are pasted."""
     await click(page, "#enter")
     counts.check("a block without volumes", "at least one period" in await read_text(page, "grid-fault"))
@@ -127,7 +139,7 @@ async def check_faults_of_grid(page, counts):
     counts.check(f"but not past the last period: {told}", told == too_many and pasted == "12,5")
 
 
-async def check_shown_faults(page, counts, pictures):
+async def check_shown_faults(counts: Counts, page: BrowserTab, pictures: Pictures) -> None:
     """Several faults at once, in a picture and on a small screen."""
     await click(page, "#clear")
     await type_into(page, "fill-volume", "5")
@@ -138,7 +150,7 @@ async def check_shown_faults(page, counts, pictures):
     for name in ("name", "price"):
         await type_into(page, name, "x_x")
     await click(page, "#enter")
-    await write_pictures_and_check_shown(page, counts, pictures, "faults")
+    await write_pictures_and_check_shown(counts, page, pictures, "faults")
     await page.set_screen_size(390, "light", 600)
     await click(page, "input[value=hour]")
     await type_into(page, "volume", "0")

@@ -1,6 +1,8 @@
 """Answers that are lost, held or another tab's: the page loses no order and no word of one."""
 
-from page_actions import NEVER, answer, read_cells, click, read_text, type_into, wait_for_message, wait_for_rows
+from office.page_actions import NEVER, answer, click, read_cells, read_text, type_into, wait_for_message, wait_for_rows
+from shared.browser import BrowserTab
+from shared.counts import Counts
 
 # Loses the answer to the next command, which the office enters.
 LOSE = """{ const real = window.fetch; window.lost = false; window.fetch = async (path, how) => { const answer = await real(path, how);
@@ -15,7 +17,7 @@ ENTER_IN_OTHER_TAB = """fetch(`${own('commands')}/${state.next}`, { method: 'PUT
 SUBMIT_GONE = "{ what: 'submit', order: 'GONE', kind: 'hour', side: 'sell', price: 100, volumes: [[1, 10]] }"
 
 
-async def check_lost_answer(page, counts):
+async def check_lost_answer(counts: Counts, page: BrowserTab) -> None:
     """The page sends the command again under the same number, also if it has looked at its commands in the meantime."""
     before = len(await read_cells(page, "commands-table"))
     await page.evaluate(LOSE)
@@ -49,13 +51,13 @@ async def check_lost_answer(page, counts):
     await page.evaluate("enter([{ what: 'cancel', order: 'a' }])")
     counts.check("a command that the office refuses is named", (await read_text(page, "message")).startswith("a wasn't cancelled: "))
     await wait_for_rows(page, "commands-table", before + 3)
-    await check_two_tabs(page, counts)
+    await check_two_tabs(counts, page)
 
 
 AMEND_AT_PRICE = "{ what: 'amend', order: 'ONCE', price: %d, volumes: [[1, 10]] }"
 
 
-async def check_two_tabs(page, counts):
+async def check_two_tabs(counts: Counts, page: BrowserTab) -> None:
     """An entry of another tab of the participant in the meantime is reported before it is lost."""
     await click(page, '[aria-label="Amend ONCE"]')
     await page.evaluate("look()")
@@ -91,7 +93,7 @@ async def check_two_tabs(page, counts):
     await page.wait_until("byId('overtaken').textContent === `GONE isn't in the book any more.`")
     await click(page, "#keep")
     counts.check("a form that is left has no such words", await read_text(page, "overtaken") == "")
-    await check_silence(page, counts)
+    await check_silence(counts, page)
 
 
 # Answers no more, until a call lets it.
@@ -99,7 +101,7 @@ HELD = """{ window.real = fetch; fetch = async (path, how) => { await new Promis
   how?.signal?.addEventListener('abort', () => fail(how.signal.reason)); }); return real(path, how); }; }"""
 
 
-async def check_silence(page, counts):
+async def check_silence(counts: Counts, page: BrowserTab) -> None:
     """An office that takes the connection and doesn't answer."""
     await page.evaluate("look()")
     await page.evaluate(HELD)
@@ -115,11 +117,11 @@ async def check_silence(page, counts):
     counts.check("a page without orders that are half written can be left", not await page.evaluate(asks))
     await type_into(page, "name", "HALF")
     counts.check("one with such isn't without a question", await page.evaluate(asks))
-    await check_other_day(page, counts)
+    await check_other_day(counts, page)
     await page.evaluate("change(null)")
 
 
-async def check_other_day(page, counts):
+async def check_other_day(counts: Counts, page: BrowserTab) -> None:
     """Another day isn't shown before the participant knows that an order is lost."""
     await page.evaluate("say(''); options(byId('days'), [state.day, '2099-01-01'].map((day) => [day, day]))")
     for word, told in (("no", ""), ("yes", "There is no such day.")):

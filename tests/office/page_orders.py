@@ -1,10 +1,12 @@
 """Orders by the keyboard: entered, amended, cancelled, and half written."""
 
-from page_actions import answer, read_cells, choose, click, focus_on, read_text, type_into, wait_for_rows
-from page_signing_in import BLOCK, FIELDS
+from office.page_actions import answer, choose, click, focus_on, read_cells, read_text, type_into, wait_for_rows
+from office.page_signing_in import BLOCK, FIELDS
+from shared.browser import BrowserTab
+from shared.counts import Counts
 
 
-async def check_entering(page, who, counts):
+async def check_entering(counts: Counts, page: BrowserTab, who: str) -> None:
     await focus_on(page, "name")
     await page.type_text("unit-8")
     await choose(page, "side", "sell")
@@ -55,8 +57,8 @@ async def check_entering(page, who, counts):
     counts.check("which its message names", await read_text(page, "message") == linked)
 
 
-async def check_changing(page, counts):
-    await check_kept_draft(page, counts)
+async def check_changing(counts: Counts, page: BrowserTab) -> None:
+    await check_kept_draft(counts, page)
     await click(page, '[aria-label="Amend UNIT-8"]')
     looks = await page.evaluate("['name', 'side', 'price'].map((id) => getComputedStyle(byId(id)).backgroundColor)")
     counts.check(
@@ -103,7 +105,7 @@ TOLD = [
 ]
 
 
-async def check_kept_draft(page, counts):
+async def check_kept_draft(counts: Counts, page: BrowserTab) -> None:
     """A new order that is half written comes back after an amend of another, whether this is entered or not."""
     await click(page, "input[value=hour]")
     half = {"name": "HALF", "price": "7", "volume": "8", "group": "G", "fill-volume": "9", "period": "11", "fill-from": "3", "fill-to": "5"}

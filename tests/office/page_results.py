@@ -1,8 +1,12 @@
 """The close: the results, the prices and the totals on the page."""
 
 import asyncio
+from collections.abc import Sequence
 
-from page_actions import read_cells, read_text, type_into
+from office.page_actions import read_cells, read_text, type_into
+from shared.browser import BrowserTab
+from shared.counts import Counts
+from shared.served_office import ServedOffice
 
 # Whether a part is on the screen as a whole, and nothing covers it.
 ON_SCREEN = """(() => { const part = byId('%s'), {top, bottom, left} = part.getBoundingClientRect();
@@ -13,7 +17,7 @@ STOPS = """[...document.querySelectorAll('.wide')].filter((one) => one.checkVisi
   !== (one.scrollWidth > one.clientWidth || one.scrollHeight > one.clientHeight)).map((one) => one.textContent.slice(0, 40))"""
 
 
-async def check_close_and_results(page, office, who, other, counts):
+async def check_close_and_results(counts: Counts, page: BrowserTab, office: ServedOffice, who: str, other: str) -> None:
     office.client_of(other).enter(office.day, f"submit,{other},B,hour,buy,10000,8:300,,", f"submit,{other},S,hour,sell,1000,1:200,,")
     await page.evaluate("announce(601); announce(599)")
     counts.check("the time left is announced", await read_text(page, "announced") == "10 minutes left")
@@ -72,7 +76,7 @@ async def check_close_and_results(page, office, who, other, counts):
     counts.check("until it is published", offered.startswith("day,24,") and offered.endswith("close,,,,,,,,\n"))
 
 
-def expected_totals(amounts):
+def expected_totals(amounts: Sequence[float]) -> list[str]:
     """What is received, paid, and both together, as the page writes them."""
     received, paid = sum(max(0, one) for one in amounts), sum(min(0, one) for one in amounts)
     sign = "+" if received + paid > 0 else "\u2212"

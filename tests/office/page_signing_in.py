@@ -1,9 +1,13 @@
 """Signing in and out: wrong tokens, an office that can't be reached, what a participant leaves, and signing in after the close."""
 
 import asyncio
+from pathlib import Path
 
-from page_actions import SLOW, answer, read_cells, click, sign_in, read_text, type_into, wait_for_message
-from page_tables import TABLE, write_and_choose_table
+from office.page_actions import SLOW, answer, click, read_cells, read_text, sign_in, type_into, wait_for_message
+from office.page_tables import TABLE, write_and_choose_table
+from shared.browser import BrowserTab
+from shared.counts import Counts
+from shared.served_office import ServedOffice
 
 # The fields of the form that are seen, those of the periods as one.
 FIELDS = """[...new Set([...document.querySelectorAll('#order-form input, #order-form select')].filter((one) => one.checkVisibility())
@@ -15,7 +19,7 @@ UNREACHED = """{ const real = fetch; fetch = async (...words) => {
   if (window.unreached) return real(...words); window.unreached = true; throw new TypeError('unreached'); }; }"""
 
 
-async def check_unreached(page, counts):
+async def check_unreached(counts: Counts, page: BrowserTab) -> None:
     """A page that can't reach the office asks again."""
     await page.call_browser("Page.addScriptToEvaluateOnNewDocument", source=UNREACHED)
     await page.call_browser("Page.reload")
@@ -29,7 +33,7 @@ SECONDS = """['00', '30'].map((seconds) => { state.known.closes = state.known.cl
   showDay(); return byId('where').textContent; })"""
 
 
-async def check_first_sign_in(page, office, who, counts):
+async def check_first_sign_in(counts: Counts, page: BrowserTab, office: ServedOffice, who: str) -> None:
     await page.wait_until("!document.getElementById('sign-in').hidden")
     for wrong in ("no-dot", "gas.x", "GAS.wrong", f"{office.tokens[who]}\u00e9"):
         await page.evaluate("say('')")
@@ -74,7 +78,7 @@ LEFT = """[byId('entry-title').textContent, byId('enter').textContent,
 NOTHING_LEFT = ["Enter an order", "Enter the order", "", "", "", "buy", "", False, True, True, True, True, 0, 0, False]
 
 
-async def check_leaving(page, office, who, other, room, counts):
+async def check_leaving(counts: Counts, page: BrowserTab, office: ServedOffice, who: str, other: str, room: Path) -> None:
     """Signing out leaves nothing for the next participant: neither what was being done, nor what comes later."""
     await write_and_choose_table(page, room, TABLE.format(who=who))
     await wait_for_message(page, "was read")
@@ -108,7 +112,7 @@ async def check_leaving(page, office, who, other, room, counts):
     await page.wait_until("document.querySelectorAll('#orders-table tbody tr').length")
 
 
-async def check_next_sign_in(page, office, who, counts):
+async def check_next_sign_in(counts: Counts, page: BrowserTab, office: ServedOffice, who: str) -> None:
     """After the close, the results are there for each who signs in."""
     await click(page, "#sign-out")
     counts.check(

@@ -3,7 +3,9 @@
 import os
 from pathlib import Path
 
-from page_actions import NEVER, read_cells, click, read_focused_name, read_text, wait_for_message, wait_for_rows
+from office.page_actions import NEVER, click, read_cells, read_focused_name, read_text, wait_for_message, wait_for_rows
+from shared.browser import BrowserTab
+from shared.counts import Counts
 
 HEADS = "participant,order,kind,side,price_eur_mwh,periods,volume_mw,parent,group\n"
 TABLE = HEADS + "{who},T-1,block,buy,80,1-3,10,,G\n{who},T-2,block,buy,70,1;3,5.5,T-1,\n{who},T-3,block,buy,60,2,1,MORE,\n"
@@ -13,7 +15,7 @@ HASTY = """{ window.real = fetch; fetch = async (...words) => { await new Promis
   return new Response('{"fault": "TooFast", "words": "too many requests"}', { status: 429 }); }; }"""
 
 
-async def write_and_choose_table(page, room, words, time=None):
+async def write_and_choose_table(page: BrowserTab, room: Path, words: str, time: int | None = None) -> None:
     path = Path(room, "orders.csv")
     path.write_text(words)
     root = (await page.call_browser("DOM.getDocument"))["root"]["nodeId"]
@@ -25,7 +27,7 @@ async def write_and_choose_table(page, room, words, time=None):
     await click(page, "#upload-form button")
 
 
-async def check_upload(page, who, room, counts):
+async def check_upload(counts: Counts, page: BrowserTab, who: str, room: Path) -> None:
     before = len(await read_cells(page, "commands-table"))
     await write_and_choose_table(page, room, "participant;order\n")
     await page.wait_until("byId('file-fault').textContent.includes('no column')")

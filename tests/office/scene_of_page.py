@@ -1,12 +1,16 @@
 """The page in a browser: signing in, each form by the keyboard, faults at their fields, an upload, the close and the results, the next
 participant in the same tab, and the demo; light and dark, broad and narrow."""
 
+import argparse
 import asyncio
 import signal
 import subprocess
 import tempfile
+from pathlib import Path
 
-from page_actions import (
+from lib.base import clock, rules
+from office.page_actions import (
+    Pictures,
     SCROLLED,
     WIDTHS,
     answer,
@@ -19,45 +23,46 @@ from page_actions import (
     wait_for_rows,
     write_pictures_and_check_shown,
 )
-from page_fields import check_faults
-from page_lost_answers import check_lost_answer
-from page_orders import check_changing, check_entering
-from page_results import check_close_and_results
-from page_signing_in import check_first_sign_in, check_leaving, check_next_sign_in, check_unreached
-from page_tables import check_upload
+from office.page_fields import check_faults
+from office.page_lost_answers import check_lost_answer
+from office.page_orders import check_changing, check_entering
+from office.page_results import check_close_and_results
+from office.page_signing_in import check_first_sign_in, check_leaving, check_next_sign_in, check_unreached
+from office.page_tables import check_upload
 from shared import browser
-from shared.served_office import TOOL, day_of, running_office
+from shared.browser import BrowserTab
+from shared.counts import Counts
 from shared.ports import find_free_port
+from shared.processes import stdout_of
+from shared.served_office import TOOL, ServedOffice, day_of, running_office
 
-from lib.base import clock, rules
 
-
-async def check_day(office, counts, pictures, room):
+async def check_day(counts: Counts, office: ServedOffice, pictures: Pictures, room: Path) -> None:
     who, other = office.who[:2]
     office.client_of(other).enter(office.day, f"submit,{other},FIRST,hour,sell,300000,24:1,,")  # so that entries and own numbers differ
     async with browser.running_browser_tab(office.url) as page:
         await page.wait_until("!document.getElementById('sign-in').hidden")
-        await check_unreached(page, counts)
-        await write_pictures_and_check_shown(page, counts, pictures, "sign-in")
-        await check_first_sign_in(page, office, who, counts)
-        await check_entering(page, who, counts)
-        await check_changing(page, counts)
-        await check_faults(page, counts, pictures)
-        await check_leaving(page, office, who, office.who[2], room, counts)
-        await check_upload(page, who, room, counts)
-        await check_lost_answer(page, counts)
+        await check_unreached(counts, page)
+        await write_pictures_and_check_shown(counts, page, pictures, "sign-in")
+        await check_first_sign_in(counts, page, office, who)
+        await check_entering(counts, page, who)
+        await check_changing(counts, page)
+        await check_faults(counts, page, pictures)
+        await check_leaving(counts, page, office, who, office.who[2], room)
+        await check_upload(counts, page, who, room)
+        await check_lost_answer(counts, page)
         await page.evaluate("byId('commands-list').open = true")
-        await write_pictures_and_check_shown(page, counts, pictures, "orders")
-        await check_close_and_results(page, office, who, other, counts)
-        await write_pictures_and_check_shown(page, counts, pictures, "results")
-        await check_next_sign_in(page, office, who, counts)
+        await write_pictures_and_check_shown(counts, page, pictures, "orders")
+        await check_close_and_results(counts, page, office, who, other)
+        await write_pictures_and_check_shown(counts, page, pictures, "results")
+        await check_next_sign_in(counts, page, office, who)
         # a wrong token, a table that can't be read, a day that there isn't, a number that is used and many tables are answers that the
         # browser notes
         found = [fault for fault in page.faults if not any(status in fault for status in ("400", "401", "404", "409", "429"))]
         counts.check(f"no script fails, and the policy refuses nothing: {found}", not found)
 
 
-async def check_length(page, office, periods, counts):
+async def check_length(counts: Counts, page: BrowserTab, office: ServedOffice, periods: int) -> None:
     """A day of another length: a block over all of it, by the page and in its results."""
     who = office.who[0]
     await page.call_browser("Page.navigate", url=office.url)
@@ -86,17 +91,17 @@ async def check_length(page, office, periods, counts):
     counts.check(f"the prices of {periods} periods", [one[0] for one in prices] == begins)
 
 
-async def check_lengths(args, counts):
+async def check_lengths(counts: Counts, args: argparse.Namespace) -> None:
     async with browser.running_browser_tab("data:text/html,") as page:
         for periods in sorted(set(rules.DAYS) - {24}):
             with running_office(args.dam, args.desk, periods=periods, day=day_of(periods)) as office:
                 office.start()
-                await check_length(page, office, periods, counts)
+                await check_length(counts, page, office, periods)
         found = [fault for fault in page.faults if "CONNECTION_REFUSED" not in fault]  # of an office that has ended
         counts.check(f"no script fails at a day of another length: {found}", not found)
 
 
-async def check_demo_page(url, counts, pictures):
+async def check_demo_page(counts: Counts, url: str, pictures: Pictures) -> None:
     """A block over a night has a price in the demo, and closing the demo asks first."""
     async with browser.running_browser_tab(url) as page:
         await page.wait_until("document.querySelector('#demo-names button')")
@@ -113,7 +118,7 @@ async def check_demo_page(url, counts, pictures):
         await page.press_key("Enter", 13)
         await click(page, "#enter")
         await wait_for_message(page, "NIGHT entered")
-        await write_pictures_and_check_shown(page, counts, pictures, "demo")
+        await write_pictures_and_check_shown(counts, page, pictures, "demo")
         await click(page, "#close-now")
         await answer(page, "no")
         await page.evaluate("look()")
@@ -129,20 +134,20 @@ async def check_demo_page(url, counts, pictures):
         counts.check("no script of the demo fails", not page.faults)
 
 
-def run_and_check_demo(args, counts):
+def run_and_check_demo(counts: Counts, args: argparse.Namespace) -> None:
     port = find_free_port()
     words = [*TOOL, "demo", "--no-browser", "--port", str(port), "--dam", args.dam, "--desk", args.desk]
     with subprocess.Popen(words, stdout=subprocess.PIPE, stderr=subprocess.DEVNULL, text=True) as process:
         try:
-            process.stdout.readline()
-            asyncio.run(check_demo_page(f"http://127.0.0.1:{port}/", counts, args.pictures))
+            stdout_of(process).readline()
+            asyncio.run(check_demo_page(counts, f"http://127.0.0.1:{port}/", args.pictures))
         finally:
             process.send_signal(signal.SIGINT)
 
 
-def check_pages(args, counts):
+def check_pages(counts: Counts, args: argparse.Namespace) -> None:
     with running_office(args.dam, args.desk) as office, tempfile.TemporaryDirectory() as room:
         office.start()
-        asyncio.run(check_day(office, counts, args.pictures, room))
-    asyncio.run(check_lengths(args, counts))
-    run_and_check_demo(args, counts)
+        asyncio.run(check_day(counts, office, args.pictures, Path(room)))
+    asyncio.run(check_lengths(counts, args))
+    run_and_check_demo(counts, args)

@@ -1,5 +1,6 @@
 """The parts of the test of an office."""
 
+import argparse
 import asyncio
 import contextlib
 import json
@@ -11,34 +12,38 @@ import subprocess
 import sys
 import tempfile
 import time
+from collections.abc import Callable, Iterator
 from pathlib import Path
 
-import hostile
-import loads
-from shared import browser
-from shared.office_load import OfficeLoad
-from shared.served_office import TOOL, TOP, OfficeFault, day_of, running_office
-from shared.ports import find_free_port
+from cryptography.hazmat.primitives.asymmetric.ed25519 import Ed25519PublicKey
 
 from dam_tools.office import Asked, Office
 from lib.base import rules
 from lib.office import desk
 from lib.seal import heads, signing
+from office import hostile, loads
+from shared import browser
+from shared.counts import Counts
+from shared.office_load import OfficeLoad
+from shared.place import TOP
+from shared.ports import find_free_port
+from shared.processes import pipes_of, stdout_of, wait_until
+from shared.served_office import TOOL, OfficeFault, ServedOffice, day_of, running_office
 
 KILLS, ALL_KILLS = 3, 30
 CONNECTIONS, ALL_CONNECTIONS = 50, 200  # of a load, each of a participant; with --all
 SECONDS = 12  # that a load may take in the check
 
 
-def read_key(office):
+def read_key(office: ServedOffice) -> Ed25519PublicKey:
     return signing.parse_public((office.folder / "operator.pem.pub").read_bytes())
 
 
-def run_tool(name, *words):
+def run_tool(name: str, *words: object) -> subprocess.CompletedProcess[str]:
     return subprocess.run([sys.executable, "-I", "-B", TOP / "tools" / name, *map(str, words)], capture_output=True, text=True)
 
 
-def call_and_see_refusal(call, fault):
+def call_and_see_refusal(call: Callable[[], object], fault: str) -> bool:
     """Makes a call, and returns whether it is refused with a fault of this name."""
     try:
         call()
@@ -47,41 +52,47 @@ def call_and_see_refusal(call, fault):
     return False
 
 
-def check_strangers(args, counts):
+def check_strangers(counts: Counts, args: argparse.Namespace) -> None:
     with running_office(args.dam, args.desk) as office:
         office.start()
-        hostile.check_headers(office, counts)
-        hostile.check_messages(office, counts)
-        hostile.check_slow(office, counts)
-        hostile.check_paths(office, counts)
-        hostile.check_tables(office, counts)
-        hostile.check_charges(office, counts)
-        hostile.check_many(office, counts, 10_000 if args.all else 1_300)
-        hostile.check_tokens(office, counts)
+        hostile.check_headers(counts, office)
+        hostile.check_messages(counts, office)
+        hostile.check_slow(counts, office)
+        hostile.check_paths(counts, office)
+        hostile.check_tables(counts, office)
+        hostile.check_charges(counts, office)
+        hostile.check_many(counts, office, 10_000 if args.all else 1_300)
+        hostile.check_tokens(counts, office)
         who = office.who[0]
         client = office.client_of(who)
         client.enter(office.day, f"cancel,{who},A,,,,,,")
         office.run_tool("revoke", office.folder, who)
         counts.check("a revoked token is refused at once", call_and_see_refusal(lambda: client.orders(office.day), "Token"))
-        hostile.check_secrets(office, counts)
+        hostile.check_secrets(counts, office)
 
 
-def check_tls(args, counts):
+class OfficeWithTls(ServedOffice):
+    """An office whose answers need TLS, so that its log alone tells whether it is ready."""
+
+    def is_ready(self) -> bool:
+        return self.process.poll() is None and b'"serving"' in self.log.read_bytes()
+
+
+def check_tls(counts: Counts, args: argparse.Namespace) -> None:
     with tempfile.TemporaryDirectory() as room:
         cert, key = hostile.make_certificate(room)
-        with running_office(args.dam, args.desk, words=["--tls", cert, key]) as office:
+        with running_office(args.dam, args.desk, kind=OfficeWithTls, words=["--tls", cert, key]) as office:
             with contextlib.suppress(RuntimeError):
-                office.is_ready = lambda: office.process.poll() is None and b'"serving"' in office.log.read_bytes()
                 office.start()
-            hostile.check_tls(office, cert, counts)
-            hostile.check_silent(office, counts)
+            hostile.check_tls(counts, office, cert)
+            hostile.check_silent(counts, office)
             office.stop()
             office.log.write_text("")
             office.start()  # with the memory of a new one
-            hostile.check_downloads(office, counts, ssl.create_default_context(cafile=cert))
+            hostile.check_downloads(counts, office, ssl.create_default_context(cafile=cert))
 
 
-def check_full_disk(args, counts):
+def check_full_disk(counts: Counts, args: argparse.Namespace) -> None:
     """A disk that is full: commands wait or are refused, and are entered once there is room."""
     with tempfile.TemporaryDirectory() as room:
         full, limited = Path(room, "full"), Path(room, "desk")
@@ -98,7 +109,7 @@ def check_full_disk(args, counts):
             while (answer := office.send_request(f"{path}{entered + 1}", bearer, "PUT", record % f"B-{entered}"))[0] == 200:
                 entered += 1
             counts.check(f"a full disk is answered by 503, after {entered} commands", answer[0] == 503 and 10 < entered < 200)
-            counts.check("and the ends of the desk are counted", office.read_metric_or_none("dam_office_desk_ends_total") > 0)
+            counts.check("and the ends of the desk are counted", (office.read_metric_or_none("dam_office_desk_ends_total") or 0) > 0)
             full.unlink()
             receipt = office.client_of(who).enter(office.day, record % f"B-{entered}")[0]
             counts.check(
@@ -113,7 +124,7 @@ def check_full_disk(args, counts):
                 )
 
 
-def check_full_office(args, counts):
+def check_full_office(counts: Counts, args: argparse.Namespace) -> None:
     """A disk that is full for the office too: it is unavailable until there is room, without a command that shows it; and while the files
     of a closed day can't be made."""
     with running_office(args.dam, args.desk) as office:
@@ -124,8 +135,11 @@ def check_full_office(args, counts):
         set_file_limit(office, 4_096)  # the desk inherits it at its next start
         office.kill("desk")
         answer = office.send_request(f"/days/{office.day}/commands/{who}/41", office.bearer_header(who), "PUT", record % "B")
-        counts.check(f"a full disk is answered by 503: {answer[2]}", answer[0] == 503)
-        found = [office.send_request("/healthz")[0] for _ in range(40) if time.sleep(0.1) is None]
+        counts.check(f"a full disk is answered by 503: {answer[2]!r}", answer[0] == 503)
+        found = []
+        for _ in range(40):
+            time.sleep(0.1)
+            found.append(office.send_request("/healthz")[0])
         counts.check(f"and the office is unavailable as long as the disk is full: {found}", set(found) == {503})
         values = [office.read_metric_or_none(name) for name in (f'dam_office_ready{{day="{office.day}"}}', "dam_office_right")]
         counts.check(f"and says so in its counts: {values}", values == [0, 0])
@@ -143,37 +157,30 @@ def check_full_office(args, counts):
         counts.check("close says that it waits", wait_until(lambda: b"has no head yet" in said.read_bytes()))
         set_file_limit(office, resource.RLIM_INFINITY)
         status = began.wait(60)
-        counts.check(f"and ends with the results: {said.read_bytes()}", status == 0 and b"has its results" in said.read_bytes())
+        counts.check(f"and ends with the results: {said.read_bytes()!r}", status == 0 and b"has its results" in said.read_bytes())
         counts.check("and the office is available once they are there", wait_until(office.is_ready))
 
 
-def set_file_limit(office, size):
+def set_file_limit(office: ServedOffice, size: int) -> None:
     """Lets the office write no file beyond this size."""
     resource.prlimit(office.process.pid, resource.RLIMIT_FSIZE, (size, resource.RLIM_INFINITY))
 
 
-def wait_until(holds, seconds=20):
-    """Whether something holds within these seconds."""
-    end = time.monotonic() + seconds
-    while not (found := holds()) and time.monotonic() < end:
-        time.sleep(0.02)
-    return bool(found)
-
-
-def check_words_of_desk(args, counts):
+def check_words_of_desk(counts: Counts, args: argparse.Namespace) -> None:
     """The words by which the office tells that a desk is open, and that another one still has its file."""
     with tempfile.TemporaryDirectory() as room:
         words = [args.desk, Path(room, "day.desk")]
         shown = subprocess.run(words, input=b"day,24,,,,,,,\n" + desk.EMPTY_LINE, capture_output=True, timeout=SECONDS)
         counts.check(f"an open desk answers an empty line: {shown}", shown.stdout == b"day,24\n" + desk.ANSWER_TO_EMPTY_LINE)
         with subprocess.Popen(words, stdin=subprocess.PIPE, stdout=subprocess.PIPE) as first:
-            first.stdout.readline()  # its journal, once it has the file
+            stdin, stdout = pipes_of(first)
+            stdout.readline()  # its journal, once it has the file
             second = subprocess.run(words, input=b"", capture_output=True, timeout=SECONDS)
-            first.stdin.close()
+            stdin.close()
         counts.check(f"a second desk ends: {second}", second.stderr == b"file: %s\n" % desk.LOCKED_WORDS)
 
 
-def check_ended_desk(args, counts):
+def check_ended_desk(counts: Counts, args: argparse.Namespace) -> None:
     """A desk that ends while no command comes, and whose file can't be opened for some time."""
     with tempfile.TemporaryDirectory() as room:
         unreadable, wrapped = Path(room, "unreadable"), Path(room, "desk")
@@ -197,7 +204,7 @@ def check_ended_desk(args, counts):
             counts.check(f"an office that is ended says so: {events}", events[-1] == "ended" and "stopped" not in events)
 
 
-def check_rolled_back(args, counts):
+def check_rolled_back(counts: Counts, args: argparse.Namespace) -> None:
     """A desk's file that is put back by an entry while no office runs, and one that is lost."""
     with running_office(args.dam, args.desk) as office:
         office.start()
@@ -232,10 +239,10 @@ def check_rolled_back(args, counts):
         signed.unlink()
         office.start()
         counts.check("and without the head's file a shorter journal is served", len(office.client_of(who).commands(office.day)) == 1)
-    check_restored(args, counts)
+    check_restored(counts, args)
 
 
-def check_restored(args, counts):
+def check_restored(counts: Counts, args: argparse.Namespace) -> None:
     """A day whose last entries are on no disk any more: receipts have them, and a desk's file of their records gives the same receipts."""
     with running_office(args.dam, args.desk) as office:
         office.start()
@@ -258,7 +265,7 @@ def check_restored(args, counts):
         counts.check("and has the same head", office.send_request(f"/days/{office.day}/head")[2] == head)
 
 
-def check_kills(args, counts):
+def check_kills(counts: Counts, args: argparse.Namespace) -> None:
     """SIGKILL of the office, its desk and both, in the middle of a load, after which clients send again."""
     count, rounds = (ALL_KILLS, 5) if args.all else (KILLS, 1)
     for number in range(rounds):
@@ -281,7 +288,7 @@ def check_kills(args, counts):
             print(f"{count // rounds} kills, {len(records)} commands: ready again after {max(starts):.2f} s at most")
 
 
-def check_whole_day(args, counts):
+def check_whole_day(counts: Counts, args: argparse.Namespace) -> None:
     """A day of 9,999 commands, or as many as there is time for, from 50 connections, or 200; then a crash, the close, and what is
     published."""
     connections = ALL_CONNECTIONS if args.all else CONNECTIONS
@@ -300,15 +307,15 @@ def check_whole_day(args, counts):
         print(f"a start with {len(records)} entries: {again:.2f} s")
         published = office.close_day()
         print(f"from the close to the results: {published:.2f} s")
-        check_published(args, counts, office)
+        check_published(counts, args, office)
         office.kill("office", "desk")
         office.start_process()
-        wrong = list(iterate_wrong_answers_of_start(office, len(records) + 1))
-        counts.check(f"a closed day that is read again gives no other answers: {wrong[:3]}", not wrong)
+        others = list(iterate_wrong_answers_of_start(office, len(records) + 1))
+        counts.check(f"a closed day that is read again gives no other answers: {others[:3]}", not others)
         counts.check("another's share isn't touched", office.client_of(office.who[0]).next(office.day) <= most + 1)
 
 
-def iterate_wrong_answers_of_start(office, size):
+def iterate_wrong_answers_of_start(office: ServedOffice, size: int) -> Iterator[tuple[object, ...]]:
     """The answers of an office that starts, until it is ready, which aren't those of a closed day with this number of entries."""
     who, is_ready = office.who[0], False
     while not is_ready:
@@ -319,10 +326,10 @@ def iterate_wrong_answers_of_start(office, size):
                 if status != 503 and (status != 200 or path.endswith("head") and json.loads(data)["size"] != size):
                     yield path, status, data[:100]
     if office.process.poll() is not None:
-        yield "it ended", office.log.read_text()[-500:]
+        yield ("it ended", office.log.read_text()[-500:])
 
 
-def check_week(args, counts):
+def check_week(counts: Counts, args: argparse.Namespace) -> None:
     """A second day and a new participant, while the first day is open; a new token; an office that is served twice; a start after a
     close."""
     with running_office(args.dam, args.desk) as office:
@@ -334,9 +341,7 @@ def check_week(args, counts):
         words = ["--day", later, "--periods", 96, "--close", "12:00", "--participants", table, "--json"]
         made = office.run_tool("init", office.folder, *words)
         office.tokens.update(json.loads(made.stdout)["tokens"])
-        until = time.monotonic() + 10
-        while office.send_request(f"/days/{later}")[0] != 200 and time.monotonic() < until:
-            time.sleep(0.05)
+        wait_until(lambda: office.send_request(f"/days/{later}")[0] == 200, 10)
         new = office.client_of("NEW")
         counts.check("a day is added while another is open", new.enter(later, "submit,NEW,A,hour,buy,1,96:1,,")[0]["reply"] == "done")
         counts.check("days have journals of their own", [one["entries"] for one in new.days()] == [1, 1])
@@ -369,15 +374,15 @@ def check_week(args, counts):
         counts.check("and the other day is still open", office.client_of("NEW").enter(later, "cancel,NEW,A,,,,,,")[0]["number"] == 2)
 
 
-def check_demo(args, counts):
+def check_demo(counts: Counts, args: argparse.Namespace) -> None:
     """The demo, without a browser: its page, its tokens, a close at once, results."""
-    import described
+    from office import described
 
     port = find_free_port()
     words = [*TOOL, "demo", "--no-browser", "--port", str(port), "--dam", args.dam, "--desk", args.desk]
     with subprocess.Popen(words, stdout=subprocess.PIPE, stderr=subprocess.DEVNULL, text=True) as process:
         try:
-            counts.check("a demo names its page", f"http://127.0.0.1:{port}/" in process.stdout.readline())
+            counts.check("a demo names its page", f"http://127.0.0.1:{port}/" in stdout_of(process).readline())
             url = f"http://127.0.0.1:{port}"
             names = Office(url, "").ask(Asked("GET", "/demo"))
             described.check_answer_of_demo(counts, "get", "/demo", names)
@@ -386,9 +391,7 @@ def check_demo(args, counts):
             gas.enter(day, "submit,GAS,UNIT-8,hour,sell,6000,8:500,,")
             described.check_answer_of_demo(counts, "post", "/days/{day}/close", gas.ask(Asked("POST", f"/days/{day}/close")))
             counts.check("a demo describes its requests", gas.get("/openapi.json") == described.DEMO)
-            until = time.monotonic() + 20
-            while not gas.days()[0]["has_statement"] and time.monotonic() < until:
-                time.sleep(0.05)
+            wait_until(lambda: gas.days()[0]["has_statement"], step=0.05)
             # as in the trader's guide
             counts.check("a demo has results", gas.prices(day)[7] == (8, 6_000, 800) and gas.statement(day)[0]["executed_mwh"] == 35)
         finally:
@@ -396,16 +399,17 @@ def check_demo(args, counts):
     counts.check("a demo ends at Ctrl-C", process.returncode == 0)
     words = [*TOOL, "demo", "--no-browser", "--dam", args.dam, "--desk", "/bin/false"]
     with subprocess.Popen(words, stdout=subprocess.DEVNULL, stderr=subprocess.PIPE, text=True) as process:
+        assert process.stderr
         said = next((line for line in process.stderr if "desk ended" in line), "")
         process.send_signal(signal.SIGINT)
         try:
             process.communicate(timeout=20)
         except subprocess.TimeoutExpired:
             process.kill()
-    counts.check(f"a demo whose desk doesn't open ends at Ctrl-C: {said}", said and process.returncode == 0)
+    counts.check(f"a demo whose desk doesn't open ends at Ctrl-C: {said}", said != "" and process.returncode == 0)
 
 
-def check_published(args, counts, office):
+def check_published(counts: Counts, args: argparse.Namespace, office: ServedOffice) -> None:
     """The published texts are the program's own, the audit accepts them with the head, and each participant has its statement."""
     who = office.who[0]
     client = office.client_of(who)
@@ -428,8 +432,7 @@ def check_published(args, counts, office):
         name, *more = texts
         ran = run_tool("audit", folder / "journal.csv", folder / name, *more, *words)
         counts.check(f"the audit accepts {name}: {ran.stdout[-300:]}{ran.stderr[-300:]}", ran.returncode == 0)
-    while call_and_see_refusal(lambda: client.statement(office.day), "NotFound"):
-        time.sleep(0.1)
+    wait_until(lambda: not call_and_see_refusal(lambda: client.statement(office.day), "NotFound"), 60, 0.1)
     rows = client.statement(office.day)
     counts.check(
         "a statement has each command of the participant",
@@ -439,28 +442,28 @@ def check_published(args, counts, office):
     counts.check("the last head goes on from the first", first.is_valid() and first.new.size == len(office.capture_journal_of_desk()))
 
 
-def check_routes(args, counts):
+def check_routes(counts: Counts, args: argparse.Namespace) -> None:
     """Each route as the description has it, and random requests by it."""
-    import described
+    from office import described
 
     for periods in sorted(rules.DAYS):
         with running_office(args.dam, args.desk, periods=periods, day=day_of(periods)) as office:
             office.start()
-            check_alerts(office, counts)
-            described.check_routes(office, counts, periods)
+            check_alerts(counts, office)
+            described.check_routes(counts, office, periods)
 
 
-def check_alerts(office, counts):
+def check_alerts(counts: Counts, office: ServedOffice) -> None:
     """The alerts of the example ask for measures that the office has from its start: one that begins later never grows from 0."""
     asked = set(re.findall(r"\bdam_office_\w+", (TOP / "examples" / "operating" / "alerts.yml").read_text()))
     missing = sorted(asked - set(re.findall(r"^\w+", office.send_request("/metrics")[2].decode(), re.MULTILINE)))
     counts.check(f"the office has each of {len(asked)} measures of the alerts: {missing}", len(asked) > 4 and not missing)
 
 
-def check_page(args, counts):
+def check_page(counts: Counts, args: argparse.Namespace) -> None:
     if browser.find_browser_or_none() is None:
         counts.leave_out("the page: chromium is missing")
         return
-    import scene_of_page
+    from office import scene_of_page
 
-    scene_of_page.check_pages(args, counts)
+    scene_of_page.check_pages(counts, args)

@@ -1,1 +1,1 @@
-"""Shared parts of the program's tests. A script that imports them has tests/ and tools/ in its `sys.path`."""
+"""The modules that tests of several folders need. A script that imports them has tests/ and tools/ in its `sys.path`."""

@@ -1,9 +1,15 @@
-"""The command line of a run of random cases."""
+"""The command lines of scripts, and of runs of random cases."""
 
 import argparse
 
 
-def parser_of_cases(prog, about, cases, count, has_program=True):
+def parser_of_docstring(text: str) -> argparse.ArgumentParser:
+    """The parser of a script: the first paragraph of its docstring is the usage, and the others describe it."""
+    usage, _, about = text.partition("\n\n")
+    return argparse.ArgumentParser(usage=usage, description=about, formatter_class=argparse.RawDescriptionHelpFormatter)
+
+
+def parser_of_cases(prog: str, about: str, cases: str, count: int, has_program: bool = True) -> argparse.ArgumentParser:
     """The parser of a run that draws `count` cases if nothing else is said; each depends only on the seed and its number."""
     form = argparse.RawDescriptionHelpFormatter
     parser = argparse.ArgumentParser(prog=prog, description=about, formatter_class=form, allow_abbrev=False)

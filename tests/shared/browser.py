@@ -8,7 +8,9 @@ import json
 import shutil
 import subprocess
 import tempfile
+from collections.abc import AsyncIterator
 from pathlib import Path
+from typing import Any
 
 import aiohttp
 
@@ -16,18 +18,20 @@ NAMES = ("chromium", "chromium-browser", "google-chrome")
 START_SECONDS, WAIT_SECONDS, STEP = 60, 60, 0.05
 
 
-def find_browser_or_none():
-    return next((path for path in map(shutil.which, NAMES) if path), None)
+def find_browser_or_none() -> str | None:
+    return next((path for name in NAMES if (path := shutil.which(name))), None)
 
 
 class BrowserTab:
     """A tab. Faults of its scripts, and what its policy refuses, are gathered in `faults`."""
 
-    def __init__(self, socket):
-        self.socket, self.numbers, self.answers, self.faults = socket, itertools.count(1), {}, []
+    def __init__(self, socket: aiohttp.ClientWebSocketResponse) -> None:
+        self.socket, self.numbers = socket, itertools.count(1)
+        self.answers: dict[int, asyncio.Future[dict[str, Any]]] = {}
+        self.faults: list[str] = []
         self.reader = asyncio.create_task(self.read_messages())
 
-    async def read_messages(self):
+    async def read_messages(self) -> None:
         async for message in self.socket:
             value = json.loads(message.data)
             if "id" in value:
@@ -39,7 +43,7 @@ class BrowserTab:
             elif value["method"] == "Log.entryAdded" and value["params"]["entry"]["level"] == "error":
                 self.faults.append(f"{value['params']['entry']['text']} {value['params']['entry'].get('url', '')}")
 
-    async def call_browser(self, method, **params):
+    async def call_browser(self, method: str, **params: object) -> dict[str, Any]:
         number = next(self.numbers)
         self.answers[number] = asyncio.get_running_loop().create_future()
         await self.socket.send_json({"id": number, "method": method, "params": params})
@@ -48,14 +52,14 @@ class BrowserTab:
             raise RuntimeError(f"{method}: {answer['error']}")
         return answer["result"]
 
-    async def evaluate(self, script):
+    async def evaluate(self, script: str) -> Any:
         """The value of an expression in the page."""
         found = await self.call_browser("Runtime.evaluate", expression=script, awaitPromise=True, returnByValue=True)
         if "exceptionDetails" in found:
             raise RuntimeError(f"{script}: {found['exceptionDetails']}")
         return found["result"].get("value")
 
-    async def wait_until(self, script):
+    async def wait_until(self, script: str) -> None:
         """Waits until an expression is true, also while another page is opened."""
         with contextlib.suppress(asyncio.TimeoutError):
             async with asyncio.timeout(WAIT_SECONDS):
@@ -66,7 +70,7 @@ class BrowserTab:
             f"it never is so: {script}; the page says: {await self.evaluate('document.getElementById(`message`)?.textContent')}"
         )
 
-    async def is_true(self, script):
+    async def is_true(self, script: str) -> bool:
         try:
             return await self.evaluate(f"Boolean({script})")
         except RuntimeError as fault:
@@ -74,29 +78,29 @@ class BrowserTab:
                 raise
             return False
 
-    async def set_screen_size(self, width, scheme, height=900):
+    async def set_screen_size(self, width: int, scheme: str, height: int = 900) -> None:
         await self.call_browser("Emulation.setDeviceMetricsOverride", width=width, height=height, deviceScaleFactor=1, mobile=width < 500)
         await self.call_browser("Emulation.setEmulatedMedia", features=[{"name": "prefers-color-scheme", "value": scheme}])
 
-    async def write_picture(self, path):
+    async def write_picture(self, path: Path) -> None:
         found = await self.call_browser("Page.captureScreenshot", captureBeyondViewport=True)
         Path(path).write_bytes(base64.b64decode(found["data"]))
 
-    async def type_text(self, text):
+    async def type_text(self, text: str) -> None:
         await self.call_browser("Input.insertText", text=text)
 
-    async def press_key(self, name, code):
+    async def press_key(self, name: str, code: int) -> None:
         for kind in ("keyDown", "keyUp"):
             text = {"text": "\r"} if name == "Enter" and kind == "keyDown" else {}
             await self.call_browser("Input.dispatchKeyEvent", type=kind, key=name, code=name, windowsVirtualKeyCode=code, **text)
 
 
 @contextlib.asynccontextmanager
-async def running_browser_tab(url):
+async def running_browser_tab(url: str) -> AsyncIterator[BrowserTab]:
     """A tab with a page."""
     with tempfile.TemporaryDirectory(ignore_cleanup_errors=True) as room:
         words = [
-            find_browser_or_none(),
+            find_browser_or_none() or NAMES[0],
             "--headless=new",
             "--no-sandbox",
             "--disable-gpu",

@@ -21,12 +21,18 @@ stands for itself and its line end, but for:
     \\ at the end            the line has no line end
 """
 
+from __future__ import annotations
+
 import re
+from collections.abc import Iterable, Iterator, Sequence
 from itertools import product
 from pathlib import Path
 from typing import NamedTuple
 
-TOP = Path(__file__).resolve().parents[2]
+from shared.place import TOP
+
+Row = dict[str, str]  # cells, by their columns
+Block = tuple[int, str, list[tuple[int, str]]]  # the number of its line, a name, and the lines below it
 FOLDER = TOP / "tests" / "cases"
 STREAMS = ("stdout", "stderr")
 KINDS = ("args", "runs", "stdin", *(f"{it}{end}" for it in STREAMS for end in (" begins", " ends", "")), "status", "table")
@@ -46,33 +52,33 @@ class CaseFault(Exception):
 class Expected(NamedTuple):
     """The right output of a stream: one of some texts, or any text that begins and ends so."""
 
-    texts: list
+    texts: list[bytes]
     begins: bytes = b""
     ends: bytes = b""
 
     @property
-    def is_whole(self):
+    def is_whole(self) -> bool:
         return not (self.begins or self.ends)
 
-    def is_right(self, got):
+    def is_right(self, got: bytes) -> bool:
         return got in self.texts if self.is_whole else got.startswith(self.begins) and got.endswith(self.ends)
 
 
 class Case(NamedTuple):
     name: str  # FILE/NAME
-    words: list  # its arguments
-    runs: list  # the further arguments of each run
+    words: list[str]  # its arguments
+    runs: list[list[str]]  # the further arguments of each run
     stdin: bytes
     stdout: Expected
     stderr: Expected
     status: int
 
     @property
-    def right_stdout(self):
+    def right_stdout(self) -> bytes:
         """The right standard output; the first, if several texts are."""
         return self.stdout.texts[0]
 
-    def wrong_parts(self, status, stdout, stderr):
+    def wrong_parts(self, status: int, stdout: bytes, stderr: bytes) -> list[str]:
         """The wrong parts of a run."""
         found = {"stdout": self.stdout.is_right(stdout), "status": status == self.status, "stderr": self.stderr.is_right(stderr)}
         return [what for what, is_right in found.items() if not is_right]
@@ -82,9 +88,9 @@ class Part(NamedTuple):
     number: int
     kind: str
     value: str
-    lines: list  # each with its number
+    lines: list[tuple[int, str]]  # each with its number
 
-    def with_cells(self, row):
+    def with_cells(self, row: Row) -> Part:
         lines = [(at, with_cells_of_row(at, line, row)) for at, line in self.lines]
         return Part(self.number, self.kind, with_cells_of_row(self.number, self.value, row), lines)
 
@@ -92,8 +98,9 @@ class Part(NamedTuple):
 class CaseReader:
     """Reads a file of cases: `found` has them by their names."""
 
-    def __init__(self, path):
-        self.file, self.found = path.stem, {}
+    def __init__(self, path: Path) -> None:
+        self.file = path.stem
+        self.found: dict[str, Case] = {}
         first, *blocks = parse_blocks(path.read_bytes().decode("latin-1"))
         usual = parse_parts(first)
         for number, name, lines in blocks:
@@ -103,7 +110,7 @@ class CaseReader:
                 its += [it for it in usual if it.kind not in {own.kind for own in its}]
                 self.add_case(number, with_cells_of_row(number, name, row), its)
 
-    def add_case(self, number, name, parts):
+    def add_case(self, number: int, name: str, parts: Sequence[Part]) -> None:
         kinds = [it.kind for it in parts]
         twice = [it for it in kinds if kinds.count(it) > 1 and it not in STREAMS or {f"{it} begins", f"{it} ends"} & {*kinds}]
         if twice or name in self.found or "args" not in kinds:
@@ -116,12 +123,12 @@ class CaseReader:
         out, error = (self.parse_expected(stream, parts) for stream in STREAMS)
         self.found[name] = Case(f"{self.file}/{name}", values["args"].split(), runs or [[]], stdin[0], out, error, int(values["status"]))
 
-    def parse_expected(self, stream, parts):
+    def parse_expected(self, stream: str, parts: Iterable[Part]) -> Expected:
         its = [(it.kind, self.read_text_of(it)) for it in parts if it.kind.split()[0] == stream]
         texts, ends = [text for kind, text in its if kind == stream], dict(its)
         return Expected(texts or [b""], ends.get(f"{stream} begins", b""), ends.get(f"{stream} ends", b""))
 
-    def read_text_of(self, part):
+    def read_text_of(self, part: Part) -> bytes:
         """The text of a part."""
         if not part.value:
             return b"".join(parse_escapes(at, line) for at, text in part.lines for line in parse_repeats(at, text))
@@ -137,9 +144,9 @@ class CaseReader:
         return found[name].stdin if part.kind == "stdin" else getattr(found[name], part.kind.split()[0]).texts[0]
 
 
-def parse_blocks(text):
+def parse_blocks(text: str) -> list[Block]:
     """The text before the first case, and the cases: each the number of its line, its name, and the lines below it."""
-    found = [(0, "", [])]
+    found: list[Block] = [(0, "", [])]
     for number, line in enumerate(text.split("\n"), 1):
         if not PLAIN.fullmatch(line):
             raise CaseFault(number, "a byte outside of printable ASCII, or a blank at the end: these have to be escaped")
@@ -150,9 +157,9 @@ def parse_blocks(text):
     return found
 
 
-def parse_parts(block):
+def parse_parts(block: Block) -> list[Part]:
     """The parts of a case, without empty lines at their end."""
-    found = []
+    found: list[Part] = []
     for number, line in block[2]:
         if line.startswith("-- "):
             kind = next((it for it in KINDS if f"{line} ".startswith(f"-- {it} ")), None)
@@ -169,7 +176,7 @@ def parse_parts(block):
     return found
 
 
-def parse_rows(tables):
+def parse_rows(tables: Sequence[Part]) -> list[Row]:
     """The rows of a case's table, each with its cells by their columns; one row without cells, if there is no table."""
     if not tables:
         return [{}]
@@ -182,10 +189,10 @@ def parse_rows(tables):
     return [dict(zip(columns, cells)) for _, cells in rows]
 
 
-def with_cells_of_row(number, text, row):
+def with_cells_of_row(number: int, text: str, row: Row) -> str:
     """The text with a row's cells."""
 
-    def cell(brace):
+    def cell(brace: re.Match[str]) -> str:
         if brace[1] not in row and not TIMES.fullmatch(brace[0]):
             raise CaseFault(number, f"neither a column nor a range: {brace[0]}")
         return row.get(brace[1], brace[0])
@@ -193,7 +200,7 @@ def with_cells_of_row(number, text, row):
     return BRACE.sub(cell, text)
 
 
-def parse_repeats(number, line):
+def parse_repeats(number: int, line: str) -> Iterator[str]:
     """The lines for which a line stands that has ranges and numbers of times."""
     texts = TIMES.split(line)
     counts = zip(texts[1::4], texts[2::4], texts[3::4])
@@ -204,10 +211,10 @@ def parse_repeats(number, line):
         yield texts[0] + "".join(f"{number}{text}" for number, text in zip(numbers, texts[4::4]))
 
 
-def parse_escapes(number, line):
+def parse_escapes(number: int, line: str) -> bytes:
     """The bytes for which a line stands."""
 
-    def byte(escape):
+    def byte(escape: re.Match[str]) -> str:
         word = escape[1]
         if word not in ESCAPED and len(word) < 3:
             raise CaseFault(number, f"there is no escape {escape[0]}")
@@ -217,7 +224,7 @@ def parse_escapes(number, line):
     return ESCAPE.sub(byte, line).encode("latin-1") + (b"" if is_cut else b"\n")
 
 
-def read_cases(path):
+def read_cases(path: str | Path) -> dict[str, Case]:
     """The cases of a file by their names, in its order."""
     try:
         return CaseReader(Path(path)).found
@@ -227,25 +234,25 @@ def read_cases(path):
         raise CaseFault(f"{path}:{fault.args[0]}: {fault.args[1]}") from None
 
 
-def read_cases_of_file(file):
+def read_cases_of_file(file: str) -> dict[str, Case]:
     """The cases of a file of tests/cases/, by their names."""
     return read_cases(case_path_of(file))
 
 
-def case_path_of(file):
+def case_path_of(file: str) -> Path:
     return FOLDER / f"{file}.txt"
 
 
-def list_case_files():
+def list_case_files() -> list[Path]:
     return sorted(FOLDER.glob("*.txt"))
 
 
-def read_all_cases():
+def read_all_cases() -> list[Case]:
     """All cases of tests/cases/."""
     return [case for path in list_case_files() for case in read_cases(path).values()]
 
 
-def case_text(name, words, stdin, stdout=b"", stderr=b"", status=0):
+def case_text(name: str, words: Sequence[str], stdin: bytes, stdout: bytes = b"", stderr: bytes = b"", status: int = 0) -> str:
     """A case as it stands in a file."""
     lines = [f"== {name}", f"-- args {' '.join(words)}".rstrip()]
     for kind, text in ("stdin", stdin), ("stdout", stdout), ("stderr", stderr):
@@ -254,7 +261,7 @@ def case_text(name, words, stdin, stdout=b"", stderr=b"", status=0):
     return "\n".join([*lines, f"-- status {status}", ""])
 
 
-def escaped_lines(text):
+def escaped_lines(text: bytes) -> list[str]:
     """The lines that stand for a text."""
     *whole, rest = text.decode("latin-1").split("\n")
     lines = [UNPLAIN.sub(lambda it: "\\\\" if it[0] == "\\" else f"\\x{ord(it[0]):02x}", line) for line in (*whole, rest)]

@@ -2,9 +2,9 @@
 
    collide COUNT [CODE [KEY KEY]] prints COUNT names of orders of the participant CODE, or else A, of twelve letters each, one in each line.
    The map of the kit's `indexmap` hashes participant and name by SipHash-1-3, with these two keys, 0 under the fixed seed, and folds the
-   hash to 32 bits. The lowest of them choose one of the 512 groups of a map of 2,305 to 4,608 orders, from which on an order is looked for, and the
-   highest 8 are its tag there, of which 0 counts as 1; a name is compared with the names of its own tag alone. So names of one tag that
-   begin at neighbouring groups are all compared with one another. */
+   hash to 32 bits. The lowest of them choose one of the 512 groups of a map of 2,305 to 4,608 orders, from which on an order is looked
+   for, and the highest 8 are its tag there, of which 0 counts as 1; a name is compared with the names of its own tag alone. So names of
+   one tag that begin at neighbouring groups are all compared with one another. */
 
 #include <stdint.h>
 #include <stdio.h>

@@ -1,13 +1,17 @@
 """Random journals: days with hourly orders, blocks, links and groups, drawn so that prices and volumes meet, tie or reach
 their limits, with commands that the book refuses among them. All by docs/FORMATS.md, as lines of text."""
 
+import random
+from collections.abc import Callable, Iterable
+
 from lib.base import rules
 
+Source = Callable[[], int]  # of limit prices, or of volumes
 PARTICIPANTS = ["A", "B", "NORD", "STADTWKE"]
 LIMITS = [rules.LOWEST_PRICE, rules.LOWEST_PRICE + 1, -1, 0, 1, rules.HIGHEST_PRICE - 1, rules.HIGHEST_PRICE]
 
 
-def draw_price_source(rng):
+def draw_price_source(rng: random.Random) -> Source:
     """The generator of limit prices."""
     kind = rng.randrange(6)
     if kind == 0:
@@ -24,7 +28,7 @@ def draw_price_source(rng):
     return lambda: middle + step * rng.randint(-5, 5)
 
 
-def draw_volume_source(rng):
+def draw_volume_source(rng: random.Random) -> Source:
     """The generator of volumes."""
     kind = rng.randrange(5)
     if kind == 0:
@@ -37,7 +41,7 @@ def draw_volume_source(rng):
     return lambda: rng.randint(1, most)
 
 
-def periods_by_hour(periods):
+def periods_by_hour(periods: int) -> list[list[int]]:
     """The hours of a day, each with its periods."""
     parts = rules.DAYS[periods].denominator
     return [list(range(first, first + parts)) for first in range(1, periods + 1, parts)]
@@ -47,7 +51,7 @@ class Profiles:
     """Draws the volumes of a day's blocks, as a number for each period, as users have them: over the whole day, its peak or its night, by
     one shape, by the hour, or in each period. Many periods have the same volumes then, some of them by chance, and some all but one."""
 
-    def __init__(self, rng, periods, volume):
+    def __init__(self, rng: random.Random, periods: int, volume: Source) -> None:
         self.rng, self.volume = rng, volume
         self.hours = periods_by_hour(periods)
         self.sizes = [volume() for _ in range(rng.choice([1, 2, 4, 30]))]
@@ -57,7 +61,7 @@ class Profiles:
         self.kinds = rng.choice([[self.draw_base], usual, [self.draw_shaped], rng.sample(every, 2), every])
         self.change = rng.choice([0, 0, 0.2, 0.6])
 
-    def draw(self):
+    def draw(self) -> dict[int, int]:
         """A profile, and now and then one that differs from it in one period."""
         volumes = self.rng.choice(self.kinds)()
         if len(volumes) > 1 and self.rng.random() < self.change:
@@ -67,42 +71,42 @@ class Profiles:
                 volumes[period] = self.volume()
         return volumes
 
-    def draw_size(self):
+    def draw_size(self) -> int:
         return self.rng.choice(self.sizes)
 
-    def draw_flat(self, hours):
+    def draw_flat(self, hours: Iterable[int]) -> dict[int, int]:
         size = self.draw_size()
         return {period: size for hour in hours for period in self.hours[hour]}
 
-    def draw_base(self):
+    def draw_base(self) -> dict[int, int]:
         return self.draw_flat(range(len(self.hours)))
 
-    def draw_peak(self):
+    def draw_peak(self) -> dict[int, int]:
         return self.draw_flat(range(8, 20))
 
-    def draw_night(self):
+    def draw_night(self) -> dict[int, int]:
         return self.draw_flat([hour for hour in range(len(self.hours)) if not 8 <= hour < 20])
 
-    def draw_span(self):
+    def draw_span(self) -> dict[int, int]:
         first, last = sorted(self.rng.sample(range(len(self.hours) + 1), 2))
         return self.draw_flat(range(first, last))
 
-    def draw_shaped(self):
+    def draw_shaped(self) -> dict[int, int]:
         """One shape in several sizes; at the limit of a volume its top is flat."""
         size = self.draw_size()
         return {period: min(size * self.shape[hour], rules.GREATEST_VOLUME) for hour, own in enumerate(self.hours) for period in own}
 
-    def draw_by_hour(self):
+    def draw_by_hour(self) -> dict[int, int]:
         return {period: volume for hour in range(len(self.hours)) for period, volume in self.draw_flat([hour]).items()}
 
-    def draw_by_period(self):
+    def draw_by_period(self) -> dict[int, int]:
         return {period: self.volume() for own in self.hours for period in own}
 
 
 class Draft:
     """The lines of a day in the making, and the state that the next ones are drawn from."""
 
-    def __init__(self, rng, with_profiles=None):
+    def __init__(self, rng: random.Random, with_profiles: bool | None = None) -> None:
         """With profiles, or without; or else by chance."""
         self.rng = rng
         self.periods = rng.choice(list(rules.DAYS))
@@ -114,16 +118,16 @@ class Draft:
         if rng.random() < 0.4:
             self.set_meeting_prices()
         self.participants = PARTICIPANTS[: rng.choice([1, 2, 4])]
-        self.named = []  # pairs of a participant and a name that were submitted
+        self.named: list[tuple[str, str]] = []  # participants and names that were submitted
         self.numbers = dict.fromkeys(PARTICIPANTS, 0)  # of each participant, how many of these
-        self.blocks = []  # of these, the blocks
+        self.blocks: list[tuple[str, str]] = []  # of these, the blocks
         self.links, self.groups = rng.choice([0, 0.3, 0.8, 0.9]), rng.choice([0, 0, 0.3, 0.8])
         self.lines = [f"day,{self.periods},,,,,,,"]
-        self.profiles = None
+        self.profiles: Profiles | None = None
         if rng.random() < 0.1 if with_profiles is None else with_profiles:
             self.set_trade_everywhere()
 
-    def set_meeting_prices(self):
+    def set_meeting_prices(self) -> None:
         """Many small orders at similar prices in few periods, and smaller blocks: there are many ways to accept them, and some would
         lose in the selection of greatest welfare."""
         rng = self.rng
@@ -133,7 +137,7 @@ class Draft:
         self.active = self.active[:2]
         self.hourly = rng.randint(5, 16)
 
-    def set_trade_everywhere(self):
+    def set_trade_everywhere(self) -> None:
         """Orders in all periods, or nearly all, and blocks with profiles as users have them, some of them too large to balance."""
         rng = self.rng
         market = rng.choice(["deep"] * 8 + ["thin"] * 4 + ["wide"] * 2 + [""] * 4)
@@ -156,37 +160,37 @@ class Draft:
         if market == "wide":
             self.profiles.kinds = [self.profiles.draw_by_period]
 
-    def set_prices_around(self, far, near):
+    def set_prices_around(self, far: int, near: int) -> None:
         """Limits that differ from one price by these amounts at most, those of hourly orders and of blocks."""
         rng, middle = self.rng, self.rng.randint(2_000, 9_000)
         self.price, self.block_price = (lambda: middle + rng.randint(-far, far)), (lambda: middle + rng.randint(-near, near))
 
-    def draw_name(self, prefix):
+    def draw_name(self, prefix: str) -> tuple[str, str]:
         """A name that may be taken, now and then by the participant itself."""
         if self.named and self.rng.random() < 0.04:
             return self.rng.choice(self.named)
         return self.take_next_name(prefix)
 
-    def take_next_name(self, prefix):
+    def take_next_name(self, prefix: str) -> tuple[str, str]:
         who = self.rng.choice(self.participants)
         # A number of the participant's own: others have orders of the same names.
         return who, f"{prefix}{1 + self.numbers[who]}"
 
-    def note_name(self, who, name):
+    def note_name(self, who: str, name: str) -> None:
         self.named.append((who, name))
         self.numbers[who] += 1
 
-    def draw_late_period(self):
+    def draw_late_period(self) -> int:
         """A period that the day may not have."""
         least = self.rng.choice([self.periods, min(rules.DAYS)])
         return self.rng.randint(least, rules.GREATEST_PERIOD)
 
-    def draw_period(self):
+    def draw_period(self) -> int:
         if self.rng.random() < 0.01:
             return self.draw_late_period()
         return self.rng.choice(self.active)
 
-    def draw_profile(self):
+    def draw_profile(self) -> str:
         """The volumes of a block."""
         if self.profiles and self.rng.random() < 0.9:
             return ";".join(f"{period}:{volume}" for period, volume in sorted(self.profiles.draw().items()))
@@ -197,23 +201,23 @@ class Draft:
         same = self.block_volume() if self.rng.random() < 0.5 else None
         return ";".join(f"{period}:{same or self.block_volume()}" for period in sorted(periods))
 
-    def add_hour(self):
+    def add_hour(self) -> None:
         who, name = self.draw_name("H")
         side = self.rng.choice(["buy", "sell"])
         self.add_hour_of(who, name, side, self.draw_period())
 
-    def add_hour_of(self, who, name, side, period):
+    def add_hour_of(self, who: str, name: str, side: str, period: int) -> None:
         self.lines.append(f"submit,{who},{name},hour,{side},{self.price()},{period}:{self.volume()},,")
         self.note_name(who, name)
 
-    def draw_limit(self, side, child):
+    def draw_limit(self, side: str, child: str) -> int:
         """The limit of a block. A child's may be the best of several, so that the child gains while its parent loses; and with profiles
         a block's is the best of a few, since it has to gain over many periods."""
         count = 4 if child and self.rng.random() < 0.6 else self.rng.randint(1, 3) if self.profiles else 1
         drawn = [self.block_price() for _ in range(count)]
         return max(drawn) if side == "buy" else min(drawn)
 
-    def add_block(self):
+    def add_block(self) -> None:
         who, name = self.draw_name("K")
         parent = group = ""
         own = [other for owner, other in self.blocks if owner == who]
@@ -229,22 +233,22 @@ class Draft:
         self.note_name(who, name)
         self.blocks.append((who, name))
 
-    def draw_taken_name(self):
+    def draw_taken_name(self) -> tuple[str, str]:
         if self.named and self.rng.random() < 0.9:
             return self.rng.choice(self.named)
         return self.rng.choice(self.participants), "NEVER"
 
-    def add_amend(self):
+    def add_amend(self) -> None:
         who, name = self.draw_taken_name()
         volumes = self.draw_profile() if self.rng.random() < 0.5 else f"{self.draw_period()}:{self.volume()}"
         self.lines.append(f"amend,{who},{name},,,{self.price()},{volumes},,")
 
-    def add_cancel(self):
+    def add_cancel(self) -> None:
         who, name = self.draw_taken_name()
         self.lines.append(f"cancel,{who},{name},,,,,,")
 
 
-def add_mixed(draft, hourly, blocks):
+def add_mixed(draft: Draft, hourly: int, blocks: int) -> None:
     """Submits in any order, with amends and cancels among them."""
     rng = draft.rng
     submits = [draft.add_hour] * hourly + [draft.add_block] * blocks
@@ -256,7 +260,7 @@ def add_mixed(draft, hourly, blocks):
             rng.choice([draft.add_amend, draft.add_cancel])()
 
 
-def add_full(draft):
+def add_full(draft: Draft) -> None:
     """A book at its limits, or a journal at its limit of records: for replays alone."""
     rng = draft.rng
     kind = rng.randrange(6)
@@ -268,14 +272,14 @@ def add_full(draft):
         draft.lines += ["close,,,,,,,,"] * rng.randint(9_995, 10_005)
 
 
-def draw_day_with_profiles(rng, blocks):
+def draw_day_with_profiles(rng: random.Random, blocks: int) -> bytes:
     """A closed day with this number of blocks, most of them with profiles as users have them."""
     draft = Draft(rng, with_profiles=True)
     add_mixed(draft, draft.hourly, blocks)
     return text_of_lines([*draft.lines, "close,,,,,,,,"])
 
 
-def draw_lines(rng, most_blocks, closing=True):
+def draw_lines(rng: random.Random, most_blocks: int, closing: bool = True) -> list[str]:
     """The lines of a random day."""
     draft = Draft(rng)
     if rng.random() < 0.004:
@@ -291,10 +295,10 @@ def draw_lines(rng, most_blocks, closing=True):
     return draft.lines
 
 
-def draw_text(rng, most_blocks, closing=True):
+def draw_text(rng: random.Random, most_blocks: int, closing: bool = True) -> bytes:
     return text_of_lines(draw_lines(rng, most_blocks, closing))
 
 
-def text_of_lines(lines):
+def text_of_lines(lines: Iterable[str]) -> bytes:
     """The text of these lines."""
     return "".join(f"{line}\n" for line in lines).encode()

@@ -4,11 +4,13 @@ import hashlib
 import struct
 import subprocess
 import threading
+from collections.abc import Sequence
 from pathlib import Path
-from typing import NamedTuple
+from typing import IO, Any, NamedTuple
 
 from .printed import Printed
 
+Words = Sequence[str | Path]  # of a command line
 SECONDS = 120
 ABOVE_ANY_CALL = 2**63  # a number that no call has
 NONE = -1
@@ -26,37 +28,38 @@ class RefusedCalls(NamedTuple):
     error: int = 0
     most: int = 0
 
-    def moved_before(self, count):
+    def moved_before(self, count: int) -> int:
         """How many of `count` bytes the reads or writes before the first refused one move."""
         return min(count, (self.first - 1) * (self.most or count))
 
 
-def make_environment(library, refusal, counts):
+def make_environment(library: Path | str, refusal: RefusedCalls, counts: Path) -> dict[str, str]:
     """The environment of a run with these calls refused, and with the library of refuse.c among those of LD_PRELOAD. Makes the file of the
     counts, in which nothing is counted yet."""
     counts.write_bytes(bytes(COUNTS.size))
     return {"LD_PRELOAD": str(library), "HOSTILE": " ".join(map(str, refusal)), "HOSTILE_CALLS": str(counts)}
 
 
-def read_counts(counts):
-    return COUNTS.unpack(counts.read_bytes())
+def read_counts(counts: Path) -> tuple[int, int, int]:
+    calls, early, growths = COUNTS.unpack(counts.read_bytes())
+    return calls, early, growths
 
 
 class HostileProgram:
     """The program, and a folder for the inputs and the counts of its runs."""
 
-    def __init__(self, path, room):
+    def __init__(self, path: str | Path, room: str | Path) -> None:
         self.path = str(Path(path).resolve())
         self.room = Path(room)
         self.own = threading.local()
 
-    def counts_file(self):
+    def counts_file(self) -> Path:
         """The file that a run of this thread counts its calls in."""
         if not hasattr(self.own, "counts"):
             self.own.counts = self.room / f"calls-{threading.get_ident()}"
         return self.own.counts
 
-    def write_input(self, data):
+    def write_input(self, data: bytes) -> Path:
         """The file of an input."""
         file = self.room / f"input-{hashlib.sha256(data).hexdigest()}"
         if not file.exists():
@@ -65,24 +68,33 @@ class HostileProgram:
             part.rename(file)
         return file
 
-    def run(self, words, data, refusal, **how):
+    def run(self, words: Words, data: bytes, refusal: RefusedCalls, **how: Any) -> tuple[Printed, int]:
         """Its output, and how many calls of the refusal's kind it made."""
         printed, made, _ = self.run_counting(words, data, refusal, **how)
         return printed, made
 
-    def measure_peak(self, words, data):
+    def measure_peak(self, words: Words, data: bytes) -> tuple[Printed, int, int]:
         """Its output, the most bytes that it held at once, and how many calls for memory it made."""
         return self.run_counting(words, data, RefusedCalls("peak"))
 
-    def run_counting(self, words, data, refusal, source=None, stdout=subprocess.PIPE, seconds=SECONDS, under=()):
+    def run_counting(
+        self,
+        words: Words,
+        data: bytes,
+        refusal: RefusedCalls,
+        source: IO[bytes] | int | None = None,
+        stdout: IO[bytes] | int = subprocess.PIPE,
+        seconds: float = SECONDS,
+        under: Sequence[str] = (),
+    ) -> tuple[Printed, int, int]:
         """Its output, and the numbers that the library counts. The input is the data, or comes from the source. The words of `under` go
         before the program. A program that writes before it has joined each thread that it started is at fault: that thread may still be
         running."""
         surroundings = make_environment(self.room / "refuse.so", refusal, self.counts_file())
         with open(self.write_input(data), "rb") as stdin:
-            how = {"stdin": source or stdin, "stdout": stdout, "stderr": subprocess.PIPE, "env": surroundings, "timeout": seconds}
+            given, command, errors = source or stdin, [*under, self.path, *words], subprocess.PIPE
             try:
-                ran = subprocess.run([*under, self.path, *words], close_fds=False, **how)
+                ran = subprocess.run(command, stdin=given, stdout=stdout, stderr=errors, env=surroundings, timeout=seconds, close_fds=False)
                 printed = Printed(ran.returncode, ran.stdout or b"", ran.stderr)
             except subprocess.TimeoutExpired:
                 printed = Printed(NONE, b"", f"no answer in {seconds} seconds\n".encode())

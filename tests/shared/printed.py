@@ -1,8 +1,10 @@
 """The output of a run of the program."""
 
+from collections.abc import Iterable
 from typing import NamedTuple
 
 from lib.journal import journal
+from lib.journal.journal import Command, Journal
 
 
 class Printed(NamedTuple):
@@ -11,15 +13,15 @@ class Printed(NamedTuple):
     stderr: bytes
 
 
-def commands_by_participant(commands):
+def commands_by_participant(commands: Iterable[Command]) -> dict[str | None, list[Command]]:
     """Each participant's commands, in their order."""
-    lists = {}
+    lists: dict[str | None, list[Command]] = {}
     for command in commands:
         lists.setdefault(getattr(command, "who", None), []).append(command)
     return lists
 
 
-def faults_of_journal(given, written):
+def faults_of_journal(given: Journal, written: bytes) -> tuple[list[str], Journal | None]:
     """The faults of the journal that a day printed for the one given. Any order is right that keeps each participant's own, with the
     close at its end. And the journal as it is read; None if it can't be."""
     try:

@@ -11,9 +11,9 @@
    isn't 0.
 
    Four kinds refuse nothing. given counts the calls for random bytes, and gives in each those of FIRST, the lowest first, then those of
-   LAST, and then zeros. held counts the starts of threads during which the program holds a block of at least MOST bytes, and beside
-   the calls for memory that got a block then. peak counts no calls: the number is the most bytes of blocks that the program held at once, and a block that moves
-   counts twice while it does. */
+   LAST, and then zeros. While the program holds a block of at least MOST bytes, held counts the starts of threads, and beside counts the
+   calls for memory that got a block. peak counts no calls: the number is the most bytes of blocks that the program held at once, and a
+   block that moves counts twice while it does. */
 
 #define _GNU_SOURCE
 #include <dlfcn.h>

@@ -11,24 +11,27 @@ import subprocess
 import sys
 import tempfile
 import time
+from collections.abc import Iterator, Mapping, Sequence
 from pathlib import Path
+from typing import Any
 
 from . import ports
 from dam_tools.office import AsyncOffice, Office, OfficeFault
+from shared.place import TOP
 
-TOP = Path(__file__).resolve().parents[2]
+Answer = tuple[int, dict[str, str], bytes]  # the status, the headers and the body
 DAY, CLOSE = "2099-11-29", "2099-11-28T12:00"
 CLOCKS_CHANGE = {23: "2099-03-29", 92: "2099-03-29", 25: "2099-10-25", 100: "2099-10-25"}
 START_SECONDS, STEP = 60, 0.02
 TOOL = [sys.executable, "-I", "-B", str(TOP / "tools" / "office")]
 
 
-def day_of(periods):
+def day_of(periods: int) -> str:
     """A day of this number of periods."""
     return CLOCKS_CHANGE.get(periods, DAY)
 
 
-def names_of_participants(count):
+def names_of_participants(count: int) -> list[str]:
     """Names of participants, from short to long ones."""
     return [f"{'P' * (1 + number % 6)}{chr(65 + number // 26)}{chr(65 + number % 26)}" for number in range(count)]
 
@@ -36,7 +39,9 @@ def names_of_participants(count):
 class ServedOffice:
     """The office: its folder, its tokens, and the process that serves it, which a test may end."""
 
-    def __init__(self, dam, desk, count=3, periods=24, words=(), day=DAY):
+    def __init__(
+        self, dam: str | Path, desk: str | Path, count: int = 3, periods: int = 24, words: Sequence[str] = (), day: str = DAY
+    ) -> None:
         self.room = tempfile.TemporaryDirectory(ignore_cleanup_errors=True)
         self.folder, self.port, self.words, self.day = Path(self.room.name, "office"), ports.find_free_port(), list(words), day
         self.periods = periods
@@ -46,20 +51,27 @@ class ServedOffice:
         table.write_text("".join(f"{name}\n" for name in ["participant", *self.who]))
         made = self.run_tool("init", self.folder, "--day", day, "--periods", periods, "--close", CLOSE, "--participants", table, "--json")
         self.tokens = json.loads(made.stdout)["tokens"]
-        self.process, self.log = None, Path(self.room.name, "log")
+        self.started: subprocess.Popen[bytes] | None = None
+        self.log = Path(self.room.name, "log")
 
-    def run_tool(self, *words):
+    def run_tool(self, *words: object) -> subprocess.CompletedProcess[bytes]:
         return subprocess.run([*TOOL, *map(str, words)], env=self.environment, capture_output=True, check=True)
 
     @property
-    def url(self):
+    def process(self) -> subprocess.Popen[bytes]:
+        """The process that was started last."""
+        assert self.started is not None
+        return self.started
+
+    @property
+    def url(self) -> str:
         return f"http://127.0.0.1:{self.port}"
 
     @property
-    def files(self):
+    def files(self) -> Path:
         return self.folder / "days" / self.day
 
-    def start(self):
+    def start(self) -> float:
         """Serves the office, and returns the seconds until the day takes commands."""
         began = time.monotonic()
         self.start_process()
@@ -69,12 +81,12 @@ class ServedOffice:
             time.sleep(STEP)
         return time.monotonic() - began
 
-    def start_process(self):
+    def start_process(self) -> None:
         with self.log.open("ab") as log:
-            words = [*TOOL, "serve", self.folder, "--port", str(self.port), *self.words]
-            self.process = subprocess.Popen(words, env=self.environment, stdout=subprocess.DEVNULL, stderr=log)
+            words = [*TOOL, "serve", str(self.folder), "--port", str(self.port), *self.words]
+            self.started = subprocess.Popen(words, env=self.environment, stdout=subprocess.DEVNULL, stderr=log)
 
-    def start_and_see_readiness(self):
+    def start_and_see_readiness(self) -> bool:
         """Serves the office, and returns whether the day takes commands, or its log says that it is stopped."""
         self.start_process()
         while not (self.is_ready() or b'"stopped"' in self.log.read_bytes() and self.is_listening()):
@@ -83,18 +95,20 @@ class ServedOffice:
             time.sleep(STEP)
         return self.is_ready()
 
-    def is_listening(self):
+    def is_listening(self) -> bool:
         with contextlib.suppress(OSError), socket.create_connection(("127.0.0.1", self.port)):
             return True
         return False
 
-    def is_ready(self):
+    def is_ready(self) -> bool:
         try:
             return self.send_request("/healthz")[0] == 200
         except OSError:
             return False
 
-    def send_request(self, path, headers=None, method="GET", body=None):
+    def send_request(
+        self, path: str, headers: Mapping[str, str] | None = None, method: str = "GET", body: str | bytes | None = None
+    ) -> Answer:
         """The status, the headers and the body of an answer, without any client's help."""
         connection = http.client.HTTPConnection("127.0.0.1", self.port, timeout=30)
         try:
@@ -106,26 +120,26 @@ class ServedOffice:
         finally:
             connection.close()
 
-    def read_metric_or_none(self, name):
+    def read_metric_or_none(self, name: str) -> float | None:
         """A value of /metrics by its name, with its labels if it has any; None without it."""
         found = re.search(rf"^{re.escape(name)} (\S+)$", self.send_request("/metrics")[2].decode(), re.MULTILINE)
         return float(found[1]) if found else None
 
-    def bearer_header(self, who):
+    def bearer_header(self, who: str) -> dict[str, str]:
         return {"Authorization": f"Bearer {self.tokens[who]}", "Content-Type": "text/csv"}
 
-    def client_of(self, who):
+    def client_of(self, who: str) -> Office:
         return Office(self.url, self.tokens[who])
 
-    def asynchronous_client_of(self, who):
+    def asynchronous_client_of(self, who: str) -> AsyncOffice:
         return AsyncOffice(self.url, self.tokens[who])
 
-    def find_desk_processes(self):
+    def find_desk_processes(self) -> list[int]:
         """The processes of desks of this office: those that it started."""
         found = subprocess.run(["ps", "-o", "pid=,args=", "--ppid", str(self.process.pid)], capture_output=True, text=True).stdout
         return [int(line.split()[0]) for line in found.splitlines() if str(self.files / "desk") in line]
 
-    def kill(self, *parts):
+    def kill(self, *parts: str) -> None:
         """Kills the office, its desk or both."""
         victims = self.find_desk_processes() if "desk" in parts else []
         victims += [self.process.pid] if "office" in parts else []
@@ -135,17 +149,17 @@ class ServedOffice:
         if "office" in parts:
             self.process.wait()
 
-    def stop(self):
-        if self.process and self.process.poll() is None:
-            self.process.terminate()
-            self.process.wait(30)
+    def stop(self) -> None:
+        if self.started and self.started.poll() is None:
+            self.started.terminate()
+            self.started.wait(30)
 
-    def capture_journal_of_desk(self):
+    def capture_journal_of_desk(self) -> list[str]:
         """The records in the desk's file, without the day."""
         shown = subprocess.run([self.environment["DAM_DESK"], "--journal", self.files / "desk"], capture_output=True, check=True)
         return shown.stdout.decode().splitlines()[1:]
 
-    def close_day(self):
+    def close_day(self) -> float:
         """Closes the day, and returns the seconds until the results are published."""
         began = time.monotonic()
         (self.files / "close-now").touch()
@@ -157,7 +171,8 @@ class ServedOffice:
 
 
 @contextlib.contextmanager
-def running_office(*words, kind=ServedOffice, **how):
+def running_office(*words: Any, kind: type[ServedOffice] = ServedOffice, **how: Any) -> Iterator[ServedOffice]:
+    """An office of a kind with these arguments, which is stopped at the end, and whose folder is removed."""
     office = kind(*words, **how)
     try:
         yield office

@@ -2,6 +2,7 @@
 in one period or in each."""
 
 import itertools
+from collections.abc import Iterator
 from typing import NamedTuple
 
 from lib.base import rules
@@ -21,28 +22,30 @@ class Shape(NamedTuple):
     name: str  # with a number in it
     is_wide: bool
 
-    def name_of(self, number):
+    def name_of(self, number: int) -> str:
         return self.name % number
 
-    def volumes(self, volume=7):
+    def volumes(self, volume: int = 7) -> str:
         return volumes_text(self.periods if self.is_wide else 1, lambda period: volume + period % 3)
 
-    def submit_of_hour(self, number, cents=5_000, name=None):
+    def submit_of_hour(self, number: int, cents: int = 5_000, name: str | None = None) -> str:
         side, period = SIDES[number % 2], 1 + number % self.periods
         return f"submit,{self.who},{name or self.name_of(number)},hour,{side},{cents + number % 50},{period}:{5 + number % 9},,\n"
 
-    def submit_of_block(self, number, cents=4_900, name=None, parent="", group="", volumes=None):
+    def submit_of_block(
+        self, number: int, cents: int = 4_900, name: str | None = None, parent: str = "", group: str = "", volumes: str | None = None
+    ) -> str:
         side = SIDES[(number + 1) % 2]
         found = name or self.name_of(9_000 + number)
         return f"submit,{self.who},{found},block,{side},{cents + number % 200},{volumes or self.volumes()},{parent},{group}\n"
 
-    def amend_of(self, name, cents, volumes):
+    def amend_of(self, name: str, cents: int, volumes: str) -> str:
         return f"amend,{self.who},{name},,,{cents},{volumes},,\n"
 
-    def cancel_of(self, name):
+    def cancel_of(self, name: str) -> str:
         return f"cancel,{self.who},{name},,,,,,\n"
 
-    def submits_of_book(self, hours=HOURS):
+    def submits_of_book(self, hours: int = HOURS) -> Iterator[str]:
         """The submits of a book: hourly orders, and blocks, of which every second one is a child of the one before, in one group."""
         yield from (self.submit_of_hour(number if number < HOURS else 1_000_000 + number) for number in range(hours))
         for number in range(BLOCKS):
@@ -54,7 +57,7 @@ SHORT, LONG = Shape(24, "A", "%X", False), Shape(100, "PARTICIP", "NAME-%07d", T
 OTHERS = [Shape(periods, "BRAVO", "N-%d", periods % 2 == 0) for periods in rules.DAYS if periods not in (24, 100)]
 
 
-def named_commands(shape):
+def named_commands(shape: Shape) -> Iterator[tuple[str, Iterator[str]]]:
     """Yields a name and an endless list of commands for each kind of accepted command, and each reason for a refusal but those of a full
     book and of one that is closed."""
     hours, blocks, one = range(HOURS), range(BLOCKS), "1:9"

@@ -13,18 +13,18 @@ class Block(NamedTuple):
 
     kind: str
     commands: str
-    quoted: str
+    quoted: str | None
 
 
-def blocks_of_page(text):
+def blocks_of_page(text: str) -> list[Block]:
     return [Block(*found.groups()) for found in BLOCK.finditer(text)]
 
 
-def code_spans(text):
+def code_spans(text: str) -> list[str]:
     """The words that stand as code within sentences and tables."""
     return [" ".join(found.split()) for found in re.findall(r"`([^`]+)`", FENCE.sub("", text))]
 
 
-def quoted_pairs(text):
+def quoted_pairs(text: str) -> list[tuple[str, str | None]]:
     """Each block of a shell's commands with the output that the page quotes."""
     return [(block.commands, block.quoted) for block in blocks_of_page(text) if block.kind == "sh"]

@@ -2,6 +2,7 @@
 
 import os
 import re
+from collections.abc import Iterator
 from html.parser import HTMLParser
 from pathlib import Path
 from urllib.parse import unquote, urlsplit
@@ -16,60 +17,66 @@ class SitePage(HTMLParser):
     """A page: the names of its places, its links, the files that it fetches, the pages before and after it, its blocks of text, and how
     many items of lists and tables its article has."""
 
-    def __init__(self, path):
+    def __init__(self, path: Path) -> None:
         super().__init__()
-        self.path, self.places, self.links, self.fetches, self.neighbours, self.twice = path, set(), [], [], {}, []
-        self.blocks, self.items, self.tables, self.is_article, self.is_block = [], 0, 0, False, False
+        self.path = path
+        self.places: set[str] = set()
+        self.neighbours: dict[str, str | None] = {}
+        self.links: list[str] = []
+        self.fetches: list[str] = []
+        self.twice: list[str] = []
+        self.blocks: list[str] = []
+        self.items, self.tables, self.is_article, self.is_block = 0, 0, False, False
         self.feed(path.read_text(encoding="utf-8"))
 
-    def handle_starttag(self, tag, pairs):
-        found = dict(pairs)
+    def handle_starttag(self, tag: str, attrs: list[tuple[str, str | None]]) -> None:
+        found = dict(attrs)
         self.is_article |= tag == "article"
         self.items += self.is_article and tag == "li"
         self.tables += self.is_article and tag == "table"
         if tag == "pre":
             self.is_block = True
             self.blocks.append("")
-        for name in {found.get("id"), found.get("name") if tag == "a" else None} - {None}:
+        for name in {name for name in (found.get("id"), found.get("name") if tag == "a" else None) if name is not None}:
             self.twice += [name] if name in self.places else []
             self.places.add(name)
-        if tag in ("a", "area") and found.get("href"):
-            self.links.append(found["href"])
-        if found.get("rel") in ("prev", "next"):
-            self.neighbours[found["rel"]] = found.get("href")
-        self.fetches += [value for name, value in pairs if value and (tag, name.removeprefix("xlink:")) in FETCHED]
+        if tag in ("a", "area") and (link := found.get("href")):
+            self.links.append(link)
+        if (direction := found.get("rel")) in ("prev", "next"):
+            self.neighbours[direction] = found.get("href")
+        self.fetches += [value for name, value in attrs if value and (tag, name.removeprefix("xlink:")) in FETCHED]
         self.fetches += fetched_by_style(found.get("style") or "")
 
     handle_startendtag = handle_starttag
 
-    def handle_endtag(self, tag):
+    def handle_endtag(self, tag: str) -> None:
         self.is_article &= tag != "article"
         self.is_block &= tag != "pre"
 
-    def handle_data(self, data):
+    def handle_data(self, data: str) -> None:
         if self.is_block:
             self.blocks[-1] += data
 
-    def block_texts(self):
+    def block_texts(self) -> set[str]:
         """The blocks of text, without the line ends around them."""
         return {block.strip("\n") for block in self.blocks}
 
 
-def fetched_by_style(text):
+def fetched_by_style(text: str) -> list[str]:
     """The files that a style fetches, but for those that it has in itself."""
     found = (one or other for one, other in OF_STYLES.findall(text))
     return [url for url in found if not url.startswith("data:") and not url.startswith("#")]
 
 
 class Site:
-    def __init__(self, folder):
+    def __init__(self, folder: Path | str) -> None:
         self.folder = Path(folder).resolve()
         self.pages = {path: SitePage(path) for path in sorted(self.folder.rglob("*.html"))}
 
-    def relative_name(self, path):
+    def relative_name(self, path: Path) -> str:
         return path.relative_to(self.folder).as_posix()
 
-    def fault_of_link_or_none(self, page, url):
+    def fault_of_link_or_none(self, page: SitePage, url: str) -> str | None:
         """Why a link of a page leads nowhere in the site, if it doesn't."""
         parts = urlsplit(url)
         if parts.scheme or parts.netloc:
@@ -83,7 +90,7 @@ class Site:
             return "no such place"
         return None
 
-    def read_faults(self):
+    def read_faults(self) -> Iterator[str]:
         """Each link, fetched file and place of the site that is wrong, with its page."""
         for page in self.pages.values():
             for url in [*page.links, *page.fetches]:

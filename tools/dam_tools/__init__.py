@@ -16,7 +16,7 @@ encoding differs from the program's."""
 
 from __future__ import annotations
 
-import collections
+import collections.abc
 import concurrent.futures
 import datetime
 import functools
@@ -49,18 +49,18 @@ from .checks import (
     whatif_change,
     whatif_limit,
 )
-from .given import JournalSource, Source, is_text, read_journal, read_one_of_many, read_or_return_journal
-from .given import read_source_bytes, turning_into_faults
+from .given import JournalSource, Source, read_journal, read_one_of_many, read_or_return_journal
+from .given import read_source_bytes, source_name, turning_into_faults
 from .lib.audit import day_audit
-from .lib.journal import book, journal
-from .lib.runs import by_library, by_program, engine, which
-from .lib.sheets import day_tables, order_table, table_operations
-from .lib.tool import exits, modules
-from .lib.tool.day_files import Day
-from .lib.runs.errors import Fault, TimedOut
-from .lib.runs.which import find_engine_or_none as where
-from .lib.journal.journal import Journal
 from .lib.base.rules import VERSION as __version__
+from .lib.day.day_files import Day
+from .lib.journal import book, journal
+from .lib.journal.journal import Journal
+from .lib.runs import by_library, by_program, engine, which
+from .lib.runs.errors import Fault, TimedOut
+from .lib.runs.which import find_engine as where
+from .lib.tables import day_tables, order_table, table_operations
+from .lib.tool import exits, modules
 
 __all__ = [
     "Audit",
@@ -110,7 +110,7 @@ def journal_of_orders(*sources: Source, periods: int = 24, close: bool = True) -
     """The journal of tables of orders, as tools/table --journal makes it of names in capitals. Each is a file (CSV or an Excel workbook) or
     bytes."""
     with turning_into_faults():
-        named = [("" if is_text(source) else exits.shown(source), read_source_bytes(source)) for source in sources]
+        named = [(exits.shown(source_name(source, "")), read_source_bytes(source)) for source in sources]
         orders = order_table.parse_tables(named, periods)
         made = TableJournal(*order_table.journal_of(orders, periods, close))
         made.notes = orders.notes
@@ -137,7 +137,7 @@ def clear(
     and DAM_LIBRARY the library, which comes first."""
     by_program.refuse_wrong_timeout(timeout)
     read = read_or_return_journal(source)
-    path = which.find_library_or_none() if (program, workers, cut, nodes, timeout) == (None,) * 5 else None
+    path = which.find_library() if (program, workers, cut, nodes, timeout) == (None,) * 5 else None
     if path:
         return read_results(read, by_library.call_and_return_output(path, journal.journal_text(read).encode()))
     options = [f"--{name}={value}" for name, value in (("workers", workers), ("cut", cut), ("nodes", nodes)) if value is not None]
@@ -202,7 +202,7 @@ def clear_many(
 
 def iterate_days(journals: Iterable[JournalSource], quiet: bool, answers: Any) -> Iterator[Day | Fault]:
     """The days of journals, or their faults, by the engine of their texts."""
-    whole = len(journals) if hasattr(journals, "__len__") else None
+    whole = len(journals) if isinstance(journals, collections.abc.Sized) else None
     kept: collections.deque[Any] = collections.deque()  # the journals whose results are still to come
 
     def texts() -> Iterator[bytes | Fault]:
@@ -286,7 +286,7 @@ def frame(day: Day | Journal, table: str = "periods", long: bool = False, date: 
     rows = list(rows_of(day, table, long, date))
     made = pandas.DataFrame(list(table_operations.records(rows, flat)), columns=rows[0])
     for name in rows[0]:
-        if table_operations.column_description(name, rows[0])["type"] == "number":
+        if table_operations.column_description(name, rows[0]).type == "number":
             made[name] = made[name].astype(float)  # also if each cell is empty
     if "begins" in made:
         made["begins"] = pandas.to_datetime(made["begins"], utc=True).dt.tz_convert(table_operations.ZONE)

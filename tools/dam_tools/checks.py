@@ -7,15 +7,14 @@ import types
 from dataclasses import dataclass
 
 from .given import JournalSource, Source, read_or_return_journal, read_source_bytes, source_name, read_journal_bytes
-from .lib.audit import better, day_audit, inputs
-from .lib.audit import recursive_enumeration
+from .lib.audit import better, day_audit, inputs, recursive_enumeration
+from .lib.day.day_files import Day
 from .lib.journal.journal import Journal
-from .lib.lint import lint as lint_of
+from .lib.lint import lint as lint_of, linted
 from .lib.results import selection
 from .lib.runs.errors import Fault
-from .lib.sheets import table_operations
-from .lib.tool import exits, linted, modules
-from .lib.tool.day_files import Day
+from .lib.tables import table_operations
+from .lib.tool import exits, modules
 from .lib.whatif import changes, limits, whatif
 
 
@@ -187,7 +186,7 @@ def audit(
         if stop.status != exits.UNDECIDED:
             raise Fault(str(stop)) from None
         message, status = str(stop), stop.status
-    told = made.found.record(made.found.status if status is None else status, message)
+    told = made.verdict.record(made.verdict.status if status is None else status, message)
     search = told["search"] or {"better": None, "how": None}
     return Audit(told["verdict"], message, told["checked"], [AuditFault(**one) for one in told["faults"]], search["better"], search["how"])
 
@@ -197,7 +196,7 @@ def whatif_limit(source: JournalSource, participant: str, order: str, program: s
     some twenty times, by the library or the program as `clear` has it. Results that break the rules are a `Fault`."""
     held, key = changes.book_before_close_or_raise(read_or_return_journal(source)), (participant, order)
     if key not in held.rows:
-        raise Fault(whatif.unknown_order_words(held, *key))
+        raise Fault(whatif.unknown_order_text(held, *key))
     if held.rows[key].kind != "block":
         raise Fault(f"{order} of {participant} isn't a block")
     search = limits.LimitSearch(held, key, whatif.engine_function(program))

@@ -11,7 +11,7 @@ from .lib.base.place import TOOLS
 FOLDER = Path(__file__).resolve().parent
 
 
-def run_tool(tool):
+def run_tool(tool: str) -> None:
     """Runs a tool with the words of the command line. It finds its modules next to its own file, as in a clone."""
     if not getattr(sys.flags, "safe_path", False):
         del sys.path[0]  # the folder of the commands, or the working folder

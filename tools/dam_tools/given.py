@@ -6,16 +6,18 @@ import contextlib
 import os
 from collections.abc import Iterator
 from pathlib import Path
+from typing import TypeAlias
 
+from .lib.day import day_files
 from .lib.journal import journal
 from .lib.journal.journal import Journal
 from .lib.runs.errors import Fault
-from .lib.sheets import order_table, table_operations
-from .lib.tool import day_files, exits, file_io
+from .lib.tables import order_table, table_operations
+from .lib.tool import exits, file_io
 
 REFUSED = 1  # the program's status for a text that it doesn't take
 Source = str | os.PathLike[str] | bytes
-JournalSource = Source | Journal
+JournalSource: TypeAlias = Source | Journal
 
 
 @contextlib.contextmanager
@@ -58,8 +60,7 @@ def read_one_of_many(source: JournalSource) -> bytes:
     """The bytes of a journal for which others wait, so that a device or a pipe, which may have no end, is a fault."""
     if not isinstance(source, (str, bytes, os.PathLike, Journal)):
         raise Fault(f"a journal should be a file, its text, or one that was read, and not of the type {type(source).__name__}")
-    is_file = not isinstance(source, Journal) and not is_text(source) and source != ""
-    if is_file and (said := file_io.find_unread_reason_or_none(source)):
+    if isinstance(source, (str, os.PathLike)) and not is_text(source) and source != "" and (said := file_io.find_unread_reason(source)):
         raise Fault(said)
     return read_journal_bytes(source)
 

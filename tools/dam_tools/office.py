@@ -14,6 +14,7 @@ import json
 import ssl
 import time
 import urllib.request
+from collections.abc import Iterator
 from typing import Any, NamedTuple
 
 RETRIES = 8
@@ -62,7 +63,7 @@ def parse_value(data: bytes, member: str | None = None) -> Any:
         raise strange_fault() from None
 
 
-def iterate_pauses():
+def iterate_pauses() -> Iterator[float]:
     """How long to wait before each try after the first."""
     pause = FIRST_PAUSE
     for _ in range(RETRIES):
@@ -91,7 +92,8 @@ def parse_prices(data: bytes) -> list[tuple[int, int, int]]:
     """The numbers of an answer's lines of periods, at least one."""
     try:
         lines = data.decode().splitlines()
-        made = [tuple(map(int, line.split(",")[1:4])) for line in lines if line.startswith("period,")]
+        numbers = [map(int, line.split(",")[1:4]) for line in lines if line.startswith("period,")]
+        made = [(period, price, volume) for period, price, volume in numbers]
     except ValueError:
         raise strange_fault() from None
     if not made:
@@ -127,7 +129,7 @@ class Calls:
 class EachAnswer(urllib.request.HTTPErrorProcessor):
     """Takes each answer as it is: a redirect isn't followed, because its target would get the token."""
 
-    def http_response(self, _, response):
+    def http_response(self, request: urllib.request.Request, response: http.client.HTTPResponse) -> http.client.HTTPResponse:
         return response
 
     https_response = http_response

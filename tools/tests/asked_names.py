@@ -9,8 +9,7 @@ import sys
 from support import TOP
 
 # Where a module is found by its name, after the folder of the file that imports it.
-FOLDERS = [TOP / name for name in ("tools", "tests", "", "tests/fuzz", "bench", "docs")]
-FOLDERS += sorted(path for path in (TOP / "tests").iterdir() if path.is_dir())
+FOLDERS = [TOP / name for name in ("tools", "tests", "", "bench", "docs/drawings")]
 FUNCTIONS = ast.FunctionDef, ast.AsyncFunctionDef
 SCOPES = *FUNCTIONS, ast.Lambda, ast.ClassDef, ast.ListComp, ast.SetComp, ast.DictComp, ast.GeneratorExp
 OF_MODULES = ("__all__", "__dict__", "__doc__", "__file__", "__name__", "__path__", "__spec__")

@@ -10,7 +10,7 @@ sys.dont_write_bytecode = True
 
 import support  # noqa: F401 (it makes lib and the fuzzer's modules found)
 
-import compare
+from shared import right_output
 from shared.printed import Printed, commands_by_participant
 from lib.base import rules
 from lib.journal import book, journal
@@ -31,14 +31,14 @@ def commands_in_drawn_order(commands):
 def answer_to_day(data):
     try:
         given = journal.parse_journal(data)
-        fault = compare.fault_of_day_or_none(given)
+        fault = right_output.fault_of_day_or_none(given)
     except journal.JournalFault as found:
         fault = found
     if fault:
-        return compare.refused_output(fault)
+        return right_output.refused_output(fault)
     run = journal.Journal(given.periods, [*commands_in_drawn_order(given.commands), journal.Close()])
     text = journal.journal_text(run).encode() + b"results\n"
-    return Printed(0, text + compare.right_results_or_none(run).stdout, b"")
+    return Printed(0, text + right_output.right_results_or_none(run).stdout, b"")
 
 
 def text_of_lower_results(data):
@@ -57,7 +57,7 @@ def answer_within_limit(answer, words, data, more):
 
 def answer_with_defect(command, words, data, defect):
     """The answer to a command with its options."""
-    answer = answer_to_day(data) if command == "day" else compare.right_output(command, data)
+    answer = answer_to_day(data) if command == "day" else right_output.right_output(command, data)
     if defect == "late" and data:
         time.sleep(60)
     if defect == "price" and NOMINAL in answer.stdout:

@@ -1,5 +1,6 @@
 """The common parts of the tests of the office: a desk in memory whose disk loses what wasn't synced, and offices that run on it."""
 
+import argparse
 import asyncio
 import contextlib
 import datetime
@@ -19,9 +20,9 @@ from lib.seal import heads, merkle
 try:
     import aiohttp
     import jinja2
+    from lib.office import day_writer, folder, monitoring, programs, publishing, setup
+    from lib.office.desk import Desk, DeskEnded
     from lib.seal import sealing, signing
-    from lib.office import day_writer, folder, observed, outcome, programs, setup
-    from lib.office.desk import Desk, Ended
 except ImportError:  # without python3-aiohttp and the like
     aiohttp = None
 
@@ -52,7 +53,7 @@ class DeskInMemory:
         disk.openings += 1
 
     def reply(self, record):
-        return sealing.reply_of(self.book.apply_or_return_refusal(heads.command_of_record_or_none(record)))
+        return sealing.reply_of(self.book.apply_or_return_refusal(heads.command_of_record(record)))
 
     async def iterate_replies(self, records):
         await asyncio.sleep(0)
@@ -64,13 +65,13 @@ class DeskInMemory:
         for reply in replies[:answered]:
             yield reply
         if kept is not None:
-            raise Ended("as planned")
+            raise DeskEnded("as planned")
 
     async def wait_for_end(self):
         await self.end.wait()
 
     async def wait_for_fault(self):
-        return Ended("as planned")
+        return DeskEnded("as planned")
 
     async def end_or_kill(self):
         await asyncio.sleep(0)
@@ -85,7 +86,7 @@ def patch_of_opening(disk):
         desk = disk.desk = DeskInMemory(disk, periods)
         return desk, list(disk.records), desk.replies
 
-    return mock.patch.object(Desk, "start_and_read_records", opened)
+    return mock.patch.object(Desk, "start", opened)
 
 
 async def iterate_untroubled_publishing(given):
@@ -108,8 +109,8 @@ class Office(unittest.IsolatedAsyncioTestCase):
             patch = mock.patch.object(day_writer, name, 0.001)
             patch.start()
             self.addCleanup(patch.stop)
-        self.publish = outcome.iterate_publishing_troubles
-        patch = mock.patch.object(outcome, "iterate_publishing_troubles", iterate_untroubled_publishing)
+        self.publish = publishing.iterate_publishing_troubles
+        patch = mock.patch.object(publishing, "iterate_publishing_troubles", iterate_untroubled_publishing)
         patch.start()
         self.addCleanup(patch.stop)
 
@@ -120,8 +121,9 @@ class Office(unittest.IsolatedAsyncioTestCase):
 
     def day_writer_of(self, clock=None, log=None):
         files = folder.DayFolder(self.office.path_of(folder.DAYS) / DAY)
-        found, log = programs.Programs("dam", "dam-desk"), log or observed.Log(io.StringIO())
-        return day_writer.DayWriter(files, self.key, found, clock or day_writer.Clock(), log, observed.Counts())
+        office = argparse.Namespace(key=self.key, programs=programs.Programs("dam", "dam-desk"), counts=monitoring.Counts())
+        office.clock, office.log = clock or day_writer.Clock(), log or monitoring.Log(io.StringIO())
+        return day_writer.DayWriter(files, office)
 
     @contextlib.asynccontextmanager
     async def running_writer(self, given):
@@ -141,12 +143,12 @@ class Office(unittest.IsolatedAsyncioTestCase):
     def assert_verified(self, given, receipt):
         """A receipt is right under its own head, and that head is of the journal."""
         self.assertTrue(signing.is_signed(self.key.public_key(), receipt.head))
-        self.assertEqual(merkle.root_of_inclusion_or_none(receipt.leaf(), receipt.number - 1, receipt.head.size, receipt.path), receipt.head.root)
+        self.assertEqual(merkle.root_of_inclusion(receipt.leaf(), receipt.number - 1, receipt.head.size, receipt.path), receipt.head.root)
         self.assertEqual(given.ledger.seal.tree.root(receipt.head.size), receipt.head.root)
 
 
 def commands_of_records(*records):
-    return [heads.command_of_record_or_none(record) for record in records]
+    return [heads.command_of_record(record) for record in records]
 
 
 def draw_record(rng, who, number, periods):

@@ -20,15 +20,15 @@ from pathlib import Path
 
 TOP = Path(__file__).resolve().parents[2]
 TOOLS = TOP / "tools"
-sys.path[:0] = [str(TOOLS), str(TOP / "tests"), str(TOP / "tests" / "fuzz")]
+sys.path[:0] = [f"{TOP}/tests", f"{TOP}/tools"]
 
-import compare
 from lib.crates import sources
+from lib.day import day_files
 from lib.journal import book, journal
 from lib.results import results, selection
-from lib.sheets import table_files
-from lib.tool import day_files, modules
-from shared import cases as worked, days
+from lib.tables import table_files
+from lib.tool import modules
+from shared import cases as worked, days, timed_program
 
 SECONDS = 300  # that a run may take
 # Three examples, and their results.
@@ -96,7 +96,7 @@ def rows_of_csv(data):
 
 def rows_as_written(rows):
     """The rows of a table as they are in its CSV."""
-    return rows_of_csv(table_files.table_text(rows).encode())
+    return rows_of_csv(table_files.csv_text(rows).encode())
 
 
 def problem_of(data):
@@ -125,7 +125,7 @@ def ranked_selections(day):
     """The eligible selections of a problem, with their welfare, the best one first."""
     subsets = itertools.product([True, False], repeat=len(day.blocks))
     chosen = [frozenset(itertools.compress(range(len(day.blocks)), flags)) for flags in subsets]
-    found = [(selection.eligible_welfare_or_none(day, accepted), accepted) for accepted in chosen]
+    found = [(selection.eligible_welfare(day, accepted), accepted) for accepted in chosen]
     # The selections come from the one that accepts most in front, and the sort keeps that order among equals.
     return sorted(((welfare, accepted) for welfare, accepted in found if welfare is not None), key=lambda pair: -pair[0])
 
@@ -185,16 +185,16 @@ def load_packages(name):
 
 def run_in_fork(path, words, data=b""):
     """A run of a script in a copy of this process."""
-    with compare.open_in_memory(data) as stdin, compare.open_in_memory() as stdout, compare.open_in_memory() as stderr:
+    with timed_program.open_in_memory(data) as stdin, timed_program.open_in_memory() as stdout, timed_program.open_in_memory() as stderr:
         child = os.fork()
         if child == 0:
             run_and_exit(path, words, [stdin, stdout, stderr])
-        is_late = not compare.wait_for_end(child, SECONDS)
+        is_late = not timed_program.wait_for_end(child, SECONDS)
         if is_late:
             os.kill(child, signal.SIGKILL)
         status = os.waitstatus_to_exitcode(os.waitpid(child, 0)[1])
         assert not is_late, f"{path} {words}: no end after {SECONDS} seconds"
-        return status, compare.read_contents(stdout), compare.read_contents(stderr).decode()
+        return status, timed_program.read_contents(stdout), timed_program.read_contents(stderr).decode()
 
 
 def run_and_exit(path, words, files):

@@ -19,12 +19,12 @@ from support import draw_small_problems, run_audit, run_tool
 from shared import days
 from lib.audit import day_audit, recursive_enumeration
 from lib.base import rules
-from lib.journal import book, journal
-from lib.results import check, period, results, selection
-from lib.sheets import day_tables, table_files
-from lib.tool import exits, modules
-from lib.base.progress import Progress
 from lib.base.text import exact_eur
+from lib.journal import book, journal
+from lib.process.progress import Progress
+from lib.results import check, period, results, selection
+from lib.tables import day_tables, table_files
+from lib.tool import exits, modules
 
 NOT_COMPARED = f"{day_audit.NOT_COMPARED}\n"
 NUMBER = re.compile(rb"(?<=,)-?\d+(?=[,\n])")
@@ -212,16 +212,16 @@ class Text(unittest.TestCase):
                 self.assertEqual(list(records(given)), wanted)
 
     def test_where_records_and_open_quotes_begin(self):
-        from lib.base.text import open_quote_place_or_none, placed_records
+        from lib.base.text import open_quote_place, placed_records
 
         text = b'\r\na,b\r\n\n"c""\n";d\re,"f'
         self.assertEqual(list(placed_records(text)), [(2, [b"a", b"b"]), (8, [b'c"\n;d']), (17, [b"e", b"f"])])
         self.assertEqual(list(placed_records(text, b";"))[1], (8, [b'c"\n', b"d"]))
         for given, place in {b"": None, b'a"\n': None, b'"a"\n"b"': None, text: 8, text[9:]: 4, b'a,"b""c': 2, b'""""": 1"\n"': 10}.items():
             with self.subTest(given):
-                self.assertEqual(open_quote_place_or_none(given), place)
-        self.assertEqual(open_quote_place_or_none(b'"a";"b', b";"), 4)
-        self.assertEqual(open_quote_place_or_none(b'a,"' + b"x" * 200_000), 2)
+                self.assertEqual(open_quote_place(given), place)
+        self.assertEqual(open_quote_place(b'"a";"b', b";"), 4)
+        self.assertEqual(open_quote_place(b'a,"' + b"x" * 200_000), 2)
 
     def test_the_written_journal_reads_back(self):
         for number in range(300):
@@ -273,7 +273,7 @@ class Period(unittest.TestCase):
             near = sorted(price for price in limits if rules.LOWEST_PRICE <= price <= rules.HIGHEST_PRICE)
             prices = sorted({rules.LOWEST_PRICE, *near, rules.HIGHEST_PRICE})
             right = [price for price in prices if any(obeys(orders, executed, price) for executed in balanced)]
-            found = period.clearing_or_none(orders, net)
+            found = period.clear(orders, net)
             self.assertEqual(found is not None, bool(balanced))
             if found:
                 self.assertEqual(right, [price for price in prices if found.low <= price <= found.high])
@@ -282,7 +282,7 @@ class Period(unittest.TestCase):
     def test_execution(self):
         for orders, net in self.drawn():
             balanced = [executed for executed in executions(orders) if balance(orders, net, executed)]
-            found = period.clearing_or_none(orders, net)
+            found = period.clear(orders, net)
             if found:
 
                 def rank(executed):
@@ -303,8 +303,8 @@ class Period(unittest.TestCase):
         for orders, _ in self.drawn():
             curve = recursive_enumeration.Curve(orders)
             for net in range(-16, 17):
-                found = period.clearing_or_none(orders, net)
-                self.assertEqual(curve.welfare_or_none(net), found and found.welfare)
+                found = period.clear(orders, net)
+                self.assertEqual(curve.welfare_at(net), found and found.welfare)
                 if found:
                     self.assertEqual(curve.supporting_prices(net), (found.low, found.high))
 
@@ -499,7 +499,7 @@ class CommandLine(unittest.TestCase):
 
         day = problem_of(AUCTION.read_bytes())
         accepted = frozenset(results.parse_results_and_faults(day, read_results(AUCTION))[0].accepted)
-        welfare = selection.eligible_welfare_or_none(day, accepted)
+        welfare = selection.eligible_welfare(day, accepted)
         for offers, said in (
             ([None], "HiGHS found none better"),
             ([{0}, None], "HiGHS offers 1 other, which breaks a rule or ranks below"),
@@ -507,7 +507,7 @@ class CommandLine(unittest.TestCase):
         ):
             answers = itertools.chain(offers, itertools.repeat(None))
             told = []
-            with unittest.mock.patch.object(highs_search.Model, "solve_for_selection_or_none", lambda *_: next(answers)):
+            with unittest.mock.patch.object(highs_search.Model, "solve_for_selection", lambda *_: next(answers)):
                 self.assertEqual(highs_search.search_with_highs(day, accepted, welfare, Progress("audit", 60), told.append), (None, said))
             many = "HiGHS is still searching, and has offered 2 other selections"
             words = ["HiGHS is still searching", "HiGHS is still searching, and has offered 1 other selection", many]
@@ -526,7 +526,7 @@ class CommandLine(unittest.TestCase):
     def test_a_text_in_the_place_of_another_is_named(self):
         journal_data, text = AUCTION.read_bytes(), read_results(AUCTION)
         replies, day = b"day,24\n1,done\n", journal_data + b"results\n" + text
-        orders = table_files.table_text([day_tables.ORDER]).encode()
+        orders = table_files.csv_text([day_tables.ORDER]).encode()
         for words, one, other, said in (
             ([], text, journal_data, "journal has results instead of a journal"),
             ([], journal_data, journal_data, "results has a journal instead of results"),
@@ -680,12 +680,12 @@ class CommandLine(unittest.TestCase):
         self.assertIn(b"buyers pay 885,657.75 EUR, sellers receive 885,657.75 EUR; ", out)
 
     def test_the_words_for_what_was_tried(self):
-        self.assertEqual(recursive_enumeration.tried_words(0, 1), "there is no block to select")
-        self.assertEqual(recursive_enumeration.tried_words(1, 2), "each of 2 selections was tried")
+        self.assertEqual(recursive_enumeration.tried_text(0, 1), "there is no block to select")
+        self.assertEqual(recursive_enumeration.tried_text(1, 2), "each of 2 selections was tried")
         whole = "each of 16,777,216 selections was tried; 1 would be better if none of its blocks lost"
-        self.assertEqual(recursive_enumeration.tried_words(24, 2**24, 1), whole)
-        self.assertEqual(recursive_enumeration.tried_words(1, 2, 2), "each of 2 selections was tried; 2 would be better if none of their blocks lost")
-        self.assertEqual(recursive_enumeration.tried_words(11, 7), "each of 2,048 selections was tried, of which links and groups admit 7")
+        self.assertEqual(recursive_enumeration.tried_text(24, 2**24, 1), whole)
+        self.assertEqual(recursive_enumeration.tried_text(1, 2, 2), "each of 2 selections was tried; 2 would be better if none of their blocks lost")
+        self.assertEqual(recursive_enumeration.tried_text(11, 7), "each of 2,048 selections was tried, of which links and groups admit 7")
 
     def test_quiet_and_help(self):
         self.assertEqual(run_audit(AUCTION.read_bytes(), read_results(AUCTION), "--quiet"), (0, b"", ""))

@@ -14,8 +14,8 @@ from support import TOOLS
 # Shows the bar with these words, above it a line for good, then the bar again, and takes it away.
 SHOWN = """import sys
 sys.path.insert(0, sys.argv[1])
-from lib.base import bar
-shown = bar.ShareBar("proving")
+from lib.process import progress
+shown = progress.ShareBar("proving")
 shown.show(0.25, sys.argv[2])
 shown.print_above(f"proved {sys.argv[2]}")
 shown.show(0.5, sys.argv[2])

@@ -118,10 +118,10 @@ class Contradictions(InFolder):
         """Anyone with the key can make them. They are of one tree."""
         head, _ = heads.parse_value_and_is_written(Path("A.head").read_bytes(), heads.parse_head)
         with mock.patch.object(signing, "is_signed", return_value=True):
-            links = receipts.Links([], self.key.public_key(), [])
+            statements = receipts.OperatorStatements([], self.key.public_key(), [])
             for signature in (head.signature, bytes(64)):
-                self.assertTrue(links.add_head_and_return_is_signed("file", head._replace(signature=signature), []))
-        self.assertEqual((links.signed.contradictions(), links.signed.heads()), ([], [unsigned(head)]))
+                self.assertEqual(statements.add_and_find_signer("file", head._replace(signature=signature), []), "")
+        self.assertEqual((statements.signed.contradictions(), statements.signed.heads()), ([], [unsigned(head)]))
 
     def test_one_number_with_two_entries(self):
         """No journal has both, whether their heads are connected or not."""
@@ -207,9 +207,9 @@ class Contradictions(InFolder):
             paths = [Path(f"{old}-{new}.json") for old, new in chosen]
             for path, (old, new) in zip(paths, chosen):
                 path.write_bytes(heads.line_bytes_of(seal.require_extension(signed[old], signed[new])))
-            links, proved = receipts.Links(paths, self.key.public_key(), []), closed(chosen)
+            statements, proved = receipts.OperatorStatements(paths, self.key.public_key(), []), closed(chosen)
             for old, new in every:
-                self.assertEqual(links.has_path(signed[old], signed[new]), (old, new) in proved, (chosen, old, new))
+                self.assertEqual(statements.has_path(signed[old], signed[new]), (old, new) in proved, (chosen, old, new))
 
     def test_an_extension_that_connects_nothing(self):
         """Anyone can make one of two right heads: the operator isn't at fault, and the rest is as it is without it."""
@@ -265,8 +265,8 @@ class Contradictions(InFolder):
         lines, _ = self.capture_lines(1, "heads", "A.head", "again.head", "--extension", "mixed.extension", *keys)
         self.assertIn(refused, lines)
         self.assertIn(f"mixed.extension: {other.format('mixed.extension')}", lines)
-        links = receipts.Links(["mixed.extension"], signing.Keys({path: receipts.read_key(path) for path in keys[1::2]}), [])
-        self.assertFalse(links.has_path(mixed.old, mixed.new))
+        statements = receipts.OperatorStatements(["mixed.extension"], signing.Keys({path: receipts.read_key(path) for path in keys[1::2]}), [])
+        self.assertFalse(statements.has_path(mixed.old, mixed.new))
         self.capture_lines(0, "heads", "A.head", "B.head", "--extension", "B.extension", *keys)
         mixed = extension._replace(new=signing.head_with_signature(new, extension.new._replace(day="2026-11-29")))
         Path("mixed.extension").write_bytes(heads.line_bytes_of(mixed))

@@ -16,8 +16,8 @@ from pathlib import Path
 
 from support import AUCTION, QUARTERS, TOOLS, make_folder_for_case, read_results, results_of, run_tool
 
-from lib.audit import day_pairs, days, verdict
-from lib.base import audit_record, text
+from lib.audit import day_pairs, days, record, verdict
+from lib.base import text
 from lib.results import faults
 from lib.runs import by_program
 from lib.tool import exits, file_io
@@ -136,7 +136,7 @@ class Days(unittest.TestCase):
         made = json.loads(out)
         self.assertEqual((status, made["status"], [day["verdict"] for day in made["days"]]), (3, 3, ["right", "unread"]))
         self.assertEqual(out, f"{json.dumps(made, indent=1)}\n")
-        self.assertEqual(made["counts"], {**dict.fromkeys(audit_record.VERDICTS, 0), "right": 1, "unread": 1})
+        self.assertEqual(made["counts"], {**dict.fromkeys(record.VERDICTS, 0), "right": 1, "unread": 1})
         self.assertEqual(made["days"][0]["day"]["periods"], 24)
         self.assertEqual(made["days"][0].keys(), made["days"][1].keys())
         inputs = made["days"][1]["inputs"]
@@ -296,7 +296,7 @@ class Days(unittest.TestCase):
     def test_a_process_that_cannot_be_started(self):
         pair, full = day_pairs.Pair("a", Path("a.csv"), Path("a.txt")), OSError(errno.EMFILE, os.strerror(errno.EMFILE))
         with unittest.mock.patch.object(days.subprocess, "Popen", side_effect=full):
-            made = days.run_audit_and_return_kept_record(pair, [], by_program.Running())
+            made = days.run_audit(pair, [], by_program.Running())
         said = "its process can't be started: Too many open files"
         self.assertEqual((made["status"], made["verdict"], made["message"]), (exits.FAILED, verdict.FAILED, said))
 
@@ -311,7 +311,7 @@ class Days(unittest.TestCase):
             return begun[-1]
 
         with unittest.mock.patch.object(days, "TOOL", hanging), unittest.mock.patch.object(subprocess, "Popen", side_effect=start):
-            found = days.run_audits_and_return_kept_records([hung, hung._replace(unread="x")], [], 2, unittest.mock.Mock(), 0.5)
+            found = days.run_audits([hung, hung._replace(unread="x")], [], 2, unittest.mock.Mock(), 0.5)
         self.assertEqual([made["message"] for made in found], ["its process didn't end in 0.5 seconds", "x"])
         self.assertEqual([made["status"] for made in found], [exits.FAILED, exits.NO_INPUT])
         self.assertEqual([process.returncode for process in begun], [-signal.SIGKILL])
@@ -326,7 +326,7 @@ class Days(unittest.TestCase):
                 unittest.mock.patch.object(subprocess.Popen, "communicate", side_effect=fault, autospec=True) as call,
                 self.assertRaises(fault),
             ):
-                days.capture_status_and_outputs(day_pairs.Pair("a", Path("a.csv"), None), [], by_program.Running(), 1)
+                days.capture_ended(day_pairs.Pair("a", Path("a.csv"), None), [], by_program.Running(), 1)
             process = call.call_args_list[0].args[0]
             self.addCleanup(process.kill)
             self.assertEqual(process.returncode, -signal.SIGKILL)
@@ -394,34 +394,34 @@ class Days(unittest.TestCase):
 
     def test_memory_or_threads_for_a_day_that_run_out(self):
         pairs, bar = [day_pairs.Pair(name, Path("a.csv"), Path("a.txt")) for name in "ab"], unittest.mock.Mock()
-        for patched, faults in (("capture_status_and_outputs", [MemoryError]), ("record_without_verdict", [MemoryError, unittest.mock.DEFAULT])):
+        for patched, faults in (("capture_ended", [MemoryError]), ("record_without_verdict", [MemoryError, unittest.mock.DEFAULT])):
             with unittest.mock.patch.object(days, patched, side_effect=faults * 2, wraps=getattr(days, patched)):
-                found = days.run_audits_and_return_kept_records(pairs, ["--none"], 1, bar)
+                found = days.run_audits(pairs, ["--none"], 1, bar)
             self.assertEqual([(made["name"], made["status"]) for made in found], [("a", exits.FAILED), ("b", exits.FAILED)])
             self.assertIn("out of memory", [made["message"] for made in found])
         with unittest.mock.patch.object(days.threading.Thread, "start", side_effect=RuntimeError("can't start new thread")):
-            found = days.run_audits_and_return_kept_records([pairs[0]._replace(unread="x")] * 2, [], 2, bar)
+            found = days.run_audits([pairs[0]._replace(unread="x")] * 2, [], 2, bar)
         self.assertEqual([made["message"] for made in found], ["x", "x"])
 
     def test_days_with_many_faults(self):
         """The faults of all days aren't in memory together. The record is the same as if they were."""
         wrong = [faults.line_fault("'hour,A,NAME,1' doesn't belong here", "stray", line, None).record() for line in range(3_000)]
-        made = {**audit_record.unread_record(verdict.WRONG, exits.DIFFERS, None), "faults": wrong}
+        made = {**record.unread_record(verdict.WRONG, exits.DIFFERS, None), "faults": wrong}
         out = json.dumps(made, indent=1).encode() + b"\n"
         pairs = [day_pairs.Pair(f"{number}\udcff", Path("a.csv"), None, "x" if number == 3 else None) for number in range(8)]
-        unread = {"name": "3\\xff", **audit_record.unread_record(verdict.UNREAD, exits.NO_INPUT, "x", [("journal", "a.csv")])}
+        unread = {"name": "3\\xff", **record.unread_record(verdict.UNREAD, exits.NO_INPUT, "x", [("journal", "a.csv")])}
         wanted = [unread if number == 3 else {"name": f"{number}\\xff", **made} for number in range(8)]
         for words in ({}, {"is_json": True}):
             tracemalloc.start()
             self.addCleanup(tracemalloc.stop)
-            with unittest.mock.patch.object(days, "capture_status_and_outputs", return_value=(exits.DIFFERS, out, b"")):
-                found = days.run_audits_and_return_kept_records(pairs, [], 2, unittest.mock.Mock(), **words)
+            with unittest.mock.patch.object(days, "capture_ended", return_value=(exits.DIFFERS, out, b"")):
+                found = days.run_audits(pairs, [], 2, unittest.mock.Mock(), **words)
             self.assertLess(tracemalloc.get_traced_memory()[0], len(out))
             tracemalloc.stop()
             self.assertIn("  3000      0.0  results line 0: 'hour,A,NAME,1' doesn't belong here", list(days.table_lines(found))[1])
         parts = list(days.record_parts(exits.DIFFERS, found))
         self.assertLessEqual(max(map(len, parts)), days.PART)
-        self.assertEqual(b"".join(parts).decode(), f"{json.dumps(audit_record.record_of_days(exits.DIFFERS, wanted), indent=1)}\n")
+        self.assertEqual(b"".join(parts).decode(), f"{json.dumps(record.record_of_days(exits.DIFFERS, wanted), indent=1)}\n")
 
     def test_the_time_grows_with_the_number_of_days(self):
         """While days are audited, the records of others aren't gone through again."""
@@ -432,8 +432,8 @@ class Days(unittest.TestCase):
                 reads.append(name)
                 return super().__getitem__(name)
 
-        with unittest.mock.patch.object(days, "run_audit_and_return_kept_record", side_effect=lambda *_: Counted(status=exits.DIFFERS)):
-            found = days.run_audits_and_return_kept_records([day_pairs.Pair("a", Path("a.csv"), None)] * 50, [], 2, bar)
+        with unittest.mock.patch.object(days, "run_audit", side_effect=lambda *_: Counted(status=exits.DIFFERS)):
+            found = days.run_audits([day_pairs.Pair("a", Path("a.csv"), None)] * 50, [], 2, bar)
         self.assertEqual((len(found), len(reads), bar.count_and_show.call_args.args), (50, 50, (1, "50 wrong")))
 
     def test_a_record_without_days(self):
@@ -441,7 +441,7 @@ class Days(unittest.TestCase):
             status, out, err = self.audit("--json", place=place)
             made = json.loads(out)
             self.assertEqual((status, made["status"], made["days"], f"audit: {made['message']}\n"), (3, 3, [], err))
-            self.assertEqual(made["counts"], dict.fromkeys(audit_record.VERDICTS, 0))
+            self.assertEqual(made["counts"], dict.fromkeys(record.VERDICTS, 0))
 
     def test_the_first_fault_is_one_line_and_whole(self):
         name = "d" * 200

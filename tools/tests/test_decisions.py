@@ -7,8 +7,8 @@ import unittest
 from support import AUCTION, TOP, day_of, journal_of, problem_of, read_results, results_of
 
 from lib.journal import book, journal
-from lib.results import decisions, families, period, selection
-from lib.sheets import day_tables
+from lib.results import decisions, families, judgement, period, selection
+from lib.tables import day_tables
 from plain import Plain
 
 # Periods in which 50 MW are bought at 80 EUR, and offered at 60. Without a block the price is 70 EUR; with a selling one it is 60,
@@ -17,7 +17,7 @@ PERIODS = [line for number in (1, 2, 3) for line in (
     f"submit,H,B{number},hour,buy,8000,{number}:500,,", f"submit,H,S{number},hour,sell,6000,{number}:500,,")]
 
 
-def kinds_and_words(data, accepted):
+def kinds_and_texts(data, accepted):
     """The kind and the words of each block."""
     day = day_of(data, results_of(data, frozenset(accepted)))
     found = decisions.decisions(day.problem, day.published.accepted, day.outcome)
@@ -38,7 +38,7 @@ class Hand(unittest.TestCase):
         said = r"Say A loses (\d+) EUR at the prices, its child B gains (\d+), and its child C loses (\d+): then A and B are the best family of both"
         loss, gain, other = map(int, re.search(said, page).groups())
         blocks = [f"submit,GAS,{name},block,sell,5000,1:10,{parent}," for name, parent in (("A", ""), ("B", "A"), ("C", "A"))]
-        found = [families.best_family_or_none(problem_of(journal_of(*blocks)), frozenset(), [-loss, gain, -other], place) for place in range(3)]
+        found = [families.best_family(problem_of(journal_of(*blocks)), frozenset(), [-loss, gain, -other], place) for place in range(3)]
         self.assertEqual([(family.members, family.gain()) for family in found[:2]], [({0, 1}, gain - loss)] * 2)
         self.assertEqual(found[2].members, {0, 1, 2})
 
@@ -54,19 +54,19 @@ class Hand(unittest.TestCase):
         self.assertEqual(best_of(data), frozenset())
         # If both are accepted nevertheless, START loses.
         said = "loses at the prices by itself, and with RUN it loses 1,060.00 EUR"
-        self.assertEqual(kinds_and_words(data, {0, 1})[0], (decisions.ACCEPTED, said))
+        self.assertEqual(kinds_and_texts(data, {0, 1})[0], (judgement.ACCEPTED, said))
         end = "though the welfare would be 1,740.00 EUR greater"
         self.assertEqual(
-            kinds_and_words(data, ()),
+            kinds_and_texts(data, ()),
             [
                 (
-                    decisions.PARADOX,
+                    judgement.PARADOX,
                     f"with RUN it would gain 2,440.00 EUR at the prices, but if both {IF_ADDED_WORDS}"
                     " the block itself would lose 1,060.00 EUR together with its accepted descendants and A,RUN would lose"
                     f" 980.00 EUR, {end}",
                 ),
                 (
-                    decisions.PARADOX,
+                    judgement.PARADOX,
                     f"with START it would gain 2,440.00 EUR at the prices, but if both {IF_ADDED_WORDS}"
                     " the block itself would lose 980.00 EUR and A,START would lose 1,060.00 EUR together with its accepted"
                     f" descendants, {end}",
@@ -90,7 +90,7 @@ class Hand(unittest.TestCase):
         self.assertEqual(best_of(data), frozenset())
         day = day_of(data, results_of(data, frozenset()))
         found = decisions.decisions(day.problem, day.published.accepted, day.outcome)
-        self.assertEqual([(one.kind, one.family.members) for one in found], [(decisions.PARADOX, frozenset(range(3)))] * 3)
+        self.assertEqual([(one.kind, one.family.members) for one in found], [(judgement.PARADOX, frozenset(range(3)))] * 3)
 
     def test_a_rival_whose_exchange_orphans_a_child(self):
         # P saves 400 EUR and C 500; Q, which would gain more at the prices than P, saves 450.
@@ -101,8 +101,8 @@ class Hand(unittest.TestCase):
             "submit,A,Q,block,sell,1500,2:100,,X",
         )
         self.assertEqual(best_of(data), {0, 1})
-        kind, why = kinds_and_words(data, {0, 1})[2]
-        self.assertEqual(kind, decisions.REJECTED)
+        kind, why = kinds_and_texts(data, {0, 1})[2]
+        self.assertEqual(kind, judgement.REJECTED)
         self.assertEqual(
             why,
             "would gain 550.00 EUR at the prices; P of its group X is accepted, and with Q in its place and that of C, which can't be"
@@ -114,11 +114,11 @@ class Hand(unittest.TestCase):
         data = journal_of(*PERIODS, "submit,A,P,block,sell,10000,1:100,,", "submit,A,C,block,sell,4500,2:100,P,")
         self.assertEqual(best_of(data), frozenset())
         self.assertEqual(
-            kinds_and_words(data, ()),
+            kinds_and_texts(data, ()),
             [
-                (decisions.REJECTED, "would lose 50.00 EUR at the prices, even with C"),
+                (judgement.REJECTED, "would lose 50.00 EUR at the prices, even with C"),
                 (
-                    decisions.REJECTED,
+                    judgement.REJECTED,
                     "would gain 250.00 EUR at the prices, but its parent P, without which it can't be accepted, would lose 50.00"
                     f" EUR even with it; if both {IF_ADDED_WORDS} A,P would lose 250.00"
                     " EUR together with its accepted descendants, and the welfare would be 250.00 EUR less",
@@ -129,8 +129,16 @@ class Hand(unittest.TestCase):
     def test_a_child_that_would_lose(self):
         data = journal_of(*PERIODS, "submit,A,P,block,sell,10000,1:100,,", "submit,A,C,block,sell,9000,2:100,P,")
         why = "would lose 200.00 EUR at the prices; its parent P is rejected"
-        self.assertEqual(kinds_and_words(data, ())[1], (decisions.REJECTED, why))
-        self.assertEqual(kinds_and_words(data, ())[0], (decisions.REJECTED, "would lose 300.00 EUR at the prices"))
+        self.assertEqual(kinds_and_texts(data, ())[1], (judgement.REJECTED, why))
+        self.assertEqual(kinds_and_texts(data, ())[0], (judgement.REJECTED, "would lose 300.00 EUR at the prices"))
+
+    def test_a_parent_that_loses_and_whose_child_has_no_price(self):
+        """Results that break the rules accept both, though nobody buys what C sells."""
+        data = journal_of(*PERIODS[:2], "submit,A,P,block,sell,8000,1:100,,", "submit,A,C,block,sell,4500,2:100,P,")
+        problem = problem_of(data)
+        found = decisions.decisions(problem, {0, 1}, selection.outcome(problem, {0, 1}))
+        said = "loses at the prices by itself, and a period of C, which descends from it, doesn't balance"
+        self.assertEqual(found[0], decisions.Decision(judgement.ACCEPTED, said, judgement.NO_PRICE))
 
     def test_of_two_children_in_one_group_the_better_one_is_taken(self):
         # P loses 100 EUR at the price of 70; C1 gains 50, C2 150, D 20. Only C2 and D, a child without a group, are of use.
@@ -141,7 +149,7 @@ class Hand(unittest.TestCase):
             "submit,A,C2,block,sell,5500,2:100,P,X",
             "submit,A,D,block,sell,6800,3:100,P,",
         )
-        found = kinds_and_words(data, ())
+        found = kinds_and_texts(data, ())
         said = f"with C2 and D it would gain 70.00 EUR at the prices, but if all 3 {IF_ADDED_WORDS}"
         self.assertTrue(found[0][1].startswith(said), found[0])
         # C1 with P and D would lose 30 EUR.
@@ -157,11 +165,11 @@ class Hand(unittest.TestCase):
             "submit,A,C,block,sell,2000,2:100,P,",
         )
         self.assertEqual(best_of(data), {0})
-        found = kinds_and_words(data, {0})
+        found = kinds_and_texts(data, {0})
         self.assertEqual(
             found[2],
             (
-                decisions.REJECTED,
+                judgement.REJECTED,
                 "with P it would gain 200.00 EUR at the prices; R of the group X of P is accepted, and with P and C in its place the"
                 " welfare would be 400.00 EUR less",
             ),
@@ -171,36 +179,36 @@ class Hand(unittest.TestCase):
     def test_a_block_that_can_never_be_accepted(self):
         data = journal_of(*PERIODS, "submit,A,P,block,sell,2000,1:100,,X", "submit,A,C,block,sell,10,2:100,P,X")
         why = "can never be accepted, because P, from which it descends, and it are both of the group X"
-        self.assertEqual(kinds_and_words(data, {0})[1], (decisions.REJECTED, why))
+        self.assertEqual(kinds_and_texts(data, {0})[1], (judgement.REJECTED, why))
         data = journal_of(*PERIODS, "submit,A,P,block,sell,2000,1:100,,X", "submit,A,C,block,sell,10,2:100,P,X",
                           "submit,A,D,block,sell,10,2:100,C,")
         why = "can never be accepted, because P and C, from which it descends, are both of the group X"
-        self.assertEqual(kinds_and_words(data, {0})[2], (decisions.REJECTED, why))
+        self.assertEqual(kinds_and_texts(data, {0})[2], (judgement.REJECTED, why))
 
     def test_equal_welfare(self):
         data = journal_of(*PERIODS, "submit,A,K1,block,sell,2000,1:500,,X", "submit,A,K2,block,sell,2000,2:500,,X")
         self.assertEqual(best_of(data), {0})
         end = "in its place the welfare would be the same, and"
-        self.assertTrue(kinds_and_words(data, {0})[1][1].endswith(f"{end} of equal selections the one with the earlier block is taken"))
-        self.assertTrue(kinds_and_words(data, {1})[0][1].endswith(f"{end} it ranks above"))
+        self.assertTrue(kinds_and_texts(data, {0})[1][1].endswith(f"{end} of equal selections the one with the earlier block is taken"))
+        self.assertTrue(kinds_and_texts(data, {1})[0][1].endswith(f"{end} it ranks above"))
 
     def test_a_twin_that_stands_earlier(self):
         """It is the reason, regardless of the result if both were accepted."""
         data = journal_of("submit,A,B,hour,buy,6000,8:10,,", "submit,A,K1,block,sell,100,8:10,,", "submit,B,K1,block,sell,100,8:10,,")
         self.assertEqual(best_of(data), {0})
         why = "would gain 59.00 EUR at the prices, but A,K1 offers the same and stands earlier in the book"
-        self.assertEqual(kinds_and_words(data, {0})[1], (decisions.PARADOX, why))
+        self.assertEqual(kinds_and_texts(data, {0})[1], (judgement.PARADOX, why))
         other = data.replace(b"submit,B,K1,block,sell,100", b"submit,B,K1,block,sell,101")
         unmatched = f"if it {IF_ADDED_WORDS} period 8 wouldn't balance: 1.0 MW would have no buyer"
-        self.assertIn(unmatched, kinds_and_words(other, {0})[1][1])
+        self.assertIn(unmatched, kinds_and_texts(other, {0})[1][1])
         # Of results that accept the later one, it isn't the reason: they aren't the best.
-        self.assertIn(unmatched, kinds_and_words(data, {1})[0][1])
+        self.assertIn(unmatched, kinds_and_texts(data, {1})[0][1])
 
     def test_codes(self):
         """Each is in the page of the tables, and each of a block that results can have is found."""
         page = (TOP / "docs" / "TABLES.md").read_text()
-        names = [name for name in vars(decisions) if name.isupper() and isinstance(getattr(decisions, name), str)]
-        codes = {getattr(decisions, name) for name in names} - {decisions.ACCEPTED, decisions.REJECTED, decisions.PARADOX}
+        values = {**vars(judgement), **vars(decisions)}
+        codes = {value for name, value in values.items() if name.isupper() and isinstance(value, str)} - {judgement.ACCEPTED, judgement.REJECTED, judgement.PARADOX}
         self.assertEqual(set(re.findall(r"^\| `([a-z-]+)` \| (?:hourly order|(?:accepted |rejected )?block) \|", page, re.MULTILINE)), codes)
         found = set()
         for data, _, best in drawn(400):
@@ -229,8 +237,8 @@ class Hand(unittest.TestCase):
         day = day_of(AUCTION.read_bytes(), read_results(AUCTION))
         found = decisions.decisions(day.problem, day.published.accepted, day.outcome)
         kinds = [decision.kind for decision in found]
-        self.assertEqual(kinds[:5], [decisions.ACCEPTED] * 5)
-        self.assertEqual(kinds[5:], [decisions.REJECTED, decisions.ACCEPTED, decisions.REJECTED, decisions.PARADOX])
+        self.assertEqual(kinds[:5], [judgement.ACCEPTED] * 5)
+        self.assertEqual(kinds[5:], [judgement.REJECTED, judgement.ACCEPTED, judgement.REJECTED, judgement.PARADOX])
         self.assertIn("would lose 8,050.00 EUR at the prices", found[5].why)
         self.assertIn("in its place the welfare would be 5,120.00 EUR less", found[7].why)
         why = f", but if it {IF_ADDED_WORDS} the block itself would lose 270.00 EUR, though the welfare would be 2,810.00 EUR greater"
@@ -243,11 +251,11 @@ class Hand(unittest.TestCase):
             "submit,A,K2,block,sell,100,1:5,K1,",
             "submit,A,K3,block,sell,100,1:30,,",
         )
-        found = kinds_and_words(data, ())
+        found = kinds_and_texts(data, ())
         self.assertTrue(found[2][1].endswith(f"{IF_ADDED_WORDS} period 1 wouldn't balance: 2.0 MW would have no buyer"))
-        self.assertEqual(found[2][0], decisions.PARADOX)
+        self.assertEqual(found[2][0], judgement.PARADOX)
         data = journal_of("submit,A,S1,hour,sell,1,1:3,,", "submit,A,S2,hour,sell,1,2:7,,", "submit,A,K,block,buy,9,1:3;2:10,,")
-        self.assertTrue(kinds_and_words(data, ())[0][1].endswith(f"{IF_ADDED_WORDS} period 2 wouldn't balance: 0.3 MW would have no seller"))
+        self.assertTrue(kinds_and_texts(data, ())[0][1].endswith(f"{IF_ADDED_WORDS} period 2 wouldn't balance: 0.3 MW would have no seller"))
 
     def test_the_volume_that_finds_no_other_side(self):
         """With so much less of the block in the period, and not with a tenth more, the period balances."""
@@ -255,14 +263,14 @@ class Hand(unittest.TestCase):
         for data, _, best in drawn(300):
             day = problem_of(data)
             for place, decision in enumerate(decisions.decisions(day, best, selection.outcome(day, best))):
-                if decision.code != decisions.UNBALANCED:
+                if decision.code != judgement.UNBALANCED:
                     continue
                 words = r"period ([0-9]+) wouldn't balance: ([0-9.]+) MW would have no (buyer|seller)$"
                 number, volume, side = re.search(words, decision.why).groups()
                 tenths, orders = round(float(volume) * 10), day.orders[int(number)]
                 net = sum(dict(selection.net_volumes(day.blocks[at].order)).get(int(number), 0) for at in decision.other.accepted)
                 ends = [net - less if side == "buyer" else net + less for less in (tenths, tenths - 1)]
-                is_balanced = [period.clearing_or_none(orders, end) is not None for end in ends]
+                is_balanced = [period.clear(orders, end) is not None for end in ends]
                 self.assertEqual(is_balanced, [True, False])
                 found += 1
         self.assertGreater(found, 10)
@@ -328,7 +336,7 @@ class Random(unittest.TestCase):
         self.assertEqual(decision.other.welfare, welfare)
         lost = best - choices[family]
         is_paradox = not lost and ranks[family][0] and ranks[family][1] > 0 and plain.gain(place, family, surpluses) > 0
-        self.assertEqual(decision.kind, decisions.PARADOX if is_paradox else decisions.REJECTED)
+        self.assertEqual(decision.kind, judgement.PARADOX if is_paradox else judgement.REJECTED)
         named = set(re.findall(r"K\d", decision.why))
         if welfare is None:
             seen["unbalanced"] += 1

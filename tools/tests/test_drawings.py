@@ -13,16 +13,17 @@ from lib.crates import crates
 from lib.results import selection
 from lib.seal import merkle
 from lib.tool import exits, modules
+from shared.crash_files import UnsyncedChange, draw_torn_files, parse_marked_lines_or_none
 
-sys.path[:0] = [str(TOP / "docs"), str(TOP / "tests" / "desk")]
+sys.path.insert(0, f"{TOP}/docs/drawings")
 import draw_bound
 import draw_crates
 import draw_desk
+import draw_growth
 import draw_hour
 import draw_office
 import draw_receipt
 import draw_trust
-import images
 
 LIST = "# a comment\nlow:\nhigh staticlib: low kit # more\nmiddle: low\ntop: high middle low\nhigh: other\n"
 WELFARE_OF_THE_SUNNY_DAY = 245_193_556_800  # the line `welfare` of `dam clear < examples/sunny-day.csv`
@@ -80,7 +81,7 @@ class Desk(unittest.TestCase):
         """The blue lines are those that the reader of a desk's file finds."""
         for file in draw_desk.STATES:
             blue = "".join(f"{text}\n" for text, counts in draw_desk.rows(file) if counts)
-            self.assertEqual(blue.encode(), draw_desk.HEAD + images.parse_marked_lines_or_none(file))
+            self.assertEqual(blue.encode(), draw_desk.HEAD + parse_marked_lines_or_none(file))
             self.assertTrue(file.endswith(b"\n-"))
 
     def test_the_steps_of_a_batch(self):
@@ -88,9 +89,9 @@ class Desk(unittest.TestCase):
         before, between, after = draw_desk.STATES
         place = len(before) - 1
         self.assertEqual((between[: place + 1], between[:place] + b"+" + between[place + 1 :]), (before, after))
-        for old, change in [(before, images.UnsyncedChange(place + 1, between[place + 1 :])), (between, images.UnsyncedChange(place, b"+"))]:
-            found = {images.parse_marked_lines_or_none(image) for image in images.draw_torn_files(old, change, random.Random(1))}
-            self.assertEqual(found, {draw_desk.HELD} | ({images.parse_marked_lines_or_none(after)} if change.bytes == b"+" else set()))
+        for old, change in [(before, UnsyncedChange(place + 1, between[place + 1 :])), (between, UnsyncedChange(place, b"+"))]:
+            found = {parse_marked_lines_or_none(image) for image in draw_torn_files(old, change, random.Random(1))}
+            self.assertEqual(found, {draw_desk.HELD} | ({parse_marked_lines_or_none(after)} if change.bytes == b"+" else set()))
 
 
 class Bound(unittest.TestCase):
@@ -139,6 +140,23 @@ class Bound(unittest.TestCase):
             self.assertIn(words, drawn)
 
 
+class Growth(unittest.TestCase):
+    def test_the_points_of_a_family(self):
+        row = draw_growth.records.Figure("nodes", "nodes with 24 blocks", "base, 96 periods", "1,234", "", "", "", "53 with 8; 68 with 16", "1234")
+        self.assertEqual(draw_growth.nodes_by_family([row]), {("base", 96): [(8, 53), (16, 68), (24, 1_234)]})
+
+    @NEEDS_MATPLOTLIB
+    def test_the_picture_is_of_the_recorded_figures(self):
+        import matplotlib
+
+        text = draw_growth.PICTURE.read_text()
+        if f"Matplotlib v{matplotlib.__version__}," not in text:
+            self.skipTest("another matplotlib drew the picture")
+        with tempfile.TemporaryDirectory() as room:
+            draw_growth.write_picture(Path(room, "growth.svg"))
+            self.assertEqual(Path(room, "growth.svg").read_text(), text)
+
+
 class Hour(unittest.TestCase):
     @NEEDS_MATPLOTLIB
     def test_what_the_picture_says(self):
@@ -152,7 +170,7 @@ class Hour(unittest.TestCase):
 
 class Office(unittest.TestCase):
     def test_the_picture_is_of_the_page(self):
-        self.assertEqual(draw_office.taken_of(), draw_office.page_sum(), "docs/draw_office.py takes the picture again")
+        self.assertEqual(draw_office.taken_of(), draw_office.page_sum(), "docs/drawings/draw_office.py takes the picture again")
 
 
 class Trust(unittest.TestCase):
@@ -168,7 +186,7 @@ class Trust(unittest.TestCase):
 
     @unittest.skipUnless(modules.is_debian_python(), "this isn't Debian's Python")
     def test_they_need_matplotlib(self):
-        words = [sys.executable, "-S", TOP / "docs" / "draw_trust.py", "unit-7", "--draw"]  # -S leaves out Debian's packages
+        words = [sys.executable, "-S", TOP / "docs" / "drawings" / "draw_trust.py", "unit-7", "--draw"]  # -S leaves out Debian's packages
         ran = subprocess.run(words, capture_output=True, text=True)
         self.assertEqual((ran.returncode, ran.stdout), (exits.FAILED, ""))
         self.assertRegex(ran.stderr, r"^\S*draw_trust\.py: it needs matplotlib, .*: apt-get install python3-matplotlib\n$")

@@ -25,12 +25,13 @@ from unittest import mock
 from support import AUCTION, AUCTION_RESULTS, TOOLS, TOP, journal_of, results_of, set_interrupt_handler
 
 from lib.audit import better
-from lib.base import child_call, children, ending, place
-from lib.tool import exits, modules
-from lib.base.progress import Progress
+from lib.base import place
+from lib.process import child_call, children, ending
+from lib.process.progress import Progress
 from lib.runs import by_program, errors
+from lib.tool import exits, modules
 
-GUARD = "from lib.base import ending; ending.guard_tool('audit')"
+GUARD = "from lib.process import ending; ending.guard_tool('audit')"
 CODE_OF_CALL = f"{GUARD}; from lib.tool import exits; exits.run_and_exit('audit', lambda: CALL)"
 IGNORING_SIGCHLD = "import os, signal, sys; signal.signal(signal.SIGCHLD, signal.SIG_IGN); os.execv(sys.argv[1], sys.argv[1:])"
 SECONDS = 60
@@ -49,7 +50,7 @@ exec(compile(open(path).read(), path, "exec"), {"__name__": "__main__", "__file_
 # A signal comes while an object goes away, some times.
 CODE_OF_SIGNALS = """
 import os, sys, time, weakref
-from lib.base import ending
+from lib.process import ending
 ending.guard_tool("audit")
 from lib.tool import exits
 class Object: pass
@@ -68,25 +69,25 @@ exits.run_and_exit("audit", main)
 CODE_OF_AUDITS = """
 import os, sys, time
 from pathlib import Path
-from lib.base import ending
+from lib.process import ending
 ending.guard_tool("audit")
 from lib.audit import day_pairs, days
-from lib.base.progress import StepBar
-from lib.pictures import drawing
+from lib.process.progress import StepBar
+from lib.pictures import matplotlib_settings
 from lib.tool import exits
 days.TOOL = Path(sys.argv[1])
 pairs = [day_pairs.Pair(str(number), Path(sys.argv[1]), None) for number in range(8)]
 def main():
-    with drawing.empty_settings():
-        days.run_audits_and_return_kept_records(pairs, [], 3, StepBar("audit", 8, "days"))
+    with matplotlib_settings.empty_settings():
+        days.run_audits(pairs, [], 3, StepBar("audit", 8, "days"))
 exits.run_and_exit("audit", main)
 """
 # A run that has no memory for the rows of a sheet, and prints how many temporary files there are then.
 CODE_WITHOUT_MEMORY = """
 import os
-from lib.base import ending
+from lib.process import ending
 ending.guard_tool("table")
-from lib.sheets import table_files
+from lib.tables import table_files
 from lib.tool import exits
 def fail(_):
     print(len(os.listdir(os.environ["TMPDIR"])), flush=True)
@@ -156,10 +157,11 @@ class Failing(unittest.TestCase):
         said = "a defect of this tool, please report it: RuntimeError: no (DAM_DEBUG=1 shows where)\n"
         for name, status, prefix in (("prove", 1, "prove"), ("unproved", 70, "dam")):
             script = (TOOLS / name).read_text()
-            code = f"__file__ = {str(TOOLS / name)!r}\n" + script[: script.rindex("\n\n\nif __name__")] + "\nraise RuntimeError('no')\n"
+            begin = script[: script.rindex("\n\n\nif __name__")].replace("import _signal\n", f"import _signal\n\n__file__ = {str(TOOLS / name)!r}\n", 1)
+            code = begin + "\nraise RuntimeError('no')\n"
             ran = subprocess.run([sys.executable, "-I", "-S", "-c", code], capture_output=True, text=True)
             self.assertEqual((ran.returncode, ran.stdout, ran.stderr), (status, "", f"{prefix}: {said}"))
-            for folder in ("base/ending", "base/place", "base/surroundings"):
+            for folder in ("process/ending", "base/place", "process/surroundings"):
                 ast.parse((TOOLS / "lib" / f"{folder}.py").read_text(), feature_version=(3, 8))
 
     def test_memory(self):
@@ -169,6 +171,7 @@ class Failing(unittest.TestCase):
             "(_ for _ in ()).throw(OSError(12, 'Cannot allocate memory'))",
             "(_ for _ in ()).throw(ImportError('failed to map segment'))",
             "(_ for _ in ()).throw(RuntimeError('can\\'t start new thread'))",
+            "(_ for _ in ()).throw(ValueError(\"field 'args' is required for FunctionDef\"))",
             "(_ for _ in ()).throw(SystemError('error return without exception set'))",
             "(_ for _ in ()).throw(SystemError('<built-in function a> returned NULL without setting an exception'))",
         ):
@@ -216,7 +219,7 @@ class Failing(unittest.TestCase):
             Path(folder, "lib", "start.py").write_bytes((TOOLS / "lib" / "start.py").read_bytes())
             for name in place.TOOLS:
                 ran = subprocess.run([sys.executable, "-I", "-S", Path(folder, name)], capture_output=True, text=True)
-                said = f"{name}: it can't start: No module named 'lib.base'\n"
+                said = f"{name}: it can't start: No module named 'lib.process'\n"
                 self.assertEqual((ran.returncode, ran.stdout, ran.stderr), (exits.FAILED, "", said))
 
     def test_right_results_are_never_called_wrong(self):
@@ -252,7 +255,7 @@ class Failing(unittest.TestCase):
             self.assertEqual((status, err, found), (exits.FAILED, "lint: out of memory\n", ("failed", exits.FAILED, "out of memory", [])))
 
     def test_a_failed_import(self):
-        run = "import sys; from lib.base import ending; ending.guard_tool('lint'); raise MemoryError"
+        run = "import sys; from lib.process import ending; ending.guard_tool('lint'); raise MemoryError"
         ran = subprocess.run([sys.executable, "-B", "-c", run], cwd=TOOLS, capture_output=True, text=True)
         self.assertEqual((ran.returncode, ran.stderr), (exits.FAILED, "lint: out of memory\n"))
 
@@ -260,7 +263,7 @@ class Failing(unittest.TestCase):
 class Start(unittest.TestCase):
     """The first lines of tools, which each has for itself: nothing that they share can be imported before."""
 
-    INTERRUPT = re.compile(r'"""\n\n(import _signal\n(?:import posix\n)?\nif .*\n    _signal.signal.*\n)\n')
+    INTERRUPT = re.compile(r'"""\n\n(?:from __future__ import annotations\n\n)?(import _signal\n(?:import posix\n)?\nif .*\n    _signal.signal.*\n)\n')
     START = re.compile(r'"""\n\n(import _signal\n(?:.*\n)*?    posix._exit\(5\)\n)')
 
     def test_tools_start_alike(self):
@@ -333,7 +336,7 @@ class Interrupted(unittest.TestCase):
             with self.subTest(name):
                 is_launchers = name in ("prove", "unproved")
                 late = ("lib.crates",) if is_launchers else ("lib.tool", "argparse")
-                for module in ("sys", "lib.base", *late):
+                for module in ("sys", "lib.process", *late):
                     words = [sys.executable, "-I", "-S", "-B", "-c", CODE_OF_INTERRUPTED_IMPORT, TOOLS / name, module]
                     ran = subprocess.run(words, capture_output=True, text=True, stdin=subprocess.DEVNULL)
                     said = f"{'dam' if name == 'unproved' else name}: interrupted\n"
@@ -433,7 +436,7 @@ class Interrupted(unittest.TestCase):
 
     def test_signals_after_one(self):
         """They don't stop its end, but a later one is heeded again."""
-        for first, kind in ((signal.SIGTERM, ending.Ended), (signal.SIGINT, KeyboardInterrupt)):
+        for first, kind in ((signal.SIGTERM, ending.EndedBySignal), (signal.SIGINT, KeyboardInterrupt)):
             with mock.patch.object(ending.Guarded, "heeded", -math.inf), mock.patch.object(time, "monotonic") as clock:
                 for now, is_heeded in ((100, True), (100, False), (104, False), (105, True)):
                     clock.return_value = now
@@ -474,7 +477,7 @@ class Interrupted(unittest.TestCase):
 
     def test_signals_are_held(self):
         """Each ends the tool at the end of the steps that belong together, also if one of them fails, unless it is ignored."""
-        for number, kind in ((signal.SIGINT, KeyboardInterrupt), (signal.SIGTERM, ending.Ended), (signal.SIGHUP, ending.Ended)):
+        for number, kind in ((signal.SIGINT, KeyboardInterrupt), (signal.SIGTERM, ending.EndedBySignal), (signal.SIGHUP, ending.EndedBySignal)):
             self.addCleanup(signal.signal, number, signal.getsignal(number))
             for fault in (None, OSError):
                 signal.signal(number, ending.raise_signal)
@@ -505,7 +508,7 @@ class Interrupted(unittest.TestCase):
         call = "lambda tell: (tell(str(os.getpid())), ctypes.PyDLL(None).sleep(600))"
         shown = "type('', (), {'show_time_or_raise': lambda self, words: print(words, flush=True), 'stop_and_erase': lambda self: None})()"
         run = f"exits.run_and_exit('audit', lambda: child_call.run_in_child({call}, {shown}, ''))"
-        main = f"import ctypes, os; from lib.base import child_call; from lib.tool import exits; {run}"
+        main = f"import ctypes, os; from lib.process import child_call; from lib.tool import exits; {run}"
         words = [sys.executable, "-B", "-c", main]
         running = subprocess.Popen(words, stdout=subprocess.PIPE, stderr=subprocess.PIPE, cwd=TOOLS, text=True)
         try:
@@ -525,8 +528,8 @@ class Interrupted(unittest.TestCase):
         call = "lambda tell: (os.write(2, b'no memory: ABORT'), os.abort())"
         said = "audit: a defect of this tool, please report it: Died: the search ended without an answer: memory may have run out (DAM_DEBUG=1 shows where)\n"
         run = f"exits.run_and_exit('audit', lambda: child_call.run_in_child({call}, {shown}, ''))"
-        main = f"import os; from lib.base import child_call; from lib.tool import exits; {run}"
-        ran = subprocess.run([sys.executable, "-B", "-c", f"from lib.base import ending; ending.guard_tool('audit'); {main}"], capture_output=True, text=True, cwd=TOOLS)
+        main = f"import os; from lib.process import child_call; from lib.tool import exits; {run}"
+        ran = subprocess.run([sys.executable, "-B", "-c", f"from lib.process import ending; ending.guard_tool('audit'); {main}"], capture_output=True, text=True, cwd=TOOLS)
         self.assertEqual((ran.returncode, ran.stderr), (exits.FAILED, said))
 
     def test_a_call_that_dies(self):

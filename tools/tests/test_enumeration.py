@@ -12,9 +12,9 @@ from support import TOP, draw_small_problems, journal_of, problem_of, results_of
 from lib.audit import recursive_enumeration
 from lib.base import rules
 from lib.journal import book, journal
+from lib.process.progress import Progress
 from lib.results import period, selection
 from lib.tool import exits, modules
-from lib.base.progress import Progress
 
 # Of this many days each kind that a test asks for comes up 15 times or more: with all of 20 seeds, so another draw in `days` does no harm.
 SMALL_DAYS = 400
@@ -157,7 +157,7 @@ class Enumeration(unittest.TestCase):
             for chosen in range(2 ** len(nets)):
                 flags = f"{chosen:0{len(nets)}b}" if nets else ""
                 net = sum(net for net, flag in zip(nets, flags) if flag == "1")
-                found = period.clearing_or_none(orders, net)
+                found = period.clear(orders, net)
                 self.assertEqual(worths[tables.buys - net - tables.least], found.welfare if found else numpy_enumeration.NEVER)
                 if found:
                     at = [chosen >> low_bits], [chosen & (2**low_bits - 1)]
@@ -179,12 +179,12 @@ class Enumeration(unittest.TestCase):
         for name, parts in ("links", "1"), ("groups", "4"), ("ties", "1"):
             with self.subTest(name):
                 day = problem_of(make_family(name, "200", "24", parts))
-                found, how = self.better(day, (), selection.eligible_welfare_or_none(day, frozenset()), jobs=2)
+                found, how = self.better(day, (), selection.eligible_welfare(day, frozenset()), jobs=2)
                 self.assertIn("each of 16,777,216 selections was tried", how)
                 again, _ = self.better(day, found.accepted, found.welfare)
                 self.assertIsNone(again)
                 one_less = found.accepted - {max(found.accepted)}
-                welfare = selection.eligible_welfare_or_none(day, one_less)
+                welfare = selection.eligible_welfare(day, one_less)
                 if welfare is not None:
                     self.assertEqual(self.better(day, one_less, welfare)[0], found)
 
@@ -218,14 +218,14 @@ class Enumeration(unittest.TestCase):
         for few, (limit, accepted) in itertools.product((1, 1_024), ((50, frozenset({0})), (51, None))):
             hourly = ["submit,A,B,hour,buy,100,1:10,,", "submit,A,S1,hour,sell,40,1:9,,", "submit,A,S2,hour,sell,60,1:1,,"]
             day = problem_of(journal_of(*hourly, f"submit,A,K,block,sell,{limit},1:1,,"))
-            found, _ = self.better(day, (), selection.eligible_welfare_or_none(day, frozenset()), few)
+            found, _ = self.better(day, (), selection.eligible_welfare(day, frozenset()), few)
             self.assertEqual(found and found.accepted, accepted)
             self.assertEqual(numpy_enumeration.Selections(day).are_losing(0, numpy.array([1])).tolist(), [accepted is None])
 
     def test_as_many_are_tried_as_there_are(self):
         blocks = [f"submit,A,K{number},block,sell,1,1:1,{'K0' if number else ''},{'G' if number else ''}" for number in range(6)]
         day = problem_of(journal_of(*blocks, "submit,A,B,hour,buy,1000,1:100,,"))
-        found, how = self.better(day, {0, 1}, selection.eligible_welfare_or_none(day, frozenset({0, 1})), low_bits=2)
+        found, how = self.better(day, {0, 1}, selection.eligible_welfare(day, frozenset({0, 1})), low_bits=2)
         self.assertIsNone(found)
         self.assertEqual(how, "each of 64 selections was tried, of which links and groups admit 7")
 
@@ -240,7 +240,7 @@ class Enumeration(unittest.TestCase):
         with self.assertRaisesRegex(TimeoutError, "after 0 seconds, 0 of 0 selections have been tried"):
             from lib.audit import numpy_enumeration
 
-            numpy_enumeration.search_with_numpy(day, frozenset(), selection.eligible_welfare_or_none(day, frozenset()), Progress("test", 0), jobs=2)
+            numpy_enumeration.search_with_numpy(day, frozenset(), selection.eligible_welfare(day, frozenset()), Progress("test", 0), jobs=2)
 
 
 @unittest.skipUnless(modules.has_module("numpy"), "numpy is missing (Debian's python3-numpy)")
@@ -250,7 +250,7 @@ class CommandLine(unittest.TestCase):
         day = problem_of(data)
         from lib.audit import numpy_enumeration
 
-        found, _ = numpy_enumeration.search_with_numpy(day, frozenset(), selection.eligible_welfare_or_none(day, frozenset()), Progress("test", 600))
+        found, _ = numpy_enumeration.search_with_numpy(day, frozenset(), selection.eligible_welfare(day, frozenset()), Progress("test", 600))
         status, out, _ = run_audit(data, results_of(data, found.accepted), "--best", "--jobs", "2")
         self.assertEqual((status, b"each of 4,096 selections was tried" in out), (exits.DONE, True))
         status, out, _ = run_audit(data, results_of(data, frozenset()), "--best")

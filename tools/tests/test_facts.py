@@ -8,13 +8,14 @@ import sys
 import unittest
 from unittest import mock
 
-from support import TOP, load_tool, worked
+from support import TOP, worked
 
 from lib.base import rules
 from lib.journal import book
 from lib.runs import by_library
-from lib.crates import crates
+from lib.crates import crates, reading_lists, theorem
 from lib.crates.specs import Repository
+from lib.proving import plan
 
 PAGES = [TOP / "README.md", TOP / "CHANGELOG.md", TOP / "library" / "dam.h", *sorted((TOP / "docs").glob("*.md"))]
 PAGES += sorted((TOP / "crates").glob("*/*.md"))
@@ -25,7 +26,7 @@ OF_NODES = re.compile(rf"\b{f'{by_library.MOST_NODES:,}'.replace(',', '[_,]?')}\
 BLOCKS = rf"\b{rules.MOST_BLOCKS}\b"
 OF_BLOCKS = re.compile(rf"\s*//.*(?:{OF_NODES.pattern}|{BLOCKS}.{{0,60}}\bblocks?\b|\bblocks?\b.{{0,60}}{BLOCKS})")
 # The files that may have the limit on nodes.
-WITH_NUMBERS = ["*.md", "docs/*.md", "library/*", "examples/**/*", "bench/*.py", "crates/**/*.rt", "crates/**/*.antt", "crates/**/*.md"]
+WITH_NUMBERS = ["*.md", "docs/*.md", "library/*", "examples/**/*", "bench/*.py", "bench/parts/*.py", "crates/**/*.rt", "crates/**/*.antt", "crates/**/*.md"]
 WITH_NUMBERS += ["crates/**/*.edit", "tests/**/*", "tools/*", "tools/**/*.py"]
 NUMBER = r"(-?\d[\d,]*)"
 CONSTANT = re.compile(r"^pub const (\w+): \w+ = (-?[\d_]+);$", re.MULTILINE)
@@ -235,7 +236,7 @@ class Facts(unittest.TestCase):
 
     def test_the_times_of_the_recorded_run(self):
         """CHECK.md and THEOREM.md round those of RUNS.md."""
-        runs, check, theorem = (plain(TOP / path) for path in ("tests/RUNS.md", "docs/CHECK.md", "docs/THEOREM.md"))
+        runs, check, proved = (plain(TOP / path) for path in ("tests/RUNS.md", "docs/CHECK.md", "docs/THEOREM.md"))
         day = re.search(r"The last recorded whole run of `\./check`: commit \w+ \((\S+)\)", runs)[1]
         wanted = re.search(r" all +([\d.]+) +([\d.]+) +\d+ passed", runs).groups()
         wanted += re.search(r"The proofs of the crates took ([\d.]+) CPU-minutes .*? the wrong bodies of `must-fail/` ([\d.]+) ", runs).groups()
@@ -243,7 +244,7 @@ class Facts(unittest.TestCase):
         self.assertEqual(re.search(r"\(\.\./tests/RUNS\.md#the-whole-check\) took .*? on (\d{4}-\d\d-\d\d)", check)[1], day)
         said = re.search(r"took (\d+) minutes .*? and (\d+) CPU-minutes: (\d+) for the proofs of the crates, (\d+) for the wrong bodies", check)
         self.assertEqual(list(said.groups()), wanted)
-        self.assertEqual(re.search(r"Proving the crates took \[(\d+) CPU-minutes\]", theorem)[1], wanted[2])
+        self.assertEqual(re.search(r"Proving the crates took \[(\d+) CPU-minutes\]", proved)[1], wanted[2])
 
     def test_the_clauses_that_pages_name_are_those_of_their_functions(self):
         """Or definitions in their contracts. `market` is a module. A fault or a definition before the brackets has no contract."""
@@ -254,7 +255,7 @@ class Facts(unittest.TestCase):
                 heads.setdefault(name, set()).update(re.findall(r"\w+", head))
             if path.stem == "market":
                 heads.setdefault("market", set()).update(re.findall(r"\w+", text))
-        names = ("docs/ARCHITECTURE.md", "docs/ASSURANCE.md", "docs/TESTED.md", "docs/THEOREM.md", "crates/NOTES.md")
+        names = ("docs/ARCHITECTURE.md", "docs/ASSURANCE.md", "docs/TESTED.md", "docs/THEOREM.md", "docs/BOUND.md", "crates/TRACEABILITY.md")
         pages = {TOP / name: plain(TOP / name) for name in names}
         for path in (TOP / "crates").glob("*/README.md"):
             pages[path] = plain(path).partition("## Promises")[2].partition("## Only tested")[0]
@@ -299,17 +300,23 @@ class Facts(unittest.TestCase):
         self.assertGreater(len(sources), 100)
         self.assertEqual([(path.name, line) for path, lines in sources.items() for line in lines if OF_BLOCKS.match(line)], [])
 
+    def test_no_crate_cites_the_proofs_of_another(self):
+        files = [path for folder in ("src", "specs", "proofs") for path in (TOP / "crates").glob(f"*/{folder}/**/*.*t")]
+        cited = [(path, crate) for path in files for crate in re.findall(r"\bRattle\.(\w+)\.proofs\.", path.read_text())]
+        own = [(path, crate) for path, crate in cited if (TOP / "crates" / crate).is_dir()]
+        self.assertGreater(len(own), 500)
+        self.assertEqual([f"{path}: {crate}" for path, crate in own if crate != path.relative_to(TOP / "crates").parts[0]], [])
+
     def test_the_figures_of_the_notes_on_the_gate(self):
         """They are those of the bench."""
-        texts = [(TOP / "bench" / "measured" / f"{part}.csv").read_text() for part in ("quick", "looks")]
-        quick, looks = ({row[0]: row for row in csv.reader(text.splitlines())} for text in texts)
-        day = "dam day compared with the baseline with threads, "
-        factor, memory = quick[f"{day}9,999 commands, processor time"][1], quick[f"{day}peak memory"][5]
+        texts = [(TOP / "bench" / "measured" / f"{part}.csv").read_text() for part in ("commands", "looks")]
+        commands, looks = ({row["key"]: row for row in csv.DictReader(text.splitlines())} for text in texts)
+        factor, memory = commands["day/processor"]["value"], commands["memory"]["details"]
         ours, plain_ones = re.match(r"([\d.]+ MiB) and ([\d.]+ MiB);", memory).groups()
         notes = plain(TOP / "crates/dam_gate/NOTES.md")
         wanted = f"takes {ours}, and {factor.split()[0]} times the CPU time of the plain program, which takes {plain_ones}"
         self.assertIn(wanted, notes)
-        few, many = (looks[f"a call, {held} orders held"][1] for held in ("100", "4,000"))
+        few, many = (looks[key]["value"] for key in ("call/100", "call/4000"))
         self.assertIn(f"A call takes {few} with 100 orders in the book, and {many} with 4,000;", notes)
 
     def test_the_number_of_walked_books(self):
@@ -358,9 +365,8 @@ class Facts(unittest.TestCase):
         bench = TOP / "bench"
         with mock.patch.object(sys, "path", [str(bench), *sys.path]):
             drawn = runpy.run_path(str(bench / "make_blocks.py"))
-        said = re.search(r"for (\d+) deep books of 24 blocks; with `--thin` instead, (\d+) mostly thin ones", plain(TOP / "docs" / "CHECK.md"))
-        self.assertEqual([whole_number(number) for number in said.groups()], [len(drawn["BOOKS"]), len(drawn["MORE"])])
-        self.assertGreater(sum(made.is_thin for made in drawn["MORE"]), len(drawn["MORE"]) / 2)
+        said = re.search(r"for (\d+) deep books of 24 blocks; with `--thin` instead, (\d+) thin ones", plain(TOP / "docs" / "CHECK.md"))
+        self.assertEqual([whole_number(number) for number in said.groups()], [len(drawn["DEEP"]), len(drawn["THIN"])])
 
     def test_the_crates_of_the_kit(self):
         """The page names each crate outside this repository that one of crates.txt uses, and the kit's `std`."""
@@ -372,13 +378,12 @@ class Facts(unittest.TestCase):
 
     def test_the_numbers_of_definitions(self):
         """They are said in round numbers."""
-        tool, text = load_tool("reading-list"), plain(TOP / "docs" / "ASSURANCE.md")
-        repository = Repository(TOP)
-        nodes = {node for _, _, new in tool.function_lists(repository) for node in new}
-        sizes = dict(tool.reached_sizes(repository))["`run_clear`"]
+        repository, text = Repository(TOP), plain(TOP / "docs" / "ASSURANCE.md")
+        nodes = {node for _, _, new in reading_lists.read_function_lists(repository) for node in new}
+        sizes = dict(theorem.read_reached_sizes(repository))["`run_clear`"]
         counts = {
             r"some (\d+) definitions and types": [len(nodes)],
-            r"some (\d+) lines": [len(tool.few_text(repository).splitlines())],
+            r"some (\d+) lines": [len(reading_lists.read_few_text(repository).splitlines())],
             r"contract reaches \(some \[(\d+), in ([\d,]+) lines\]": sizes,
         }
         for said, wanted in counts.items():
@@ -402,9 +407,8 @@ class Facts(unittest.TestCase):
 
 
 def seconds_of_proofs():
-    """The table of tools/prove: the seconds that it expects for each crate."""
-    tree = ast.parse((TOP / "tools/prove").read_text())
-    return next(ast.literal_eval(made.value) for made in tree.body if isinstance(made, ast.Assign) and ast.unparse(made.targets[0]) == "SECONDS")
+    """The seconds that tools/prove expects for each crate."""
+    return plan.SECONDS
 
 
 if __name__ == "__main__":

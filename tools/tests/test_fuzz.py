@@ -12,9 +12,8 @@ from unittest import mock
 
 import support
 
-import compare
-import doctored
 import fake_dam
+from shared import doctored_texts, timed_program
 from shared.days import Profiles, periods_by_hour
 from lib.base import rules
 from lib.tool import exits, modules
@@ -32,7 +31,7 @@ def write_fake_program(folder, name):
 class Called:
     """The same program, called in the process of the fuzzer. The part after the last point of its file's name is its defect."""
 
-    def __init__(self, path, seconds=compare.SECONDS):
+    def __init__(self, path, seconds=timed_program.SECONDS):
         self.defect = Path(path).suffix.removeprefix(".")
 
     def capture_output(self, words, data):
@@ -46,7 +45,7 @@ def run_fuzzer(script, folder, *words, defect=""):
     """A run of a fuzzer with such a program: its status and output."""
     program = Path(folder, f"dam.{defect}")
     program.touch()
-    with mock.patch.object(compare, "TimedProgram", Called):
+    with mock.patch.object(timed_program, "TimedProgram", Called):
         status, out, err = support.run_in_fork(str(support.TOP / "tests" / "fuzz" / script), [str(program), *map(str, words)])
     return status, out.decode() + err
 
@@ -183,12 +182,12 @@ class Doctored(unittest.TestCase):
         data, alike = support.read_results(support.AUCTION), 0
         for number in range(500):
             rng = random.Random(number)
-            alike += doctored.draw_doctored(rng, data)[1] == data
-            words, other = doctored.draw_other_encoding(rng, data)
-            self.assertEqual((other != data, doctored.decoded_or_none(other)), (True, data), words)
+            alike += doctored_texts.draw_doctored(rng, data)[1] == data
+            words, other = doctored_texts.draw_other_encoding(rng, data)
+            self.assertEqual((other != data, doctored_texts.decoded_or_none(other)), (True, data), words)
         self.assertLess(alike, 50)
         for text in (b"a,b\n\nc\n", b'"a,b",c\n', b"\xff\n"):
-            self.assertIsNone(doctored.decoded_or_none(text))
+            self.assertIsNone(doctored_texts.decoded_or_none(text))
 
 
 class Selections(unittest.TestCase):

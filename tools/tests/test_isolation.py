@@ -14,8 +14,9 @@ from unittest import mock
 
 from support import AUCTION, AUCTION_RESULTS, TOOLS, TOP, make_folder_for_case, run_tool
 
-from lib.base import place, surroundings
+from lib.base import place
 from lib.crates import sources
+from lib.process import surroundings
 from lib.tool import modules
 
 PACKAGES = ("jinja2", "matplotlib", "numpy", "openpyxl", "pandas", "scipy", "tqdm")
@@ -46,7 +47,7 @@ CODE_OF_SETTINGS = """
 import sys
 
 sys.path.insert(0, {tools!r})
-from lib.base import ending
+from lib.process import ending
 
 ending.guard_tool("program")
 from lib.runs import cluster
@@ -222,11 +223,11 @@ class Isolation(unittest.TestCase):
 
     @unittest.skipUnless(modules.has_module("matplotlib"), "matplotlib is missing (Debian's python3-matplotlib)")
     def test_pictures_without_a_folder_for_temporary_files(self):
-        from lib.pictures import drawing
+        from lib.pictures import matplotlib_settings
 
         environment, fault = dict(os.environ), FileNotFoundError(errno.ENOENT, "No usable temporary directory found")
         missing = mock.patch.object(tempfile, "TemporaryDirectory", side_effect=fault)
-        with missing, self.assertRaises(FileNotFoundError), drawing.empty_settings():
+        with missing, self.assertRaises(FileNotFoundError), matplotlib_settings.empty_settings():
             pass
         self.assertEqual(dict(os.environ), environment)
 
@@ -273,7 +274,7 @@ class Isolation(unittest.TestCase):
     def test_a_program_that_starts_again_finds_the_packages(self):
         """A tool finds them late; a program of the tests, which starts without -S, from its beginning."""
         program = self.folder / "program"
-        for flags, first in ((["-S"], "from lib.base import ending; ending.guard_tool('program')"), ([], "")):
+        for flags, first in ((["-S"], "from lib.process import ending; ending.guard_tool('program')"), ([], "")):
             program.write_text(CODE_OF_SECOND_START.format(tools=str(TOOLS), first=first))
             ran = subprocess.run([sys.executable, "-I", *flags, program], capture_output=True, text=True)
             self.assertEqual((ran.stdout, ran.stderr), ("True\n", ""), flags)

@@ -37,7 +37,7 @@ class Library(unittest.TestCase):
     def test_the_most_nodes_are_those_of_a_plan(self):
         number = r"([\d_]+)"
         sources = {
-            "crates/dam_plan/src/plan.rt": rf"^pub const MOST_NODES: Nodes = {number};$",
+            "crates/dam_plan/src/plan.rt": rf"^pub const MOST_NODES: NodeCount = {number};$",
             "library/dam.h": rf"^#define DAM_MOST_NODES UINT\d+_C\({number}\)$",
             "tools/lib/runs/by_library.py": rf"^MOST_NODES, MOST_ANSWER = {number}, ",
         }

@@ -23,7 +23,7 @@ from lib.base.place import with_installed_commands
 from lib.crates.specs import Repository
 from lib.tool import modules
 from manual import navigation, pages, site
-from package import formats
+from package import man_of_formats
 from shared.site import Site
 
 if modules.has_module("aiohttp"):
@@ -78,9 +78,9 @@ class Pages(unittest.TestCase):
 class ManPages(unittest.TestCase):
     def test_no_word_of_a_page_is_lost(self):
         """But for the heads of tables, most of which become lists."""
-        for name, made in formats.capture_man_pages("1.0.0").items():
-            text = (TOP / formats.PAGES[name][0]).read_text(encoding="utf-8").partition("\n")[2]
-            text = formats.OF_CLONES.sub("", pages.LINK.sub(r"\1", re.sub(r"^\|.*\|\n(?=\|[-|]+\|$)", "", text, flags=re.MULTILINE)))
+        for name, made in man_of_formats.capture_man_pages("1.0.0").items():
+            text = (TOP / man_of_formats.PAGES[name][0]).read_text(encoding="utf-8").partition("\n")[2]
+            text = man_of_formats.OF_CLONES.sub("", pages.LINK.sub(r"\1", re.sub(r"^\|.*\|\n(?=\|[-|]+\|$)", "", text, flags=re.MULTILINE)))
             own = re.sub(r"\]\(#[^)]*\)|^```\w+$", "", with_installed_commands(text), flags=re.MULTILINE).upper()
             shown = re.sub(r"\\(?:f[A-Z]|&|)", "", made.decode()).upper()
             lost = Counter(re.findall(r"\w+", own)) - Counter(re.findall(r"\w+", shown))
@@ -90,10 +90,10 @@ class ManPages(unittest.TestCase):
         """Wide tables are lists: their first cell, and the others with their heads."""
         table = "| Line | When | What to do |\n|---|---|---|\n| `a` | one | two |\n| `b` | three | |\n"
         wide = table.replace("three", "three " * 20).replace("two", "two " * 20)
-        self.assertEqual(formats.TABLE.sub(formats.as_list_if_wide, table), table)
+        self.assertEqual(man_of_formats.TABLE.sub(man_of_formats.as_list_if_wide, table), table)
         listed = f"`a`\n: one; What to do: {'two ' * 20}".rstrip() + f"\n\n`b`\n: {'three ' * 20}".rstrip() + "\n\n"
-        self.assertEqual(formats.TABLE.sub(formats.as_list_if_wide, wide), listed)
-        for name, made in formats.capture_man_pages("1.0.0").items():
+        self.assertEqual(man_of_formats.TABLE.sub(man_of_formats.as_list_if_wide, wide), listed)
+        for name, made in man_of_formats.capture_man_pages("1.0.0").items():
             self.assertIn(f".SH NAME\n.PP\n{name} \\- ", made.decode().replace(" - ", " \\- "))
 
 

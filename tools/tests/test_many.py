@@ -184,8 +184,8 @@ class Many(unittest.TestCase):
             dam_tools.clear("")
 
     def test_neither_library_nor_program(self):
-        with unittest.mock.patch.multiple(which, find_engine_or_none=lambda: None, find_program_or_none=lambda: None):
-            with unittest.mock.patch.object(dam_tools, "where", which.find_engine_or_none), unittest.mock.patch.dict(os.environ, {"DAM": ""}):
+        with unittest.mock.patch.multiple(which, find_engine=lambda: None, find_program=lambda: None):
+            with unittest.mock.patch.object(dam_tools, "where", which.find_engine), unittest.mock.patch.dict(os.environ, {"DAM": ""}):
                 with self.assertRaisesRegex(dam_tools.Fault, "^no program was found: "):
                     dam_tools.clear_many([AUCTION, AUCTION])
 
@@ -322,6 +322,13 @@ class Many(unittest.TestCase):
         with unittest.mock.patch.dict(os.environ, {"DAM_LIBRARY": "/nowhere/libdam.so"}):
             (fault,) = dam_tools.clear_many([AUCTION])
         self.assertTrue(str(fault).startswith("the library /nowhere/libdam.so can't be used: "), fault)
+
+    def test_each_call_of_a_library_has_a_secret_of_its_own(self):
+        """Each of its 16 bytes is drawn: it has many values in 64 calls."""
+        path = self.compile_library(ECHO.replace("(const char *)text", "(const char *)secret"))
+        drawn = [by_library.call_and_return_output(path, bytes(16)) for _ in range(64)]
+        self.assertEqual({len(secret) for secret in drawn}, {16})
+        self.assertGreater(min(len(set(values)) for values in zip(*drawn)), 16)
 
     def test_a_bar_is_for_terminals(self):
         results = iter(())

@@ -11,7 +11,7 @@ from support import AUCTION, AUCTION_RESULTS, FIRST, QUARTERS, TOP, day_of, read
 
 from lib.base import clock, rules, text
 from lib.results import market_data, trades
-from lib.sheets import day_tables, table_operations
+from lib.tables import day_tables, table_operations
 from lib.tool import exits, modules
 
 PAGE = (TOP / "docs" / "TABLES.md").read_text()
@@ -120,7 +120,7 @@ class Figures(unittest.TestCase):
         self.assertEqual(lengths, {1, Fraction(1, 4)})
 
     def test_rounding(self):
-        self.assertEqual([market_data.mean_or_none(pair) for pair in ([1, 2], [-1, -2], [1, 1, 2], [])], [2, -1, 1, None])
+        self.assertEqual([market_data.mean(pair) for pair in ([1, 2], [-1, -2], [1, 1, 2], [])], [2, -1, 1, None])
         halves = [text.shown(Fraction(number, 8), 2) for number in (1, 3, -1, -3)]
         self.assertEqual(halves, ["0.13", "0.38", "-0.13", "-0.38"])  # away from 0
 

@@ -10,15 +10,19 @@ from pathlib import Path
 
 from support import TOP
 
-sys.path.insert(0, str(TOP / "bench"))
+sys.path.insert(0, f"{TOP}/bench")
 import page
+import records
+from figures import COUNT, MIB, PER_SECOND, Figure, Verdict, multiple_text, seconds_text
+from parts import PARTS
 
+THE_TWIN = "dam clear compared with the twin"
 ROWS = [
-    ["links 24, spread 50, seed 1: dam clear", "2 ms", "1 to 3 ms", "ends", "holds", ""],
-    ["links 96, spread 50, seed 1: dam clear", "8 ms", "one run", "", "", ""],
-    ["links 96, spread 50, seed 1: dam clear compared with the twin", "2.46 x", "2.31 to 2.5 x", "at most 2.00 x", "MISSED", "8.1 ms"],
-    ["links 24, spread 50, seed 1: dam clear compared with the twin", "2.70 x", "1.31 to 2.9 x", "at most 2.00 x", "unclear", "2.7 ms"],
-    ["deep books together: dam clear", "10 ms", "9 to 12 ms", "", "", "2 books"],
+    ["clear", "dam clear", "base 24, spread 50, seed 1", "2 ms", "1 to 3 ms", "at most 9 ms", "holds", "", "0.002"],
+    ["clear", "dam clear", "base 96, spread 50, seed 1", "8 ms", "one run", "at most 9 ms", "holds", "", "0.008"],
+    ["twin", THE_TWIN, "base 96, spread 50, seed 1", "2.46 x", "2.31 to 2.5 x", "at most 2.00 x", "MISSED", "8.1 ms", "2.46"],
+    ["twin", THE_TWIN, "base 24, spread 50, seed 1", "2.70 x", "1.31 to 2.9 x", "at most 2.00 x", "unclear", "2.7 ms", "2.7"],
+    ["enumeration", "the worst", "base 96, spread 50, seed 1", "0.03 x", "0.02 to 0.04 x", "at most 0.10 x", "holds", "2 books", "0.03"],
 ]
 
 
@@ -38,7 +42,7 @@ def defined_in(path):
 class Benchmarks(unittest.TestCase):
     def test_each_imports_what_another_defines(self):
         """`./check` doesn't run them, so nothing else shows that a renamed function is still imported by its old name."""
-        modules = {path.stem: path for path in (TOP / "bench").glob("*.py")}
+        modules = {path.stem: path for folder in (records.BENCH, records.BENCH / "parts") for path in folder.glob("*.py")}
         for name, path in modules.items():
             nodes = list(ast.walk(ast.parse(path.read_text(encoding="utf-8"))))
             imported = {alias.name for node in nodes if isinstance(node, ast.Import) for alias in node.names} & modules.keys()
@@ -55,101 +59,127 @@ class Measured(unittest.TestCase):
     def test_the_page_is_made_of_the_kept_figures(self):
         self.assertEqual(page.PAGE.read_text(encoding="utf-8"), page.read_and_compose_page())
 
-    def test_every_kept_file_is_of_a_part_and_a_run(self):
-        parts = [run.part for run in page.read_runs()]
-        self.assertEqual({path.stem for path in page.RECORDED.iterdir()}, {*parts, "runs"})
-        self.assertEqual(set(parts), set(page.PARTS))
+    def test_every_kept_file_is_of_a_part(self):
+        self.assertEqual({path.stem for path in records.RECORDED.iterdir()}, {*PARTS, "parts"})
+        self.assertEqual(set(records.read_part_records()), set(PARTS))
 
-    def test_every_part_has_a_script_and_programs_that_are_built(self):
-        for part, row in page.PARTS.items():
-            self.assertIn("run_and_record", defined_in(page.BENCH / f"{part}.py"), part)
-            for program in row["programs"].split():
-                self.assertTrue(program in ("dam", "desk", "probe") or (page.BENCH / "plain" / f"{program}.rs").exists(), program)
+    def test_a_row_that_is_read_is_written_again(self):
+        for part in PARTS:
+            for row in records.read_table(records.RECORDED / f"{part}.csv"):
+                self.assertEqual(records.row_of_figure(records.parse_figure(row)), list(row.values()))
 
-    def test_every_figure_has_quartiles_or_says_why_not(self):
-        for part in page.PARTS:
-            for figure in page.read_recorded(part):
-                self.assertRegex(figure.quartiles, r"\A(unknown|one run|.* to .*|)\Z", figure)
-                self.assertIn(figure.verdict, ("holds", "MISSED", "unclear") if figure.target else ("",), figure)
+    def test_every_part_is_registered(self):
+        """Under the name of its module, with programs that are built, and a first paragraph that is one sentence."""
+        self.assertEqual({path.stem for path in (records.BENCH / "parts").glob("*.py")}, {*PARTS, "__init__"})
+        for part in PARTS.values():
+            self.assertEqual(part.measure.__module__, f"parts.{part.name}")
+            self.assertRegex(part.subject.replace("\n", " "), r"\A[A-Z](?:[^.]|\.\d)*\.\Z")
+            for program in part.programs:
+                self.assertTrue(program in ("dam", "desk", "probe") or (records.BENCH / "plain" / f"{program}.rs").exists(), program)
 
-    def test_a_pattern_without_a_figure_is_a_fault(self):
-        for part, patterns in page.SHOWN.items():
-            figures = page.read_recorded(part)
-            for pattern in patterns:
-                found = page.figures_named_or_raise([pattern], figures)
-                left = [figure for figure in figures if figure not in found]
-                with self.subTest(part, pattern=pattern), self.assertRaisesRegex(LookupError, "no recorded figure has a name like"):
-                    page.figures_named_or_raise(patterns, left)
-        with unittest.mock.patch.dict(page.SHOWN, looks=["a glance.*"]), self.assertRaisesRegex(LookupError, "name like a glance"):
-            page.read_and_compose_page()
+    def test_every_figure_is_one_that_its_part_measures(self):
+        """A part has a target for each key, or for its first word; and for each target that isn't of an earlier program it has a figure."""
+        for part in PARTS.values():
+            keys = {figure.key for figure in records.read_figures(part.name)}
+            of_targets = {key if key in part.targets else key.partition("/")[0] for key in keys}
+            self.assertEqual(of_targets, {key for key in part.targets if not key.startswith("earlier")}, part.name)
+
+    def test_the_target_of_every_figure_is_that_of_its_part(self):
+        for part in PARTS.values():
+            figures = [figure for figure in records.read_figures(part.name) if figure.target]
+            for figure in figures:
+                target = part.targets.get(figure.key) or part.targets[figure.key.partition("/")[0]]
+                self.assertIn(figure.target, [target.text(shown) for shown in (seconds_text, multiple_text, MIB, PER_SECOND, COUNT)])
+
+    def test_every_figure_has_quartiles_or_none_were_recorded(self):
+        for part in PARTS:
+            for figure in records.read_figures(part):
+                self.assertRegex(figure.quartiles, r"\A(one run|.* to .*|)\Z", figure)
+                self.assertEqual(figure.verdict is Verdict.NONE, not figure.target, figure)
+
+    def test_the_keys_of_a_part_are_different(self):
+        """Those of one book, or of none."""
+        for part in PARTS:
+            keys = [(figure.key, figure.variant) for figure in records.read_figures(part)]
+            self.assertEqual(len(set(keys)), len(keys), part)
 
     def test_every_missed_target_is_counted(self):
+        """In the row of its kind, whose value has its own between its ends."""
         text, total = page.PAGE.read_text(encoding="utf-8"), 0
-        counts = r"(\d+) of \d+(?: \((?:(\d+) gave up: met)?(?:, )?(?:(\d+) unclear)?\))?"
-        for part in page.PARTS:
-            recorded = page.read_recorded(part)
-            missed = [figure for figure in recorded if figure.verdict == "MISSED"]
-            wrong = [figure for figure in recorded if figure.verdict in ("MISSED", "unclear")]
-            said = re.findall(rf"^\| {part} \| [^[|]* \| {counts} \| ([^|]*) \| ([^|]*) \| ([^|]*) \|$", text, re.MULTILINE)
+        for part in PARTS:
+            wrong = [figure for figure in records.read_figures(part) if figure.is_wrong]
+            (section,) = re.findall(rf"^## `bench/run {part}`\n(.*?)(?=^## |\Z)", text, re.MULTILINE | re.DOTALL)
+            rows = re.findall(r"^\| ([^|]*) \| ([^|]*) \| (at [^|]*) \| ([^|]+) \|$", section, re.MULTILINE)
             with self.subTest(part):
-                self.assertEqual(sum(int(count) for count, *_ in said), len(missed))
-                self.assertEqual(sum(int(count or 0) for _, _, count, *_ in said), len(wrong) - len(missed))
-                kind = lambda figure: (figure.name.rpartition(": ")[2], figure.target)
-                kinds = set(map(kind, wrong))
-                gave_up = [each for each in recorded if each.figure == "?" and each.verdict == "holds" and kind(each) in kinds]
-                self.assertEqual(sum(int(count or 0) for _, count, *_ in said), len(gave_up))
+                for verdict in (Verdict.MISSED, Verdict.UNCLEAR):
+                    counts = [re.search(rf"(?:(\d+) |\*\*){verdict.value}", missed) for *_, missed in rows]
+                    said = sum(int(count[1] or 1) for count in counts if count)
+                    self.assertEqual(said, sum(figure.verdict == verdict for figure in wrong))
                 for figure in wrong:
-                    self.assertTrue(any(figure.target == target for *_, target, _ in said), figure)
-                for *_, figures, target, worst in said:
-                    found = [figure for figure in wrong if figure.name.startswith(worst) and figure.target == target]
-                    self.assertTrue(any(figure.figure.split(" ")[0] in figures for figure in found), worst)
-            total += len(missed)
+                    names = figure.name, figure.whole_name
+                    self.assertTrue(any(name in names and target == figure.target for name, _, target, _ in rows))
+                for name, value, target, missed in rows:
+                    worst = missed.partition("worst: ")[2]
+                    of_kind = [figure for figure in wrong if name in (figure.name, figure.whole_name) and figure.target == target]
+                    found = [figure for figure in of_kind if not worst or figure.variant == worst]
+                    self.assertTrue(any(figure.value.removeprefix("> ").split(" ")[0] in value for figure in found), (name, value))
+            total += len(wrong)
         self.assertGreater(total, 10)
 
     def test_the_readme_has_the_slowest_of_the_measured_books(self):
-        slowest, units = 0.0, {"us": 1e-3, "ms": 1, "s": 1e3}
-        for figure in page.read_recorded("blocks"):
-            if re.fullmatch(r"\w+ \d+, spread [\d,]+, seed \d+: dam clear", figure.name):
-                number, unit = figure.figure.split()
-                slowest = max(slowest, float(number) * units[unit])
+        figures = [figure for figure in records.read_figures("deep") if figure.key == "clear"]
         plain = " ".join((TOP / "README.md").read_text(encoding="utf-8").split())
-        (said,) = re.findall(r"The slowest of .*? books of 24 blocks took (\S+) ms\.", plain)
-        self.assertEqual(said, f"{slowest:.0f}")
+        ((count, said),) = re.findall(r"The slowest of (\d+) .*? deep books of 24 blocks took (\S+) ms\.", plain)
+        self.assertEqual((count, said), (str(len(figures)), f"{max(figure.sort_key for figure in figures) * 1e3:.0f}"))
 
     def test_the_parts_of_each_machine(self):
-        parts = "quick thin desk looks office growth workers blocks".split()
+        parts = "commands thin desk looks office growth workers deep".split()
         dates = "old new new old old own new old".split()
-        runs = [page.RecordedRun(part, date, "", "", "", "", "") for part, date in zip(parts, dates)]
+        runs = [records.PartRecord(part, date, "", "", "", "", "") for part, date in zip(parts, dates)]
         self.assertEqual(page.text_of_values(runs[:5], "date", "ran on {}"), "`thin` and `desk` ran on new.\nThe other parts ran on old.\n")
         self.assertEqual(page.text_of_values(runs[1:3], "date", "ran on {}"), "All parts ran on new.\n")
+        self.assertEqual(page.text_of_values([], "date", "ran on {}"), "")
         said = "`growth` ran on own.\n`thin`, `desk` and `workers` ran on new.\nThe other parts ran on old.\n"
         self.assertEqual(page.text_of_values(runs, "date", "ran on {}"), said)
 
-    def test_a_span(self):
-        self.assertEqual(page.range_text(["1.90 x", "1.20 x", "1.5 x"]), "1.20 to 1.90 x")
-        self.assertEqual(page.range_text(["1.9 ms", "800 us", "0.1 s"]), "800 us to 0.1 s")
-        self.assertEqual(page.range_text(["1.9 ms"]), "1.9 ms")
-        self.assertEqual(page.range_text(["1.9 ms", "?", "> 60 s"]), "1.9 ms to ?")
+    def test_a_value(self):
+        """Of one figure with its quartiles, if it has some, and of several from the least to the greatest."""
+        def said(*values, quartiles=""):
+            figures = [Figure("", "", "", value, quartiles, "", Verdict.NONE, "it failed", median) for median, value in values]
+            return page.value_text(figures)
+
+        self.assertEqual(said((1.9, "1.90 x"), (1.2, "1.20 x"), (1.5, "1.50 x")), "1.20 to 1.90 x")
+        self.assertEqual(said((0.0019, "1.9 ms"), (0.0008, "800 us"), (0.1, "0.1 s")), "800 us to 0.1 s")
+        two, failed = (0.002, "2 ms"), (None, "?")
+        self.assertEqual((said(two), said(two, two), said(two, quartiles="one run")), ("2 ms",) * 3)
+        self.assertEqual((said(two, failed), said(failed)), ("2 ms to ?", "it failed"))
+        self.assertEqual(said(two, quartiles="1 to 3 ms"), "2 ms (1 to 3 ms)")
+        self.assertEqual(said(two, (60.0, "> 60 s")), "2 ms to > 60 s")
 
     def test_a_part_is_recorded(self):
         with tempfile.TemporaryDirectory() as folder:
             here = Path(folder)
-            (here / "blocks.py").write_text('"""Hard books.\n\nMore."""\n')
-            places = {"BENCH": here, "RECORDED": here / "measured", "PAGE": here / "page.md"}
-            with unittest.mock.patch.multiple(page, **places, query_version=len, capture_output=lambda *words: words[0]):
-                runs = [page.query_run(part, 5, "that of yesterday") for part in ("blocks", "thin")]
-                page.record_part_and_write_page(runs[0], [page.Figure(*row) for row in ROWS])
+            with (
+                unittest.mock.patch.object(page, "PAGE", here / "page.md"),
+                unittest.mock.patch.object(records, "RECORDED", here / "measured"),
+                unittest.mock.patch.object(records, "capture_output", lambda *words: words[0]),
+            ):
+                page.write_page()
+                empty = page.PAGE.read_text()
+                record = records.query_part_record("deep", PARTS["deep"].packages)
+                records.write_part(record, [records.parse_figure(dict(zip(Figure._fields, row))) for row in ROWS])
+                page.write_page()
                 text = page.PAGE.read_text()
-        peers = "HiGHS (of SciPy 13): the time of solving alone, at most 5 s"  # the length of the package's name
-        self.assertEqual([run.notes for run in runs], [f"{peers}; the program before is that of yesterday"] * 2)
-        self.assertEqual(runs[0].commit, "git with changes")
-        self.assertIn(f"Notes: (1) {peers}; (2) the program before is that of yesterday.", " ".join(text.split()))
-        self.assertRegex(text, r"\| blocks \| \[5\]\(../bench/measured/blocks.csv\) \| 1 of 3 \(1 unclear\) \| .* \| \(1\) \(2\) \|\n")
-        self.assertIn("Hard books.\n", text)
-        self.assertIn("| `dam clear` by the default plan, spread 50, seed 1 | 24 periods | 96 periods |\n|---|---|---|\n| links | 2 ms | 8 ms |\n", text)
-        self.assertIn("| deep books together: dam clear | 10 ms (9 to 12 ms) |  |\n", text)
-        kind = "dam clear compared with the twin"
-        self.assertIn(f"| blocks | {kind} | 1 of 2 (1 unclear) | 2.46 to 2.70 x | at most 2.00 x | links 24, spread 50, seed 1 |\n", text)
+        self.assertNotIn("## ", empty)
+        self.assertEqual((record.commit, record.versions), ("git with changes", "python3-scipy dpkg-query; python3-numpy dpkg-query"))
+        self.assertRegex(text, r"\| deep \| \[5\]\(../bench/measured/deep.csv\) \| 1 of 5 \(1 unclear\) \| .* \| python3-scipy dpkg-query")
+        self.assertIn("\n\nThe time of `dam clear` on 98 books of deep markets", text)
+        self.assertIn("| `dam clear` by the default plan, seed 1 | 24 periods, spread 50 | 96 periods, spread 50 |\n", text)
+        self.assertIn("\n|---|---|---|\n| base | 2 ms | 8 ms |\n", text)
+        self.assertIn("| dam clear | 2 to 8 ms | at most 9 ms |  |\n", text)
+        self.assertIn("| the worst: base 96, spread 50, seed 1 | 0.03 x (0.02 to 0.04 x) | at most 0.10 x |  |\n", text)
+        missed = "**1 MISSED, 1 unclear** of 2; worst: base 24, spread 50, seed 1"
+        self.assertIn(f"| {THE_TWIN} | 2.46 to 2.70 x | at most 2.00 x | {missed} |\n", text)
         self.assertNotIn("8.1 ms", text)
 
 

@@ -87,7 +87,7 @@ class Merkle(unittest.TestCase):
         for size in range(1, MOST_LEAVES + 1):
             for place in range(size):
                 path = self.tree.inclusion_proof(place, size)
-                self.assertEqual(merkle.root_of_inclusion_or_none(LEAVES[place], place, size, path), self.roots[size])
+                self.assertEqual(merkle.root_of_inclusion(LEAVES[place], place, size, path), self.roots[size])
 
     def test_a_path_fits_one_leaf_and_place(self):
         for size in range(1, 40):
@@ -95,13 +95,13 @@ class Merkle(unittest.TestCase):
                 path = self.tree.inclusion_proof(place, size)
                 for other in range(size):
                     if other != place:
-                        self.assertNotEqual(merkle.root_of_inclusion_or_none(LEAVES[other], place, size, path), self.roots[size])
-                        self.assertNotEqual(merkle.root_of_inclusion_or_none(LEAVES[place], other, size, path), self.roots[size])
+                        self.assertNotEqual(merkle.root_of_inclusion(LEAVES[other], place, size, path), self.roots[size])
+                        self.assertNotEqual(merkle.root_of_inclusion(LEAVES[place], other, size, path), self.roots[size])
                 for wrong in (path[:-1] if path else None, [*path, LEAVES[0]]):
                     if wrong is not None:
-                        self.assertNotEqual(merkle.root_of_inclusion_or_none(LEAVES[place], place, size, wrong), self.roots[size])
-                self.assertIsNone(merkle.root_of_inclusion_or_none(LEAVES[place], size, size, path))
-                self.assertIsNone(merkle.root_of_inclusion_or_none(LEAVES[place], -1, size, path))
+                        self.assertNotEqual(merkle.root_of_inclusion(LEAVES[place], place, size, wrong), self.roots[size])
+                self.assertIsNone(merkle.root_of_inclusion(LEAVES[place], size, size, path))
+                self.assertIsNone(merkle.root_of_inclusion(LEAVES[place], -1, size, path))
 
     def test_each_pair_of_sizes(self):
         for size in range(MOST_LEAVES + 1):

@@ -19,7 +19,7 @@ from support import AUCTION, AUCTION_RESULTS, FIRST, TOP, make_folder_for_case, 
 
 import dam_tools
 from dam_tools.lib.runs import which
-from lib.sheets import day_tables, table_files, table_operations
+from lib.tables import day_tables, table_files, table_operations
 from lib.tool import modules
 
 END = "is the first or the last day of the calendar: it should be another"
@@ -99,7 +99,7 @@ class Module(unittest.TestCase):
         journal = dam_tools.read_journal(FIRST)
         self.assertEqual(dam_tools.records(journal, "commands")[12]["reason"], "PeriodOutOfDay")
         day = dam_tools.read_results(AUCTION.read_bytes(), read_results(AUCTION))
-        text = table_files.table_text(day_tables.order_rows(day)).encode()
+        text = table_files.csv_text(day_tables.order_rows(day)).encode()
         made = dam_tools.journal_of_orders(text)
         self.assertEqual(dam_tools.clear(made, program=self.program).published.welfare, day.published.welfare)
 
@@ -115,12 +115,12 @@ class Module(unittest.TestCase):
             dam_tools.read_results(AUCTION, b"day,24\n")
         with self.assertRaises(dam_tools.Fault):
             dam_tools.journal_of_orders(b"x\n")
-        small = table_files.table_text([day_tables.ORDER]).encode() + b"a,H,hour,buy,1,8,5,,\n"
+        small = table_files.csv_text([day_tables.ORDER]).encode() + b"a,H,hour,buy,1,8,5,,\n"
         for call in (lambda: dam_tools.journal_of_orders(small), lambda: dam_tools.whatif_change(AUCTION, small, program=self.program)):
             with self.assertRaisesRegex(dam_tools.Fault, "^line 2, column participant: 'a' should be 1 to 8 capitals A to Z: write A"):
                 call()
         with self.assertRaisesRegex(dam_tools.Fault, "a day has 23, 24, 25, 92, 96 or 100 periods, not 26"):
-            dam_tools.journal_of_orders(table_files.table_text([day_tables.ORDER]).encode(), periods=26)
+            dam_tools.journal_of_orders(table_files.csv_text([day_tables.ORDER]).encode(), periods=26)
         day = dam_tools.read_results(AUCTION, AUCTION_RESULTS)
         for words in ({"table": "none"}, {"table": "curves", "long": True}):
             with self.assertRaises(ValueError):

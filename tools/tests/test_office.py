@@ -22,14 +22,14 @@ from lib.seal import heads
 from lib.tool import exits
 
 try:
+    from lib.office import day_writer, fixed_files, folder, monitoring, participant_answers, published, refusals
+    from lib.office.desk import Desk, DeskEnded
     from lib.seal import sealing
-    from lib.office import day_writer, fixed_files, folder, observed, published, refusals, web
-    from lib.office.desk import Desk, Ended
 except ImportError:  # without python3-aiohttp and the like, whose tests are skipped
     pass
 
 
-TEMPLATES = TOOLS / "lib" / "report" / "templates"
+PAGES = TOOLS / "lib" / "pages"
 
 
 class Crashes(Office):
@@ -90,7 +90,7 @@ class Crashes(Office):
                 for who, records in sent.items():
                     self.assertEqual([record for record in disk.records if record.split(",")[1] == who], records)
                 for (who, number), (record, entry) in acknowledged.items():
-                    self.assertEqual((disk.records[entry - 1], last.ledger.entry_record_and_reply(who, number)[0]), (record, entry))
+                    self.assertEqual((disk.records[entry - 1], last.ledger.own_entry(who, number).entry), (record, entry))
                 read = journal.parse_journal(b"".join(f"{line}\n".encode() for line in [f"day,{periods},,,,,,,", *disk.records]))
                 replies = [sealing.reply_of(why) for why in book.book_and_refusals(read)[1]]
                 self.assertEqual([entry.reply for entry in last.ledger.seal.entries], replies)
@@ -151,18 +151,18 @@ class Crashes(Office):
         self.write_office()
         files = self.office.list_folders_by_day()[DAY]
         found = published.Published(files)
-        self.assertIsNone(found.read_and_cache_text_or_none("GAS"))
+        self.assertIsNone(found.read_and_cache_text("GAS"))
         rows = [{"participant": who, "code": "tie", "why": "would gain 1.00 EUR at the prices, but x"} for who in ("GAS", "A")]
         files.path_of(folder.STATEMENT).write_text(json.dumps({"day": {"welfare_eur": 1, "periods": 24}, "rows": rows}))
         files.path_of(folder.RESULTS).write_bytes(b"")
-        first = found.read_and_cache_text_or_none("GAS")
+        first = found.read_and_cache_text("GAS")
         self.assertEqual((json.loads(first)["day"], len(json.loads(first)["rows"])), ({"periods": 24}, 1))
-        self.assertIs(found.read_and_cache_text_or_none("GAS"), first)
+        self.assertIs(found.read_and_cache_text("GAS"), first)
         with mock.patch.object(published, "MOST_TEXTS", 1):
-            found.read_and_cache_text_or_none("A")
+            found.read_and_cache_text("A")
             self.assertEqual(len(found.texts), 1)
         files.path_of(folder.OPEN_JOURNAL).write_bytes(b"")
-        self.assertEqual(json.loads(found.read_and_cache_text_or_none("GAS")), {"day": {"welfare_eur": 1, "periods": 24}, "rows": rows[:1]})
+        self.assertEqual(json.loads(found.read_and_cache_text("GAS")), {"day": {"welfare_eur": 1, "periods": 24}, "rows": rows[:1]})
 
     def test_the_statements_of_a_full_day_take_little_memory(self):
         self.write_office()
@@ -174,10 +174,10 @@ class Crashes(Office):
         found = published.Published(files)
         tracemalloc.start()
         self.addCleanup(tracemalloc.stop)
-        self.assertEqual(json.loads(found.read_and_cache_text_or_none("A"))["rows"], [])
+        self.assertEqual(json.loads(found.read_and_cache_text("A"))["rows"], [])
         kept, size = tracemalloc.get_traced_memory()[0], files.path_of(folder.STATEMENT).stat().st_size
         self.assertLess(kept, 2 * size)
-        self.assertEqual(json.loads(found.read_and_cache_text_or_none("GAS"))["rows"], rows)
+        self.assertEqual(json.loads(found.read_and_cache_text("GAS"))["rows"], rows)
 
     async def test_many_receipts_are_written_in_turns(self):
         self.write_office()
@@ -193,9 +193,9 @@ class Crashes(Office):
                 await given.submit_or_refuse("GAS", 1, commands_of_records(*(f"cancel,GAS,{number},,,,,," for number in range(100))))
                 task = asyncio.create_task(others())
                 with mock.patch.object(heads, "line_bytes_of", lambda value: seen.add(turns[0]) or b"\n"):
-                    answer = await web.Web.answer_receipts(None, given, list(range(1, 101)))
+                    answer = await participant_answers.receipts_bytes(given.ledger, list(range(1, 101)))
                 task.cancel()
-        self.assertEqual(len(answer.body), 100)
+        self.assertEqual(len(answer), 100)
         self.assertGreater(len(seen), 10)
 
     async def test_a_desk_that_contradicts_the_ledger_stops_the_day(self):
@@ -219,10 +219,10 @@ class Crashes(Office):
         self.write_office()
         disk, log = Disk(), io.StringIO()
         with patch_of_opening(disk):
-            async with self.running_writer(self.day_writer_of(log=observed.Log(log))) as given:
+            async with self.running_writer(self.day_writer_of(log=monitoring.Log(log))) as given:
                 await given.submit_or_refuse("GAS", 1, commands_of_records("cancel,GAS,A,,,,,,"))
                 self.assertTrue(given.is_healthy)
-                with mock.patch.object(Desk, "start_and_read_records", side_effect=Ended("unreadable")):
+                with mock.patch.object(Desk, "start", side_effect=DeskEnded("unreadable")):
                     disk.desk.end.set()
                     await self.wait_until(lambda: "unreadable" in log.getvalue())
                     self.assertFalse(given.is_healthy)
@@ -307,7 +307,7 @@ class Opening(unittest.IsolatedAsyncioTestCase):
             Path(room, "journal").write_text(f"day,24,,,,,,,\n{records}")
             program.write_text(f'#!/bin/sh\n[ "$1" != --journal ] || exec cat {room}/journal\ncat "$1"\nexec cat > {room}/given\n')
             program.chmod(0o755)
-            desk, shown, replies = await asyncio.wait_for(Desk.start_and_read_records(program, path, 24), LATEST)
+            desk, shown, replies = await asyncio.wait_for(Desk.start(program, path, 24), LATEST)
             await desk.end_or_kill()
             given = Path(room, "given").read_text()
         self.assertEqual((shown, replies), (records.splitlines(), [f"refused,{reason}"] * len(shown)))
@@ -319,7 +319,7 @@ class Opening(unittest.IsolatedAsyncioTestCase):
             program.write_text("#!/bin/sh\nexec >&-\nexec sleep 3600\n")
             program.chmod(0o755)
             with mock.patch.multiple("lib.office.desk", ANSWER_SECONDS=0.5, END_SECONDS=0.5):
-                opening = asyncio.create_task(Desk.start_and_read_records(program, Path(room, "day.desk"), 24))
+                opening = asyncio.create_task(Desk.start(program, Path(room, "day.desk"), 24))
                 ended, _ = await asyncio.wait([opening], timeout=LATEST)
                 opening.cancel()
         self.assertEqual(ended, {opening})
@@ -329,10 +329,10 @@ class Opening(unittest.IsolatedAsyncioTestCase):
         """It has ended, and asyncio has no fault to report."""
         pipes = dict.fromkeys(("stdin", "stdout", "stderr"), asyncio.subprocess.PIPE)
         with self.assertNoLogs("asyncio", "ERROR"):
-            desk = Desk(await asyncio.create_subprocess_exec("sleep", "3600", **pipes), 0)
+            desk = Desk(await asyncio.create_subprocess_exec("sleep", "3600", **pipes))
             entered = desk.iterate_replies(["x" * 2**20])
             asyncio.get_running_loop().call_later(0.1, desk.process.kill)
-            with self.assertRaisesRegex(Ended, "^the desk was ended by signal 9: no fault line$"):
+            with self.assertRaisesRegex(DeskEnded, "^the desk was ended by signal 9: no fault line$"):
                 await entered.__anext__()
             await desk.end_or_kill()
             del desk, entered
@@ -350,7 +350,7 @@ class Description(unittest.TestCase):
 @unittest.skipUnless(aiohttp, "aiohttp is missing (Debian's python3-aiohttp)")
 class Page(unittest.TestCase):
     def test_it_asks_for_no_other_numbers_than_it_gets(self):
-        asked = {name for path in TEMPLATES.glob("office*.js") for name in re.findall(r"\bRULES\.(\w+)", path.read_text())}
+        asked = {name for path in PAGES.glob("office*.js") for name in re.findall(r"\bRULES\.(\w+)", path.read_text())}
         self.assertGreater(len(asked), 3)
         self.assertLessEqual(asked, {name.lower() for name in fixed_files.RULES})
 

@@ -25,8 +25,7 @@ from lib.journal import journal
 from lib.seal import heads
 
 try:
-    from lib.office import folder, guards, observed, published, refusals, requests, serve
-    from lib.office import table_reader as reader
+    from lib.office import connections, folder, monitoring, published, refusals, requests, serve, table_reader as reader
 except ImportError:  # without python3-aiohttp and the like, whose tests are skipped
     pass
 
@@ -101,15 +100,15 @@ class Requests(unittest.TestCase):
             day = {"periods": 24, "hourly_surplus_eur": "1.00", "block_surplus_eur": "2.00"}
             for name, text in ((folder.RESULTS, ""), (folder.STATEMENT, json.dumps({"day": day, "rows": []}))):
                 files.path_of(name).write_text(text)
-            self.assertEqual(published.Published(files).read_and_cache_statement_or_none("GAS")["day"], {"periods": 24})
+            self.assertEqual(published.Published(files).read_and_cache_statement("GAS")["day"], {"periods": 24})
             files.path_of(folder.OPEN_JOURNAL).touch()
-            self.assertEqual(published.Published(files).read_and_cache_statement_or_none("GAS")["day"], day)
+            self.assertEqual(published.Published(files).read_and_cache_statement("GAS")["day"], day)
 
     def test_tables(self):
         table = b"participant,order,kind,side,price_eur_mwh,periods,volume_mw\nGAS,A,hour,buy,12.50,8,30\n"
-        self.assertEqual(requests.parse_table_records_and_notes(table, "GAS", 24), (["submit,GAS,A,hour,buy,1250,8:300,,"], []))
+        self.assertEqual(requests.parse_table(table, "GAS", 24), (["submit,GAS,A,hour,buy,1250,8:300,,"], []))
         changes = b"what,participant,order,price_eur_mwh,periods,volume_mw\namend,GAS,A,12.50,8-9,30\ncancel,GAS,B,,,\n"
-        records, _ = requests.parse_table_records_and_notes(changes, "GAS", 24)
+        records, _ = requests.parse_table(changes, "GAS", 24)
         self.assertEqual(records, ["amend,GAS,A,,,1250,8:300;9:300,,", "cancel,GAS,B,,,,,,"])
         for data, words in (
             (table.replace(b"GAS", b"OIL"), "1 command of other participants than GAS: the first one is for A of OIL$"),
@@ -121,7 +120,7 @@ class Requests(unittest.TestCase):
             (b"\xd0\xcf\x11\xe0\xa1\xb1\x1a\xe1" + "EncryptedPackage".encode("utf-16-le"), "password: save it without the password$"),
         ):
             with self.assertRaisesRegex(requests.BadRequest, words):
-                requests.parse_table_records_and_notes(data, "GAS", 24)
+                requests.parse_table(data, "GAS", 24)
 
     def test_only_the_first_faults_of_a_table_are_told(self):
         """However many it has, the answer is short."""
@@ -133,13 +132,13 @@ class Requests(unittest.TestCase):
             (heads.replace(",group", f"{',' * 4_001}group") + "\n" + ",".join(["x"] * 4_010) + "\n", 4_000),
         ):
             with self.subTest(data=data[:80], count=count), self.assertRaises(requests.BadRequest) as caught:
-                requests.parse_table_records_and_notes(data.encode(), "GAS", 24)
+                requests.parse_table(data.encode(), "GAS", 24)
             lines = str(caught.exception).split("\n")
             self.assertEqual((len(lines), lines[-1]), (21, f"and {count - 20} more"))
 
     def test_a_table_links_to_orders_in_the_book(self):
         row = "participant,order,kind,side,price_eur_mwh,periods,volume_mw,parent\nGAS,KID%d,block,sell,50,15-16,5,BASE\n"
-        read = lambda *orders: requests.parse_table_records_and_notes((row % 2).encode(), "GAS", 24, orders)[0]
+        read = lambda *orders: requests.parse_table((row % 2).encode(), "GAS", 24, orders)[0]
         self.assertEqual(read(("BASE", "block")), ["submit,GAS,KID2,block,sell,5000,15:50;16:50,BASE,"])
         for orders, words in (
             ([], "line 2, column parent: you have no order BASE, neither in the book nor in a line above"),
@@ -152,13 +151,13 @@ class Requests(unittest.TestCase):
 
     def test_a_table_is_read_in_a_process_of_its_own(self):
         table = b"participant,order,kind,side,price_eur_mwh,periods,volume_mw\nGAS,A,block,buy,12.50,%d,30\n"
-        read = lambda data, periods=24: asyncio.run(reader.capture_table_records_and_notes(data, "GAS", periods))
+        read = lambda data, periods=24: asyncio.run(reader.capture_table(data, "GAS", periods))
         self.assertEqual(read(table % 8), (["submit,GAS,A,block,buy,1250,8:300,,"], []))
         self.assertEqual(read(table % 100, 100)[0], ["submit,GAS,A,block,buy,1250,100:300,,"])
         with self.assertRaisesRegex(requests.BadRequest, "there is no period 100$"):
             read(table % 100, 96)
         child = (table % 8).replace(b"mw\n", b"mw,parent\n").replace(b",30\n", b",30,BASE\n")
-        linked = asyncio.run(reader.capture_table_records_and_notes(child, "GAS", 24, [("BASE", "block")]))
+        linked = asyncio.run(reader.capture_table(child, "GAS", 24, [("BASE", "block")]))
         self.assertEqual(linked, (["submit,GAS,A,block,buy,1250,8:300,BASE,"], []))
         with self.assertRaisesRegex(requests.BadRequest, "you have no order BASE, neither in the book nor in a line above$"):
             read(child)
@@ -366,7 +365,7 @@ class RequestHeads(unittest.IsolatedAsyncioTestCase):
     """The limit of a request's head, in any pieces, and after any requests."""
 
     def connection(self):
-        made, transport = guards.Handler(Connection(), loop=asyncio.get_running_loop(), access_log=None), Connection()
+        made, transport = connections.Handler(Connection(), loop=asyncio.get_running_loop(), access_log=None), Connection()
         made.connection_made(transport)
         self.addCleanup(made._task_handler.cancel)
         return made
@@ -386,15 +385,15 @@ class RequestHeads(unittest.IsolatedAsyncioTestCase):
         small = b"GET /days HTTP/1.1\r\n\r\n"
         put = b"PUT /days HTTP/1.1\r\nContent-Length: %d\r\n\r\n"
         empty_lines = b"\r\n\n" * 300
-        befores = (0, b""), (1, small), (2, put % 20_000 + b"a\n\r\n" * 5_000 + small), (1, put % guards.PIECE + b"\n" * guards.PIECE)
-        for size in (100, guards.PIECE, guards.PIECE + 1, guards.MOST_HEAD, guards.MOST_HEAD + 1, 40_000, 3 * guards.PIECE - 1, 100_000):
+        befores = (0, b""), (1, small), (2, put % 20_000 + b"a\n\r\n" * 5_000 + small), (1, put % connections.PIECE + b"\n" * connections.PIECE)
+        for size in (100, connections.PIECE, connections.PIECE + 1, connections.MOST_HEAD, connections.MOST_HEAD + 1, 40_000, 3 * connections.PIECE - 1, 100_000):
             for (count, before), line_end, cut in itertools.product(befores, (("\r\n", "\r\n"), ("\n", "\n"), ("\n", "\r\n")), range(8)):
                 data = before + self.head(size, *line_end) + b"GET"
                 cuts = [0, *sorted(rng.sample(range(1, len(data)), cut)), len(data)]
                 made = self.connection()
                 for begin, end in zip(cuts, cuts[1:]):
                     made.data_received(data[begin:end])
-                is_taken = size <= guards.MOST_HEAD
+                is_taken = size <= connections.MOST_HEAD
                 with self.subTest(size=size, count=count, line_end=line_end, cuts=cuts):
                     self.assertEqual((len(made._messages), made.transport.is_aborted), (count + is_taken, not is_taken))
         made = self.connection()
@@ -421,11 +420,11 @@ class RequestHeads(unittest.IsolatedAsyncioTestCase):
             self.assertEqual([message.version for message, _ in made._messages], [taken], given)
 
     async def test_a_head_that_comes_byte_by_byte(self):
-        for size in (guards.MOST_HEAD, guards.MOST_HEAD + 1):
+        for size in (connections.MOST_HEAD, connections.MOST_HEAD + 1):
             made = self.connection()
             for byte in self.head(size):
                 made.data_received(bytes([byte]))
-            self.assertEqual(made.transport.is_aborted, size > guards.MOST_HEAD)
+            self.assertEqual(made.transport.is_aborted, size > connections.MOST_HEAD)
 
 
 class Connections(unittest.IsolatedAsyncioTestCase):
@@ -436,10 +435,10 @@ class Connections(unittest.IsolatedAsyncioTestCase):
             self.skipTest("python3-aiohttp is missing")
         application = aiohttp.web.Application()
         application.router.add_get("/", self.answer)
-        self.counts = observed.Counts()
-        self.runner = guards.Runner(application, self.counts)
+        self.counts = monitoring.Counts()
+        self.runner = connections.Runner(application, self.counts)
         await self.runner.setup()
-        listener = guards.Listener(self.runner.server, serve.open_listening_socket_or_stop("127.0.0.1", 0), None, self.counts)
+        listener = connections.Listener(self.runner.server, serve.open_listening_socket_or_stop("127.0.0.1", 0), None, self.counts)
         self.port = listener.socket.getsockname()[1]
         for step in (self.runner.cleanup, self.runner.server.shutdown, listener.close):
             self.addAsyncCleanup(step)
@@ -461,8 +460,8 @@ class Connections(unittest.IsolatedAsyncioTestCase):
     async def test_requests_that_are_sent_ahead(self):
         """One too many ends the connection, whichever of them has its turn."""
         with self.assertNoLogs("aiohttp"):
-            for count in (1, guards.MOST_AHEAD, *[guards.MOST_AHEAD + 1] * 20, 2 * guards.MOST_AHEAD, 100):
-                self.assertEqual(await self.send_answers(count), count if count <= guards.MOST_AHEAD else 0)
+            for count in (1, connections.MOST_AHEAD, *[connections.MOST_AHEAD + 1] * 20, 2 * connections.MOST_AHEAD, 100):
+                self.assertEqual(await self.send_answers(count), count if count <= connections.MOST_AHEAD else 0)
 
     async def test_a_connection_that_is_reset(self):
         """At once after a request, or with its answer on the way."""
@@ -470,7 +469,7 @@ class Connections(unittest.IsolatedAsyncioTestCase):
             for number in range(100):
                 one = socket.create_connection(("127.0.0.1", self.port))
                 one.setsockopt(socket.SOL_SOCKET, socket.SO_LINGER, struct.pack("ii", 1, 0))
-                one.sendall(b"GET / HTTP/1.1\r\nHost: x\r\n\r\n" * (1 + number % guards.MOST_AHEAD))
+                one.sendall(b"GET / HTTP/1.1\r\nHost: x\r\n\r\n" * (1 + number % connections.MOST_AHEAD))
                 await asyncio.sleep(number % 3 / 1_000)
                 one.close()
             self.assertEqual(await self.send_answers(1), 1)

@@ -17,7 +17,7 @@ from lib.seal import heads
 from lib.tool import exits
 
 try:
-    from lib.office import admission, day_writer, folder, observed, operate, outcome, published, refusals, web
+    from lib.office import admission, day_writer, folder, monitoring, operator_commands, public_answers, published, publishing, refusals
 except ImportError:  # without python3-aiohttp and the like, whose tests are skipped
     pass
 
@@ -69,15 +69,15 @@ class Closing(Office):
     async def closed(self):
         """A closed day with its files."""
         self.write_office()
-        with patch_of_opening(Disk()), mock.patch.object(outcome, "capture_output_or_raise", mock.AsyncMock(return_value=b"{}")):
+        with patch_of_opening(Disk()), mock.patch.object(publishing, "capture_output_or_raise", mock.AsyncMock(return_value=b"{}")):
             given = self.day_writer_of()
             task = asyncio.create_task(given.write_until_published())
             await given.is_ready.wait()
             await given.submit_or_refuse("GAS", 1, commands_of_records("cancel,GAS,A,,,,,,"))
             given.begin_close()
             await task
-            await outcome.write_journal_and_head(given)
-            await outcome.write_statement(given)
+            await publishing.write_journal_and_head(given)
+            await publishing.write_statement(given)
         return given
 
     async def shows_nothing(self):
@@ -86,7 +86,7 @@ class Closing(Office):
         await again.write_until_published()
         request, admitting = SimpleNamespace(path=f"/days/{DAY}/results"), SimpleNamespace(require_writer=lambda request: again)
         admitting.require_unstopped_writer = functools.partial(admission.Admission.require_unstopped_writer, admitting)
-        for answer in (web.Web.answer_prices, web.Web.answer_published):
+        for answer in (public_answers.PublicAnswers.answer_prices, public_answers.PublicAnswers.answer_published):
             with self.assertRaises(refusals.Refused) as caught:
                 await answer(SimpleNamespace(admission=admitting), request)
             self.assertEqual(caught.exception.fault, refusals.RequestFault.UNAVAILABLE)
@@ -127,11 +127,11 @@ class Closing(Office):
                 raise OSError(errno.ENOSPC, "full")
             put(path, data)
 
-        with mock.patch.object(outcome, "capture_output_or_raise", mock.AsyncMock(return_value=b"{}")):
+        with mock.patch.object(publishing, "capture_output_or_raise", mock.AsyncMock(return_value=b"{}")):
             with mock.patch.object(folder, "write_synced", ends), self.assertRaises(OSError):
-                await outcome.write_statement(given)
+                await publishing.write_statement(given)
             self.assertEqual((given.files.read_file(folder.SUMS), given.published.is_whole), (kept, False))
-            await outcome.write_statement(given)
+            await publishing.write_statement(given)
         self.assertEqual((given.files.read_file(folder.SUMS), given.published.is_whole), (kept, True))
 
     async def test_a_published_day_is_that_of_its_head(self):
@@ -187,7 +187,7 @@ class Closing(Office):
 
     async def test_a_day_whose_files_cant_be_made_isnt_right(self):
         self.write_office()
-        step, faults = outcome.write_journal_and_head, [OSError(errno.ENOSPC, "full")] * 2
+        step, faults = publishing.write_journal_and_head, [OSError(errno.ENOSPC, "full")] * 2
 
         async def sign(given):
             if faults:
@@ -199,10 +199,10 @@ class Closing(Office):
             rights.append(given.is_healthy)
 
         rights, log = [], io.StringIO()
-        with patch_of_opening(Disk()), mock.patch.object(outcome, "iterate_publishing_troubles", self.publish), mock.patch.multiple(
-            outcome, FIRST_PAUSE=0.001, write_journal_and_head=sign, write_results=made, write_statement=made
+        with patch_of_opening(Disk()), mock.patch.object(publishing, "iterate_publishing_troubles", self.publish), mock.patch.multiple(
+            publishing, FIRST_PAUSE=0.001, write_journal_and_head=sign, write_results=made, write_statement=made
         ):
-            given = self.day_writer_of(log=observed.Log(log))
+            given = self.day_writer_of(log=monitoring.Log(log))
             task = asyncio.create_task(given.write_until_published())
             await given.is_ready.wait()
             given.begin_close()
@@ -217,11 +217,11 @@ class Closing(Office):
         async def note_pause(seconds):
             pauses.append(seconds)
 
-        steps = mock.patch.multiple(outcome, write_journal_and_head=made, write_results=made, write_statement=made)
-        with steps, mock.patch.object(outcome.asyncio, "sleep", note_pause):
+        steps = mock.patch.multiple(publishing, write_journal_and_head=made, write_results=made, write_statement=made)
+        with steps, mock.patch.object(publishing.asyncio, "sleep", note_pause):
             troubles = [trouble async for trouble in self.publish(mock.Mock())]
         self.assertEqual(troubles, 3 * ["[Errno 28] full", "[Errno 28] full", None])
-        self.assertEqual(pauses, 3 * [outcome.FIRST_PAUSE, 2 * outcome.FIRST_PAUSE])
+        self.assertEqual(pauses, 3 * [publishing.FIRST_PAUSE, 2 * publishing.FIRST_PAUSE])
 
     async def test_the_states_of_a_day(self):
         """The office and the command status, which has the files alone, have the same words."""
@@ -230,24 +230,24 @@ class Closing(Office):
 
         async def touch_and_read_states():
             given.files.path_of(folder.DESK).touch()
-            records = mock.patch.object(operate.asyncio, "run", lambda _: ["day,24,,,,,,,", *disk.records])
-            with mock.patch.object(operate, "capture_records", mock.Mock()), records:
-                shown = operate.capture_day_record_or_stop(given.files, "dam-desk")["state"]
+            records = mock.patch.object(operator_commands.asyncio, "run", lambda _: ["day,24,,,,,,,", *disk.records])
+            with mock.patch.object(operator_commands, "capture_records", mock.Mock()), records:
+                shown = operator_commands.capture_day_record_or_stop(given.files, "dam-desk")["state"]
             return (await given.read_state()).name, shown
 
-        with patch_of_opening(disk), mock.patch.object(outcome, "iterate_publishing_troubles", self.held):
+        with patch_of_opening(disk), mock.patch.object(publishing, "iterate_publishing_troubles", self.held):
             given = self.day_writer_of()
             task = asyncio.create_task(given.write_until_published())
             await given.is_ready.wait()
             self.assertEqual(await touch_and_read_states(), ("open", "open"))
-            operate.write_request(given.files, folder.CLOSE_NOW)
+            operator_commands.write_request(given.files, folder.CLOSE_NOW)
             given.begin_close()
             self.assertEqual(await touch_and_read_states(), ("closing", "closing"))
             await self.wait_until(lambda: given.ledger.is_closed)
             self.assertEqual(await touch_and_read_states(), ("closed", "closed"))
             given.files.path_of(folder.RESULTS).write_bytes(b"")
             self.assertEqual(await touch_and_read_states(), ("results", "results"))
-            operate.write_publish_request_or_stop(DAY, given.files)
+            operator_commands.write_publish_request_or_stop(given.files)
             self.assertEqual(await touch_and_read_states(), ("published", "published"))
             task.cancel()
             await asyncio.gather(task, return_exceptions=True)
@@ -272,9 +272,9 @@ class Closing(Office):
         files = self.office.list_folders_by_day()[DAY]
         files.path_of(folder.DESK).touch()
         for records, fault in ((["day,24"], "FieldCount in record 1"), (["day,24,,,,,,,", "close,A,,,,,,,"], "BadField in record 2 field 2")):
-            shown = mock.patch.object(operate.asyncio, "run", lambda _: records)
-            with mock.patch.object(operate, "capture_records", mock.Mock()), shown, self.assertRaises(exits.Stop) as caught:
-                operate.capture_day_record_or_stop(files, "dam-desk")
+            shown = mock.patch.object(operator_commands.asyncio, "run", lambda _: records)
+            with mock.patch.object(operator_commands, "capture_records", mock.Mock()), shown, self.assertRaises(exits.Stop) as caught:
+                operator_commands.capture_day_record_or_stop(files, "dam-desk")
             self.assertEqual(str(caught.exception), f"the journal of {DAY} can't be read: input: {fault}")
 
     async def held(self, _):
@@ -291,17 +291,17 @@ class Closing(Office):
         ):
             said = []
             with (
-                mock.patch.multiple(operate, CLOSE_SECONDS=0.2, TELL_SECONDS=0.02, STEP=0.001),
+                mock.patch.multiple(operator_commands, CLOSE_SECONDS=0.2, TELL_SECONDS=0.02, STEP=0.001),
                 mock.patch.object(self.office, "is_served", lambda: served),
                 mock.patch.object(files, "write_trial_or_raise", mock.Mock(side_effect=room)),
                 mock.patch.object(exits, "print_note", lambda _, line: said.append(line)),
             ):
                 if served:
                     with self.assertRaises(exits.Stop) as caught:
-                        operate.close_and_wait_or_stop(self.office, DAY, files)
+                        operator_commands.close_and_wait_or_stop(self.office, files)
                     self.assertEqual(caught.exception.status, exits.UNDECIDED)
                 else:
-                    self.assertFalse(operate.close_and_wait_or_stop(self.office, DAY, files))
+                    self.assertFalse(operator_commands.close_and_wait_or_stop(self.office, files))
             self.assertEqual(len(said), len(words))
             for line, part in zip(said, words):
                 self.assertIn(part, line)
@@ -315,7 +315,7 @@ class Closing(Office):
             task = asyncio.create_task(given.write_until_published())
             await given.is_ready.wait()
             await given.submit_or_refuse("GAS", 1, commands_of_records("cancel,GAS,A,,,,,,"))
-            operate.write_request(given.files, folder.CLOSE_NOW)
+            operator_commands.write_request(given.files, folder.CLOSE_NOW)
             await task
         self.assertEqual(disk.records, ["cancel,GAS,A,,,,,,", "close,,,,,,,,"])
 

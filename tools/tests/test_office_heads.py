@@ -13,9 +13,9 @@ from lib.seal import heads
 from lib.tool import exits
 
 try:
-    from lib.seal import signing
-    from lib.office import day_writer, folder, newest, observed, operate, refusals
+    from lib.office import day_writer, folder, monitoring, newest_head, operator_commands, refusals
     from lib.office.ledger import Contradiction, Ledger
+    from lib.seal import signing
 except ImportError:  # without python3-aiohttp and the like, whose tests are skipped
     pass
 
@@ -96,8 +96,8 @@ class SignedHeads(Office):
 
     async def test_nothing_is_entered_while_the_newest_head_isnt_kept(self):
         self.write_office()
-        full = mock.patch.object(newest.os, "replace", mock.Mock(side_effect=OSError(errno.ENOSPC, "No space left on device")))
-        with patch_of_opening(Disk()), mock.patch.object(newest, "PAUSE", 0.001):
+        full = mock.patch.object(newest_head.os, "replace", mock.Mock(side_effect=OSError(errno.ENOSPC, "No space left on device")))
+        with patch_of_opening(Disk()), mock.patch.object(newest_head, "PAUSE", 0.001):
             async with self.running_writer(self.day_writer_of()) as given:
                 with full:
                     await given.submit_or_refuse("GAS", 1, commands_of_records("cancel,GAS,A,,,,,,"))
@@ -119,19 +119,19 @@ class SignedHeads(Office):
         disk = Disk()
         await self.entered(disk)
         disk.records.pop()
-        records = mock.patch.object(operate.asyncio, "run", lambda _: ["day,24,,,,,,,", *disk.records])
-        with mock.patch.object(operate, "capture_records", mock.Mock()), records:
-            self.assertEqual(operate.capture_status_record(self.office, "dam-desk")["days"][0]["state"], "open")
+        records = mock.patch.object(operator_commands.asyncio, "run", lambda _: ["day,24,,,,,,,", *disk.records])
+        with mock.patch.object(operator_commands, "capture_records", mock.Mock()), records:
+            self.assertEqual(operator_commands.capture_status_record(self.office, "dam-desk")["days"][0]["state"], "open")
             with patch_of_opening(disk), self.office.holding():
                 given = self.day_writer_of()
                 await given.write_until_published()
-                found = operate.capture_status_record(self.office, "dam-desk")
+                found = operator_commands.capture_status_record(self.office, "dam-desk")
                 self.assertEqual(found["days"][0]["state"], "stopped")
-                self.assertRegex(list(operate.status_lines(found))[2], "^  stopped: LostEntries: the desk's journal has 2 entries")
+                self.assertRegex(list(operator_commands.status_lines(found))[2], "^  stopped: LostEntries: the desk's journal has 2 entries")
                 with self.assertRaisesRegex(exits.Stop, f"^{DAY} is stopped, and wasn't closed: LostEntries"):
-                    operate.close_and_wait_or_stop(self.office, DAY, given.files)
+                    operator_commands.close_and_wait_or_stop(self.office, given.files)
             self.assertFalse(given.files.has_file(folder.CLOSE_NOW))
-            self.assertEqual(operate.capture_status_record(self.office, "dam-desk")["days"][0]["state"], "open")
+            self.assertEqual(operator_commands.capture_status_record(self.office, "dam-desk")["days"][0]["state"], "open")
         disk.records.append(self.RECORDS[-1])
         self.assertIsNone(await self.started(disk))
         self.assertFalse(given.files.has_file(folder.STOPPED_DAY))
@@ -155,7 +155,7 @@ class SignedHeads(Office):
         path = await self.entered(disk)
         path.unlink()
         self.assertIsNone(await self.started(disk))
-        self.assertEqual(newest.read_signed_head_or_none(path, self.key).size, 3)
+        self.assertEqual(newest_head.read_signed_head(path, self.key).size, 3)
 
     async def test_a_head_that_is_not_whole_is_named(self):
         """The journal can't be compared with it."""
@@ -176,12 +176,12 @@ class SignedHeads(Office):
 
     async def test_the_file_is_soon_the_newest_head_and_never_an_older_one(self):
         self.write_office()
-        with patch_of_opening(Disk()), mock.patch.object(newest, "PAUSE", 0.01):
+        with patch_of_opening(Disk()), mock.patch.object(newest_head, "PAUSE", 0.01):
             async with self.running_writer(self.day_writer_of()) as given:
                 for number, record in enumerate(self.RECORDS, 1):
                     await given.submit_or_refuse("GAS", number, commands_of_records(record))
                     await self.wait_until(lambda: given.newest.written is not None and given.newest.written.size == number)
-                    found = newest.read_signed_head_or_none(given.files.path_of(folder.SIGNED), self.key)
+                    found = newest_head.read_signed_head(given.files.path_of(folder.SIGNED), self.key)
                     self.assertEqual((found, found.root), (given.ledger.signed_head(), given.ledger.seal.tree.root(number)))
                 given.newest.note_head(given.ledger.signed_head(1))
                 self.assertEqual(given.newest.head.size, 3)
@@ -198,27 +198,27 @@ class SignedHeads(Office):
             async with self.running_writer(self.day_writer_of()) as given:
                 given.submit_or_refuse("GAS", 1, commands_of_records(*self.RECORDS))
                 await self.wait_until(lambda: given.ledger.size == 3)
-        self.assertEqual(newest.read_signed_head_or_none(given.files.path_of(folder.SIGNED), self.key).size, 3)
+        self.assertEqual(newest_head.read_signed_head(given.files.path_of(folder.SIGNED), self.key).size, 3)
 
     async def test_the_file_is_written_seldom_and_its_faults_are_logged_once(self):
         self.write_office()
         log = io.StringIO()
         with patch_of_opening(Disk()):
-            async with self.running_writer(self.day_writer_of(log=observed.Log(log))) as given:
+            async with self.running_writer(self.day_writer_of(log=monitoring.Log(log))) as given:
                 given.files.path_of(f".{folder.SIGNED}").mkdir()
-                with mock.patch.object(newest, "PAUSE", 0.001), mock.patch.object(os, "replace", wraps=os.replace) as replaced:
+                with mock.patch.object(newest_head, "PAUSE", 0.001), mock.patch.object(os, "replace", wraps=os.replace) as replaced:
                     await given.submit_or_refuse("GAS", 1, commands_of_records(self.RECORDS[0]))
                     await asyncio.sleep(0.05)
                     self.assertEqual((log.getvalue().count("signed head not kept"), replaced.call_count), (1, 0))
                     given.files.path_of(f".{folder.SIGNED}").rmdir()
                     await self.wait_until(lambda: given.newest.written is not None)
-                with mock.patch.object(newest, "PAUSE", 60), mock.patch.object(os, "replace", wraps=os.replace) as replaced:
+                with mock.patch.object(newest_head, "PAUSE", 60), mock.patch.object(os, "replace", wraps=os.replace) as replaced:
                     await self.wait_until(given.newest.task.done)
                     for number, record in enumerate(self.RECORDS[1:], 2):
                         await given.submit_or_refuse("GAS", number, commands_of_records(record))
                     await asyncio.sleep(0.05)
                     self.assertLessEqual(replaced.call_count, 1)
-        self.assertEqual(newest.read_signed_head_or_none(given.files.path_of(folder.SIGNED), self.key).size, 3)  # at an orderly end
+        self.assertEqual(newest_head.read_signed_head(given.files.path_of(folder.SIGNED), self.key).size, 3)  # at an orderly end
 
 
 class Numbers(Office):

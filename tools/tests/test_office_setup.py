@@ -19,14 +19,14 @@ from unittest import mock
 from office_support import DAY, FUTURE, NAMES, SECONDS, Disk, Office, commands_of_records, patch_of_opening
 from support import AUCTION, TOOLS, TOP, capture_unsaid_members, run_tool
 
-from lib.base import async_child
-from lib.sheets import table_files
+from lib.process import async_child
+from lib.tables import table_files
 from lib.tool import exits, modules
 
 try:
-    from lib.seal import signing
-    from lib.office import admission, budgets, demo, desk, folder, guards, newest, observed, operate, programs, refusals, setup, tokens, web
+    from lib.office import admission, budgets, connections, demo, desk, folder, monitoring, newest_head, operator_commands, programs, refusals, routes, setup, tokens
     from lib.office import serve as serving
+    from lib.seal import signing
 except ImportError:  # without python3-aiohttp and the like, whose tests are skipped
     pass
 
@@ -162,7 +162,7 @@ class Setup(Office):
             public.write_bytes(other)
             with self.subTest(other=other):
                 with self.assertRaisesRegex(exits.Stop, "operator.pem.pub isn't the public key of operator.pem"):
-                    serving.Office(self.office, programs.Programs("dam", "dam-desk"), observed.Log(io.StringIO()))
+                    serving.Office(self.office, programs.Programs("dam", "dam-desk"), monitoring.Log(io.StringIO()))
                 status, out, err = run_tool("office", "init", self.office.path, "--day", "2099-11-30", *words)
                 self.assertEqual((status, out), (exits.NO_INPUT, b""))
                 self.assertIn("isn't the public key of operator.pem", err)
@@ -381,29 +381,29 @@ class Setup(Office):
     def test_the_limits_of_the_page(self):
         text = " ".join((TOP / "docs" / "SECURITY.md").read_text().split())
         for words in (
-            f"{guards.MOST_CONNECTIONS:,} connections, before",
-            f"{guards.MOST_HEAD >> 10} KiB for a request's head",
-            f"{guards.MOST_AHEAD} requests ahead",
+            f"{connections.MOST_CONNECTIONS:,} connections, before",
+            f"{connections.MOST_HEAD >> 10} KiB for a request's head",
+            f"{connections.MOST_AHEAD} requests ahead",
             f"{admission.MOST_BODY >> 20} MiB a body",
-            f"{guards.IDLE_SECONDS} s for a head, {admission.BODY_SECONDS} s for its body, {guards.BUSY_SECONDS} s until its answer",
+            f"{connections.IDLE_SECONDS} s for a head, {admission.BODY_SECONDS} s for its body, {connections.BUSY_SECONDS} s until its answer",
             f"{budgets.COMMANDS_A_SECOND} commands and {budgets.READS_A_SECOND} other requests a second",
             f"(at first {budgets.MOST_COMMANDS:,} and {budgets.MOST_READS})",
             f"{budgets.LOOKS_A_SECOND} requests a second for each address (at first {budgets.MOST_LOOKS:,})",
             f"after {budgets.MOST_GUESSES} wrong tokens of an address, one more a second",
-            f"A /{guards.NETWORK} of IPv6",
+            f"A /{budgets.NETWORK} of IPv6",
             f"all shares together are at most {folder.MOST_COMMANDS:,}",
         ):
             with self.subTest(words):
                 self.assertIn(words, text)
         self.assertEqual(budgets.GUESSES_A_SECOND, 1)
-        self.assertIn(f"The file may lack the last {newest.PAUSE} s.", " ".join((TOP / "docs" / "OFFICE.md").read_text().split()))
+        self.assertIn(f"The file may lack the last {newest_head.PAUSE} s.", " ".join((TOP / "docs" / "OFFICE.md").read_text().split()))
 
     def test_a_fault_of_the_disk_names_the_file(self):
         self.addCleanup(os.umask, os.umask(0o077))
         self.write_office()
         room = self.office.path.parent
         self.write_and_read_participants("participant\nGAS\n")
-        tokens.Register(self.office.path_of(folder.PARTICIPANTS)).write_and_return_new_tokens(["GAS"])
+        tokens.Register(self.office.path_of(folder.PARTICIPANTS)).write_new_tokens(["GAS"])
         words = ["--day", "2099-11-28", "--close", "12:00", "--participants", room / "p.csv"]
         day = self.office.path_of(folder.DAYS) / DAY
         for path, asked in (
@@ -466,7 +466,7 @@ class Setup(Office):
         salts.mkdir()
         log = io.StringIO()
         with patch_of_opening(Disk()), mock.patch.object(serving, "LOOK_SECONDS", 0.001):
-            served = serving.Office(self.office, programs.Programs("dam", "dam-desk"), observed.Log(log))
+            served = serving.Office(self.office, programs.Programs("dam", "dam-desk"), monitoring.Log(log))
             task = asyncio.create_task(served.take_up_days_forever())
             await self.wait_until(lambda: later in served.writers)
             await served.writers[later].is_ready.wait()
@@ -487,8 +487,8 @@ class Setup(Office):
     async def looked(self):
         """The reasons why days aren't served, after one look, and the days that are."""
         with patch_of_opening(Disk()):
-            served = serving.Office(self.office, programs.Programs("dam", "dam-desk"), observed.Log(io.StringIO()))
-            missed = served.take_up_days_and_return_missed()
+            served = serving.Office(self.office, programs.Programs("dam", "dam-desk"), monitoring.Log(io.StringIO()))
+            missed = served.take_up_days()
             await served.stop_days()
         return missed, list(served.writers)
 
@@ -527,11 +527,11 @@ class Setup(Office):
     async def test_damaged_tokens_are_named_and_no_defect_of_a_request(self):
         self.write_office()
         path, log = self.office.path_of(folder.PARTICIPANTS), io.StringIO()
-        token = tokens.Register(path).write_and_return_new_tokens(["GAS"])["GAS"]
+        token = tokens.Register(path).write_new_tokens(["GAS"])["GAS"]
         kept = path.read_bytes()
         asked = mock.Mock(match_info={"who": "GAS"}, headers={"Authorization": f"Bearer {token}"}, remote="127.0.0.1")
         with patch_of_opening(Disk()), mock.patch.object(serving, "LOOK_SECONDS", 0.001):
-            served = serving.Office(self.office, programs.Programs("dam", "dam-desk"), observed.Log(log))
+            served = serving.Office(self.office, programs.Programs("dam", "dam-desk"), monitoring.Log(log))
             answers = admission.Admission(served, budgets.Budgets(behind_proxy=False))
             task = asyncio.create_task(served.take_up_days_forever())
             await self.wait_until(lambda: DAY in served.writers and served.writers[DAY].is_ready.is_set() and served.is_healthy)
@@ -651,8 +651,8 @@ class Setup(Office):
             setup.make_day_or_stop(self.office, folder.Terms(later, 24, FUTURE, "UTC", dict.fromkeys(NAMES, 10)))
             with self.office.holding():
                 pass
-            tokens.Register(self.office.path_of(folder.PARTICIPANTS)).write_and_return_new_tokens(["GAS"])
-            operate.write_request(self.office.list_folders_by_day()[later], folder.CLOSE_NOW)
+            tokens.Register(self.office.path_of(folder.PARTICIPANTS)).write_new_tokens(["GAS"])
+            operator_commands.write_request(self.office.list_folders_by_day()[later], folder.CLOSE_NOW)
         owner = os.stat(self.office.path)
         self.assertEqual({call.args[1:] for call in chown.call_args_list}, {(owner.st_uid, owner.st_gid)})
         given = [call.args[0] for call in chown.call_args_list]
@@ -695,7 +695,7 @@ class Setup(Office):
         tracemalloc.start()
         self.addCleanup(tracemalloc.stop)
         for call in (programs.capture_output_or_raise(str(made), "clear", data=b"x" * 300_000), desk.capture_records(str(made), "file")):
-            with self.assertRaises((programs.ProgramFailed, desk.Ended)) as raised:
+            with self.assertRaises((programs.ProgramFailed, desk.DeskEnded)) as raised:
                 asyncio.run(call)
             self.assertTrue(str(raised.exception).endswith("ended with status 3: begin\n" + "x" * (async_child.MOST_FAULT - len("begin\n"))))
         self.assertLess(tracemalloc.get_traced_memory()[1], 8 << 20)
@@ -706,8 +706,8 @@ class Setup(Office):
                     asyncio.run(call)
 
     def test_how_a_program_ended(self):
-        self.assertEqual(async_child.end_words(4), "ended with status 4")
-        self.assertEqual(async_child.end_words(-9), "was ended by signal 9")
+        self.assertEqual(async_child.end_text(4), "ended with status 4")
+        self.assertEqual(async_child.end_text(-9), "was ended by signal 9")
 
     def test_the_proxy_of_the_examples_has_the_limits_of_the_office(self):
         """It is in front of the port of the unit, and limits addresses as an office without a proxy does."""
@@ -719,9 +719,9 @@ class Setup(Office):
             f"zone=office_requests:10m rate={budgets.LOOKS_A_SECOND}r/s;",
             f"    limit_req zone=office_requests burst={budgets.MOST_LOOKS} nodelay;",
             f"    client_max_body_size {admission.MOST_BODY >> 20}m;",
-            f"    client_header_timeout {guards.IDLE_SECONDS}s;",
+            f"    client_header_timeout {connections.IDLE_SECONDS}s;",
             f"    client_body_timeout {admission.BODY_SECONDS}s;",
-            "    add_header {} {} always;".format(*web.SECURE, *web.SECURE.values()),
+            "    add_header {} {} always;".format(*routes.SECURE, *routes.SECURE.values()),
         ):
             with self.subTest(line):
                 self.assertIn(line, text)
@@ -742,7 +742,7 @@ class Setup(Office):
     def test_a_day_that_was_closed_early_doesnt_close_later(self):
         days = [{"day": DAY, "state": state, "stopped": None, "entries": 1, "closes": "T"} for state in (folder.OPEN, folder.CLOSED, folder.PUBLISHED)]
         found = {"served": True, "participants": 1, "revoked": [], "days": days}
-        lines = list(operate.status_lines(found))[1:]
+        lines = list(operator_commands.status_lines(found))[1:]
         self.assertEqual(lines, [f"{DAY}: open, 1 entry, closes T", f"{DAY}: closed, 1 entry", f"{DAY}: published, 1 entry"])
 
 

@@ -18,8 +18,7 @@ from support import TOOLS
 from lib.tool import exits
 
 try:
-    from lib.office import budgets, folder, guards, observed, programs, refusals, tokens, web
-    from lib.office import serve as serving
+    from lib.office import budgets, connections, folder, monitoring, programs, refusals, requests, routes, serve as serving, tokens
     from lib.office import table_reader as reader
 except ImportError:  # without python3-aiohttp and the like, whose tests are skipped
     pass
@@ -35,6 +34,9 @@ class Tokens(Office):
             self.assertGreaterEqual(len(token.partition(".")[2]), 43)
             self.assertNotIn(token.partition(".")[2], text)
             self.assertEqual([other for other in NAMES if register.is_token_of(other, token)], [who])
+        # each of the 43 characters is drawn, of which the last has four bits alone
+        drawn = [tokens.draw_token("GAS").partition(".")[2] for _ in range(64)]
+        self.assertGreater(min(len(set(values)) for values in zip(*drawn)), 8)
         for wrong in ("", "GAS.", made["GAS"][:-1], made["GAS"] + "x", tokens.NOBODY, "\udc80"):
             self.assertFalse(register.is_token_of("GAS", wrong))
         self.assertFalse(register.is_token_of("NOBODY", made["GAS"]))
@@ -67,7 +69,7 @@ class Tokens(Office):
 
         def change(own):
             register = tokens.Register(path)
-            made.update(register.write_and_return_new_tokens(own[1:]))
+            made.update(register.write_new_tokens(own[1:]))
             made[own[0]] = register.write_new_token(own[0])
             register.write_revoked(own[1])
 
@@ -79,11 +81,11 @@ class Tokens(Office):
         register = tokens.Register(path)
         for own in names:
             self.assertEqual([register.is_token_of(who, made[who]) for who in own], [True, False, True, True, True])
-        self.assertEqual(register.write_and_return_new_tokens(names[0]), {})
+        self.assertEqual(register.write_new_tokens(names[0]), {})
 
     def test_each_connection_may_be_sent_a_file(self):
         """Slow downloads leave files for the close."""
-        needed = 2 * guards.MOST_CONNECTIONS + 100
+        needed = 2 * connections.MOST_CONNECTIONS + 100
         with mock.patch.multiple(serving.resource, getrlimit=lambda _: (1_024, 1 << 20), setrlimit=mock.DEFAULT) as made:
             serving.raise_file_limit()
         soft, hard = made["setrlimit"].call_args.args[1]
@@ -104,7 +106,7 @@ class Tokens(Office):
 
     def test_defects_in_a_library_are_logged_once_a_minute(self):
         stream, now = io.StringIO(), [0.0]
-        told = observed.Defects(observed.Log(stream), lambda: now[0])
+        told = monitoring.Defects(monitoring.Log(stream), lambda: now[0])
         for seconds in range(120):
             now[0] = float(seconds)
             for kind in (OSError, ValueError):
@@ -115,34 +117,34 @@ class Tokens(Office):
 
     def test_a_network_of_ipv6_has_one_limit(self):
         addresses = "192.0.2.1", "192.0.2.2", "::1", "2001:db8::1", "2001:db8::ffff:1:2:3", "2001:db8:0:1::1", "fe80::1%eth0"
-        sources = list(map(guards.address_or_network, addresses))
+        sources = list(map(budgets.address_or_network, addresses))
         self.assertEqual(len(set(sources)), 6)
         self.assertEqual(sources[3], sources[4])
 
     async def test_the_length_of_the_records_of_a_table_counts(self):
         self.write_office()
-        office = serving.Office(self.office, programs.Programs("dam", "dam-desk"), observed.Log(io.StringIO()))
+        office = serving.Office(self.office, programs.Programs("dam", "dam-desk"), monitoring.Log(io.StringIO()))
         office.writers[DAY] = self.day_writer_of()
         office.writers[DAY].is_known.set()
-        made = web.Web(office)
-        made.budgets.reads = guards.Buckets(0.001, budgets.MOST_READS, lambda: 0.0)
+        made = routes.Web(office)
+        made.budgets.reads = budgets.Buckets(0.001, budgets.MOST_READS, lambda: 0.0)
         headers = {"Authorization": f"Bearer {office.register.write_new_token('GAS')}", "Content-Length": "1"}
 
         async def read(*_):
-            return ["x" * 2_000_000], []
+            return requests.ReadTable(["x" * 2_000_000], [])
 
         content = argparse.Namespace(is_eof=lambda: True)
         asked = argparse.Namespace(headers=headers, match_info={"who": "GAS", "day": DAY}, content=content)
         asked.transport, asked.read = content, mock.AsyncMock(return_value=b"x")
-        with mock.patch.object(reader, "capture_table_records_and_notes", read):
-            answer = await made.answer_table(asked)
+        with mock.patch.object(reader, "capture_table", read):
+            answer = await made.own.answer_table(asked)
         self.assertEqual(json.loads(answer.text)["notes"], [])
-        self.assertLess(made.budgets.reads.tokens_left("GAS"), budgets.MOST_READS - budgets.READS_OF_TABLE - 150)
+        self.assertLess(made.budgets.reads.calls_left("GAS"), budgets.MOST_READS - budgets.READS_OF_TABLE - 150)
 
     async def test_limits_of_strangers_are_those_of_their_network(self):
         self.write_office()
-        office = serving.Office(self.office, programs.Programs("dam", "dam-desk"), observed.Log(io.StringIO()))
-        made = web.Web(office)
+        office = serving.Office(self.office, programs.Programs("dam", "dam-desk"), monitoring.Log(io.StringIO()))
+        made = routes.Web(office)
         protocol = argparse.Namespace(is_deaf=False)
 
         def asked(number, who):
@@ -155,7 +157,7 @@ class Tokens(Office):
                 made.admission.require_authorized_participant(asked(number, {"who": "GAS"}))
             found.append(caught.exception.fault)
         self.assertEqual((found[0], found[-1]), (refusals.RequestFault.TOKEN, refusals.RequestFault.TOO_FAST))
-        made.budgets.looks = guards.Buckets(0.001, 3, lambda: 0.0)
+        made.budgets.looks = budgets.Buckets(0.001, 3, lambda: 0.0)
         for number in range(3):
             made.budgets.charge_look_or_refuse(asked(number, {}))
         with self.assertRaises(refusals.Refused):
@@ -164,10 +166,10 @@ class Tokens(Office):
     async def test_an_expectation_passes_no_limit(self):
         """Also at a path or a method that the office doesn't know. It isn't repeated; a client that waits before its body is answered."""
         self.write_office()
-        office = serving.Office(self.office, programs.Programs("dam", "dam-desk"), observed.Log(io.StringIO()))
-        made = web.Web(office)
-        made.budgets.looks = guards.Buckets(0.001, 4, lambda: 0.0)
-        runner = guards.Runner(made.new_application(), office.counts)
+        office = serving.Office(self.office, programs.Programs("dam", "dam-desk"), monitoring.Log(io.StringIO()))
+        made = routes.Web(office)
+        made.budgets.looks = budgets.Buckets(0.001, 4, lambda: 0.0)
+        runner = connections.Runner(made.new_application(), office.counts)
         await runner.setup()
         server = await asyncio.get_running_loop().create_server(runner.server, "127.0.0.1", 0)
         waits = "100-Continue"
@@ -194,24 +196,24 @@ class Tokens(Office):
 
     def test_guesses_are_slowed_down_and_others_are_not(self):
         now = [0.0]
-        buckets = guards.Buckets(1, 3, lambda: now[0])
-        self.assertEqual([buckets.charge_and_return_seconds_to_wait("a") > 0 for _ in range(5)], [False, False, False, True, True])
-        self.assertEqual(buckets.charge_and_return_seconds_to_wait("b"), 0)
+        buckets = budgets.Buckets(1, 3, lambda: now[0])
+        self.assertEqual([buckets.charge_unless_empty("a") > 0 for _ in range(5)], [False, False, False, True, True])
+        self.assertEqual(buckets.charge_unless_empty("b"), 0)
         now[0] = 1.0
-        self.assertEqual([buckets.charge_and_return_seconds_to_wait("a") > 0 for _ in range(2)], [False, True])
-        self.assertEqual(buckets.charge_and_return_seconds_to_wait("c", 1_000), 0)
-        self.assertGreater(buckets.charge_and_return_seconds_to_wait("c"), 900)
+        self.assertEqual([buckets.charge_unless_empty("a") > 0 for _ in range(2)], [False, True])
+        self.assertEqual(buckets.charge_unless_empty("c", 1_000), 0)
+        self.assertGreater(buckets.charge_unless_empty("c"), 900)
         buckets.charge("c", 1_000)
-        self.assertGreater(buckets.charge_and_return_seconds_to_wait("c"), 1_900, "what is charged is owed, also in debt")
-        with mock.patch.object(guards, "MOST_BUCKETS", 5):
+        self.assertGreater(buckets.charge_unless_empty("c"), 1_900, "what is charged is owed, also in debt")
+        with mock.patch.object(budgets, "MOST_BUCKETS", 5):
             for number in range(100):
                 now[0] += 10_000
-                buckets.charge_and_return_seconds_to_wait(number)
+                buckets.charge_unless_empty(number)
             self.assertLessEqual(len(buckets.held), 6)
-            buckets.charge_and_return_seconds_to_wait("d", 2)
+            buckets.charge_unless_empty("d", 2)
             for number in range(100):
-                buckets.charge_and_return_seconds_to_wait(number)
-        self.assertEqual(buckets.tokens_left("d"), 1, "many names don't fill a bucket again")
+                buckets.charge_unless_empty(number)
+        self.assertEqual(buckets.calls_left("d"), 1, "many names don't fill a bucket again")
 
 
 if __name__ == "__main__":

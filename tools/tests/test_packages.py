@@ -1,12 +1,12 @@
 """The packages of tools/lib: each imports only those that its docstring names, nothing private crosses, and no two import each other.
-And the files in Python of all folders: no definition hides another one, the names of functions tell generators and None, and each name
-that is asked of a module is one that it defines."""
+And the files in Python of all folders: no definition hides another one, the names of functions tell generators, their types or names tell None,
+and each name that is asked of a module is one that it defines."""
 
 import ast
 import collections
 import functools
-import itertools
 import re
+import subprocess
 import unittest
 from pathlib import Path
 
@@ -17,12 +17,12 @@ LIB = TOP / "tools" / "lib"
 PACKAGES = sorted(path.parent.name for path in LIB.glob("*/__init__.py"))
 # Code that asks for stale names, each once, and for names that modules have, or that no module is asked for.
 STALE = """
-import compare
+from market import laws
 from lib.base import stale_1, text
 from lib.journal.book import Book, stale_2
 from lib import journal as of_journals
 
-text.mw, text.stale_3, of_journals.book.Book, of_journals.stale_4, compare.stale_5
+text.mw, text.stale_3, of_journals.book.Book, of_journals.stale_4, laws.stale_5
 Book.copy, Book.stale_6
 text.stale_7 = text.mw
 mock.patch.object(text, "mw"), mock.patch.object(text, "stale_8"), mock.patch.object(Book, "stale_9")
@@ -41,7 +41,7 @@ def later():
 
     return results.stale_16, lambda: results.stale_17, text.stale_18
 """
-# Functions, of which the first three have names that the table of tools/NOTES.md has for others.
+# Functions, of which the first three have names that the table of tools/NOTES.md has for others, and one has a wrong type.
 MISNAMED = """
 def add_and_return_lines(): yield 1
 def find_file(path): return path if path else None
@@ -50,13 +50,15 @@ def answer(key):
         return found
     return None
 def kept_or_none(): return None if late else 1
+def typed(key) -> int | None: return None if late else 1
+def typed_or_none(key) -> int: return None if late else 1
 def try_file(): return None if late else "late"
 def parse_or_note_fault(): return None if late else 1
 def end(): return None
 @contextlib.contextmanager
 def opening_and_return(): yield 1
 """
-# Definitions, of which the last A, b, C, E and F hide others. C is bound to two numbers, and D twice to one.
+# Definitions, of which the last A, b, C, D, E and F hide others. C is bound to two numbers, and D twice to one.
 HIDDEN = """
 def a(): pass
 class A:
@@ -72,10 +74,25 @@ C: int = 2
 def E(): pass
 I, J = J, I = read()
 """
-NONE = re.compile("_or_none$|^try_|_or_note_faults?$")  # the names of functions that may return None
+NONE = re.compile("_or_none$|^try_|_or_note_faults?$")  # the names of functions without types that may return None
+NONE_IN_TYPE = re.compile(r"\b(None|Optional|Any|Json|object)\b")
 # What may be None with another name: a string of a table by its number, as of a dictionary; a part of a workbook, or a fault if it has
 # two; a value of JSON, of which null is one.
 ALSO_NONE = {"get", "only_part_or_refuse", "typed_value"}
+# How files of unit tests, scripts of a folder of tests/, and those of tests/ itself find their modules; and those that need the folder of
+# the modules that they test besides.
+OF_UNITS = 'sys.path[:0] = [f"{TOP}/tests", f"{TOP}/tools"]'
+OF_FOLDERS = 'sys.path[:1] = [f"{sys.path[0]}/..", f"{sys.path[0]}/../../tools"]'
+OF_SCRIPTS = 'sys.path.insert(1, f"{sys.path[0]}/../tools")'
+OF_BENCH, OF_MANUAL = 'sys.path.insert(0, f"{TOP}/bench")', "sys.path.append(str(TOP))"
+OF_TESTED = {
+    "tests/fuzz/enumerated.py": OF_BENCH,
+    "tests/packages/run": 'sys.path.append(f"{sys.path[0]}/..")',
+    "tools/tests/test_bench.py": OF_BENCH,
+    "tools/tests/test_drawings.py": 'sys.path.insert(0, f"{TOP}/docs/drawings")',
+    "tools/tests/test_manual.py": OF_MANUAL,
+    "tools/tests/test_measured.py": OF_BENCH,
+}
 MAY = re.compile(r"^It may import: (.*)\.$", re.MULTILINE)
 
 
@@ -86,7 +103,7 @@ def allowed(package):
 
 
 def files_in_python():
-    """The files in Python, with the scripts that start it. Folders that a clone ignores are left out."""
+    """The files in Python, with the scripts that start it, each once. Folders that a clone ignores are left out."""
     folders = [TOP / name for name in ("bench", "docs", "examples", "library", "manual", "package", "tests", "tools")]
     for path in [*TOP.iterdir(), *(path for folder in folders for path in folder.rglob("*"))]:
         if path.is_file() and (path.suffix == ".py" or not path.suffix and re.match(rb"#!.*python", path.read_bytes()[:80])):
@@ -97,6 +114,18 @@ def files_in_python():
 def parsed_files():
     """The path in the clone of each file in Python, and its tree."""
     return [(str(path.relative_to(TOP)), ast.parse(path.read_text())) for path in files_in_python()]
+
+
+def modules_of_other_folders(path, tree):
+    """What a file of tests/ or tools/tests imports from another folder of these than its own and tests/shared."""
+    folders = [TOP / "tools" / "tests", *(one for one in (TOP / "tests").iterdir() if one.is_dir() and one.name != "shared")]
+    own = TOP / Path(path).parent
+    elsewhere = {one.name for one in folders} | {module.stem for one in folders for module in one.glob("*.py")}
+    elsewhere -= {own.name, *(it.stem for it in own.iterdir()), *(it.name for it in TOP.iterdir())}
+    for node in ast.walk(tree):
+        asked = [node.module or ""] if isinstance(node, ast.ImportFrom) else [name.name for name in getattr(node, "names", [])]
+        if isinstance(node, (ast.Import, ast.ImportFrom)) and not getattr(node, "level", 0):
+            yield from (name for name in asked if name.partition(".")[0] in elsewhere)
 
 
 def imports(path):
@@ -120,28 +149,15 @@ def private_names(tree):
             yield f"{node.value.id}.{node.attr}"
 
 
-def bound_values(target, value):
-    """Each name of a target, and the text of its value; or of the whole value, if that has no part for each name."""
-    if isinstance(target, ast.Name):
-        yield target.id, ast.unparse(value)
-    elif isinstance(target, (ast.Tuple, ast.List)):
-        is_matched = isinstance(value, (ast.Tuple, ast.List)) and len(value.elts) == len(target.elts)
-        for each, part in zip(target.elts, value.elts if is_matched else itertools.repeat(value)):
-            yield from bound_values(each, part)
-    elif isinstance(target, ast.Starred):
-        yield from bound_values(target.value, value)
-
-
 def definitions(body):
-    """The names that a module or a class defines: those of classes and functions, and a constant's once for each of its values."""
-    values = set()
+    """The names that a module or a class defines: those of classes and functions, and a constant's for each statement that binds it."""
     for node in body:
         if isinstance(node, (ast.ClassDef, ast.FunctionDef, ast.AsyncFunctionDef)):
             yield node.name
         elif isinstance(node, (ast.Assign, ast.AnnAssign)) and node.value:
-            for target in node.targets if isinstance(node, ast.Assign) else [node.target]:
-                values.update(bound_values(target, node.value))
-    yield from (name for name, _ in sorted(values))
+            targets = node.targets if isinstance(node, ast.Assign) else [node.target]
+            names = [name for target in targets for name in ast.walk(target) if isinstance(name, ast.Name)]
+            yield from {name.id for name in names if isinstance(name.ctx, ast.Store)}
 
 
 def hidden_names(tree):
@@ -170,7 +186,7 @@ def may_be_none(value):
 
 def misnamed_functions(tree):
     """The generators that are named as functions with a returned value, and the functions that may return None or a value and don't say
-    so by their names."""
+    so by their types or names."""
     for function in ast.walk(tree):
         if not isinstance(function, (ast.FunctionDef, ast.AsyncFunctionDef)):
             continue
@@ -181,7 +197,8 @@ def misnamed_functions(tree):
             if re.search("_and_(return|yield|read)", function.name) and not is_context:
                 yield function.name
         elif any(map(may_be_none, returned)) and not all(isinstance(one, ast.Constant) or one is None for one in returned):
-            if not NONE.search(function.name) and function.name not in ALSO_NONE:
+            is_named = NONE.search(function.name) or function.name in ALSO_NONE
+            if not (is_named if function.returns is None else NONE_IN_TYPE.search(ast.unparse(function.returns))):
                 yield function.name
 
 
@@ -209,13 +226,13 @@ class Packages(unittest.TestCase):
                 self.assertEqual(list(private_names(tree)), [])
 
     def test_no_definition_hides_another(self):
-        self.assertEqual(sorted(hidden_names(ast.parse(HIDDEN))), ["A", "C", "E", "F", "b"])
+        self.assertEqual(sorted(hidden_names(ast.parse(HIDDEN))), ["A", "C", "D", "E", "F", "b"])
         for path, tree in parsed_files():
             with self.subTest(path=path):
                 self.assertEqual(list(hidden_names(tree)), [])
 
     def test_names_tell_generators_and_none(self):
-        planted = ["add_and_return_lines", "find_file", "answer"]
+        planted = ["add_and_return_lines", "find_file", "answer", "typed_or_none"]
         self.assertEqual(list(misnamed_functions(ast.parse(MISNAMED))), planted)
         for path, tree in parsed_files():
             with self.subTest(path=path):
@@ -230,6 +247,32 @@ class Packages(unittest.TestCase):
                 with self.subTest(path=path):
                     asked = [ast.unparse(node) for node in ast.walk(tree) if isinstance(node, ast.Attribute)]
                     self.assertNotIn("sys.path", asked)
+
+    def test_no_file_is_a_link(self):
+        """`rt ci` refuses a clone that has one."""
+        shown = subprocess.run(["git", "-C", TOP, "ls-files", "--stage"], capture_output=True, text=True)
+        if shown.returncode:
+            self.skipTest("git")
+        self.assertEqual([line for line in shown.stdout.splitlines() if line.startswith("120000")], [])
+
+    def test_tests_find_their_modules_in_one_way(self):
+        """Each adds tests/ and tools/, and only the folder of modules that it tests besides."""
+        for path, tree in parsed_files():
+            if path.startswith(("tests/", "tools/tests/")):
+                statements = {ast.unparse(node) for node in ast.walk(tree) if isinstance(node, ast.stmt)}
+                used = {one for one in statements if re.match(r"(del )?sys\.path\b", one)}
+                of_kind = OF_UNITS if "/test_" in path or "/tests/" in path else OF_FOLDERS if path.count("/") == 2 else OF_SCRIPTS
+                right = {ast.unparse(ast.parse(one)) for one in (of_kind, OF_TESTED.get(path, of_kind))}
+                with self.subTest(path=path):
+                    self.assertLessEqual(used, right)
+
+    def test_tests_import_what_their_folder_and_shared_have(self):
+        planted = ast.parse("import desk.device\nimport full, package\nfrom crashes import check_crashes\nfrom shared import counts\nimport laws")
+        self.assertEqual(list(modules_of_other_folders("tests/market/run", planted)), ["desk.device", "full", "crashes"])
+        for path, tree in parsed_files():
+            if path.startswith(("tests/", "tools/tests/")):
+                with self.subTest(path=path):
+                    self.assertEqual(list(modules_of_other_folders(path, tree)), [])
 
     def test_names_asked_of_modules_are_theirs(self):
         """Among others, in this file: the scan finds each stale name of STALE."""

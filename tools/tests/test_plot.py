@@ -121,7 +121,7 @@ class Pictures(unittest.TestCase):
             for day, number in ((auction, 19), (few, 8), (few, 19), (auction, 19), (auction, 3), (few, 19)):
                 for words_as_text in (True, False):
                     fresh = canvas.render_and_close(pictures.new_period_figure(day, number, width), "svg", words_as_text)
-                    self.assertEqual(canvas.render_and_close(sheet.draw_and_return_figure(day, number), "svg", words_as_text), fresh, (number, width))
+                    self.assertEqual(canvas.render_and_close(sheet.redraw(day, number), "svg", words_as_text), fresh, (number, width))
 
     def test_the_axes_of_small_volumes_and_of_no_orders(self):
         from lib.pictures import canvas, pictures
@@ -218,10 +218,10 @@ class Apart(unittest.TestCase):
     """matplotlib works in an empty folder of its own."""
 
     def test_the_working_folder_comes_back(self):
-        from lib.pictures import drawing
+        from lib.pictures import matplotlib_settings
 
         before = os.getcwd()
-        with drawing.empty_settings():
+        with matplotlib_settings.empty_settings():
             self.assertNotEqual(os.getcwd(), before)
             self.assertEqual((os.listdir("."), os.environ["MPLCONFIGDIR"]), ([], os.getcwd()))
         self.assertEqual(os.getcwd(), before)
@@ -229,7 +229,7 @@ class Apart(unittest.TestCase):
 
     def test_a_working_folder_that_may_not_be_searched(self):
         """None of its files can be read, so it may stay."""
-        from lib.pictures import drawing
+        from lib.pictures import matplotlib_settings
 
         before, opened = os.getcwd(), os.open
 
@@ -238,7 +238,7 @@ class Apart(unittest.TestCase):
                 raise PermissionError
             return opened(path, *others, **more)
 
-        with mock.patch.object(drawing.os, "open", refused), drawing.empty_settings():
+        with mock.patch.object(matplotlib_settings.os, "open", refused), matplotlib_settings.empty_settings():
             self.assertEqual(os.getcwd(), before)
             self.assertEqual(os.listdir(os.environ["MPLCONFIGDIR"]), [])
 

@@ -7,7 +7,7 @@ from unittest import mock
 
 import support  # noqa: F401 (it makes lib found)
 
-from lib.base.progress import StepBar, Progress
+from lib.process.progress import Progress, StepBar
 
 
 class Terminal(io.StringIO):
@@ -62,8 +62,10 @@ class Time(unittest.TestCase):
         with self.assertRaisesRegex(TimeoutError, "^after 0 seconds, 0 of 0 selections have been tried: --seconds gives"):
             Progress("audit", 0).count_and_show_or_raise()
         progress = Progress("audit", 60)
-        progress.count_and_show_or_raise()
-        with mock.patch("time.monotonic", lambda: progress.begun + 60), self.assertRaisesRegex(TimeoutError, "^after 60 seconds, "):
+        progress.begun = 8  # a sum with the system's own time may be rounded
+        with mock.patch("time.monotonic", lambda: 67):
+            progress.count_and_show_or_raise()
+        with mock.patch("time.monotonic", lambda: 68), self.assertRaisesRegex(TimeoutError, "^after 60 seconds, "):
             progress.count_and_show_or_raise()
 
     def test_the_share_of_selections_that_were_tried_is_said(self):

@@ -5,9 +5,12 @@ import sys
 import tempfile
 import unittest
 from pathlib import Path
+from unittest import mock
 
-from support import TOOLS, load_tool, run_tool
+from support import TOOLS, run_tool
 
+from lib.crates import reading_lists, theorem
+from lib.crates.specs import Repository
 from lib.tool import exits
 
 CRATES = "upper: lower\nlower:\ndam_engines: upper lower\ndam_gate: lower\ndam_c: dam_engines\n"
@@ -104,11 +107,10 @@ class ReadingList(unittest.TestCase):
 
     def few(self, names):
         """The output of the tool for the few definitions with these names in the repository of this test."""
-        module = load_tool("reading-list")
-        module.FIRST = {"run_clear": {"Sizes": names}}
-        with tempfile.TemporaryDirectory() as folder:
+        first = mock.patch.object(reading_lists, "FIRST", {"run_clear": {"Sizes": names}})
+        with first, tempfile.TemporaryDirectory() as folder:
             self.repository(folder)
-            return module.few_text(module.Repository(Path(folder)))
+            return reading_lists.read_few_text(Repository(Path(folder)))
 
     def test_a_few_definitions_are_printed_with_the_sentence_above_them(self):
         self.assertEqual(self.few(["IsSize"]), "-- a size\nabbrev pub IsSize : ℕ → Type 0\nIsSize n = n ≤ greatest\n")
@@ -141,15 +143,14 @@ pub fn law()
     ensures { ⊥ → ⊥ }
 {}
 """
-        self.assertEqual(load_tool("reading-list").count_clause_lines(text), 5)
+        self.assertEqual(theorem.count_clause_lines(text), 5)
 
     def theorem(self, listed, others, is_printed=True):
         """The tool's theorem with these definitions in the repository of this test."""
-        module = load_tool("reading-list")
-        module.THEOREM = {"run_clear": (is_printed, listed, others)}
-        with tempfile.TemporaryDirectory() as folder:
+        whole = mock.patch.object(theorem, "THEOREM", {"run_clear": (is_printed, listed, others)})
+        with whole, tempfile.TemporaryDirectory() as folder:
             self.repository(folder)
-            return module.theorem_text(module.Repository(Path(folder)))
+            return theorem.read_theorem_text(Repository(Path(folder)))
 
     def test_the_theorem_has_the_listed_definitions_and_the_sentences_of_others(self):
         text = self.theorem(["Printed"], ["IsSize"])
@@ -176,11 +177,9 @@ pub fn law()
         self.assertEqual(run_tool("reading-list", "--check"), (0, b"", ""))
 
     def test_lists_that_are_right_are_not_written_again(self):
-        module = load_tool("reading-list")
-
-        def renewed(text, theorem, sizes):
-            parts = {"theorem": (lambda _: theorem, str.__eq__), "sizes": (lambda _: sizes, module.is_near)}
-            return module.page_and_whether_right(None, text, parts)
+        def renewed(text, contracts, sizes):
+            parts = {"theorem": (lambda _: contracts, str.__eq__), "sizes": (lambda _: sizes, theorem.is_near)}
+            return theorem.read_page_and_whether_right(None, text, parts)
 
         page = PAGE % ("one\n", "| 100 |\n")
         self.assertEqual(renewed(page, "one\n", "| 100 |\n"), (page, True))
@@ -190,7 +189,6 @@ pub fn law()
 
     def test_the_page_of_definitions(self):
         """Every definition of a module needs a sentence, also one that the page leaves out."""
-        module = load_tool("reading-list")
         with tempfile.TemporaryDirectory() as folder:
             self.repository(folder)
             sizes = Path(folder, "crates/lower/specs/Sizes.antt")
@@ -199,15 +197,15 @@ pub fn law()
                     path = Path(folder, f"crates/{crate}/specs/{name}.antt")
                     text = path.read_text().replace("abbrev", "-- something\nabbrev").replace("pub record", "-- a rule\npub record")
                     path.write_text("-- About it.\n" + text.replace("-- a size\n-- something", "-- a size"))
-            page = module.definitions_text(module.Repository(Path(folder)))
+            page = reading_lists.read_definitions_text(Repository(Path(folder)))
             self.assertIn("\n## `lower/specs/Sizes.antt`\n\nAbout it.\n\n- `IsSize`: a size\n- `other`: something\n\n", page)
             self.assertIn("## `upper/specs/Rule.antt`\n\nAbout it.\n\n- `Rule`: a rule\n", page)
             sizes.write_text(sizes.read_text() + "\nabbrev pub spare : ℕ\nspare = 1\n")
             with self.assertRaisesRegex(Exception, "^crates/lower/specs/Sizes.antt says nothing above spare$"):
-                module.definitions_text(module.Repository(Path(folder)))
+                reading_lists.read_definitions_text(Repository(Path(folder)))
 
     def test_sizes_may_differ_by_a_tenth(self):
-        is_near = load_tool("reading-list").is_near
+        is_near = theorem.is_near
         self.assertTrue(is_near("| `a_1` | 1,000 | 0 |\n", "| `a_1` | 1,100 | 0 |\n"))
         self.assertFalse(is_near("| 1,000 |", "| 1,200 |"))
         self.assertFalse(is_near("| 0 |", "| 1 |"))

@@ -281,24 +281,24 @@ class Receipts(unittest.TestCase):
                 path.write_bytes(heads.line_bytes_of(seal.require_extension(published[size], last)))
                 line = heads.line_bytes_of(seal.receipt(size, published[size]))
                 self.assertEqual(verdict_of(line, last, self.public), receipts.UNDECIDED)
-                self.assertEqual(verdict_of(line, last, self.public, receipts.Links([path], self.public, [])), receipts.RIGHT)
+                self.assertEqual(verdict_of(line, last, self.public, receipts.OperatorStatements([path], self.public, [])), receipts.RIGHT)
             # A published head that ends before an entry, and one that has it.
             early = heads.line_bytes_of(seal.receipt(3, published[5]))
-            links = receipts.Links([], self.public, [])
-            self.assertEqual(verdict_of(early, published[2], self.public, links), receipts.WRONG)
-            self.assertEqual(verdict_of(early, published[3], self.public, links), receipts.UNDECIDED)
+            statements = receipts.OperatorStatements([], self.public, [])
+            self.assertEqual(verdict_of(early, published[2], self.public, statements), receipts.WRONG)
+            self.assertEqual(verdict_of(early, published[3], self.public, statements), receipts.UNDECIDED)
             path.write_bytes(heads.line_bytes_of(seal.require_extension(published[2], published[5])))
-            self.assertEqual(verdict_of(early, published[2], self.public, receipts.Links([path], self.public, [])), receipts.WRONG)
+            self.assertEqual(verdict_of(early, published[2], self.public, receipts.OperatorStatements([path], self.public, [])), receipts.WRONG)
             path.write_bytes(heads.line_bytes_of(seal.require_extension(published[3], published[5])))
-            self.assertEqual(verdict_of(early, published[3], self.public, receipts.Links([path], self.public, [])), receipts.RIGHT)
+            self.assertEqual(verdict_of(early, published[3], self.public, receipts.OperatorStatements([path], self.public, [])), receipts.RIGHT)
             steps = []
             for size in range(1, last.size):
                 steps.append(Path(folder, f"{size}.json"))
                 steps[-1].write_bytes(heads.line_bytes_of(seal.require_extension(published[size], published[size + 1])))
-            links = receipts.Links(steps, self.public, [])
-            self.assertEqual(verdict_of(heads.line_bytes_of(seal.receipt(1, published[1])), last, self.public, links), receipts.RIGHT)
-            self.assertEqual(links.verdict_and_words_on_two(published[0], last)[0], receipts.RIGHT)
-            broken = receipts.Links(steps[1:], self.public, [])
+            statements = receipts.OperatorStatements(steps, self.public, [])
+            self.assertEqual(verdict_of(heads.line_bytes_of(seal.receipt(1, published[1])), last, self.public, statements), receipts.RIGHT)
+            self.assertEqual(statements.verdict_and_text_on_two(published[0], last)[0], receipts.RIGHT)
+            broken = receipts.OperatorStatements(steps[1:], self.public, [])
             self.assertEqual(verdict_of(heads.line_bytes_of(seal.receipt(1, published[1])), last, self.public, broken), receipts.UNDECIDED)
 
     def test_a_fork_shows_nothing_of_its_other_end(self):
@@ -311,11 +311,17 @@ class Receipts(unittest.TestCase):
         self.assertEqual(one.salt(1), other.salt(1))
         self.assertNotEqual(one.salt(2), other.salt(2))
 
+    def test_each_journal_has_a_secret_of_its_own(self):
+        """Each of its 32 bytes is drawn: it has many values in 64 journals."""
+        drawn = [sealing.draw_salts(DAY).secret for _ in range(64)]
+        self.assertEqual({len(secret) for secret in drawn}, {32})
+        self.assertGreater(min(len(set(values)) for values in zip(*drawn)), 16)
+
     def test_two_journals_of_one_day(self):
         heads_of = [sealed_of(data, key=self.key).signed_head() for data in (FIRST, FIRST)]
-        self.assertEqual(receipts.Links([], self.public, []).verdict_and_words_on_two(*heads_of)[0], receipts.WRONG)
+        self.assertEqual(receipts.OperatorStatements([], self.public, []).verdict_and_text_on_two(*heads_of)[0], receipts.WRONG)
         days = [sealed_of(data, key=self.key).signed_head() for data in (AUCTION.read_bytes(), QUARTERS.read_bytes())]
-        self.assertEqual(receipts.Links([], self.public, []).verdict_and_words_on_two(*days)[0], receipts.WRONG)
+        self.assertEqual(receipts.OperatorStatements([], self.public, []).verdict_and_text_on_two(*days)[0], receipts.WRONG)
 
     def test_the_example_of_the_formats(self):
         page = (TOP / "docs" / "FORMATS.md").read_text()
@@ -472,25 +478,25 @@ class Receipts(unittest.TestCase):
         with tempfile.TemporaryDirectory() as folder:
             path, findings = Path(folder, "extension.json"), []
             path.write_bytes(heads.line_bytes_of(right))
-            self.assertTrue(receipts.Links([path], self.public, findings).has_path(early, last))
+            self.assertTrue(receipts.OperatorStatements([path], self.public, findings).has_path(early, last))
             self.assertEqual(findings, [])
             for changed in [*changes, *foreign]:
                 path.write_bytes(heads.line_bytes_of(changed))
                 findings = []
-                links = receipts.Links([path], self.public, findings)
+                statements = receipts.OperatorStatements([path], self.public, findings)
                 with self.subTest(changed):
-                    self.assertFalse(links.earlier)
+                    self.assertFalse(statements.earlier)
                     (finding,) = findings
                     self.assertEqual(finding.verdict, receipts.WRONG if changed in foreign else receipts.UNDECIDED)
                     self.assertIn("isn't signed by this key" if changed in foreign else "doesn't connect its heads", str(finding))
-                    self.assertTrue(changed in foreign or not links.has_path(early, last))
+                    self.assertTrue(changed in foreign or not statements.has_path(early, last))
 
     def test_the_empty_journal_is_the_beginning_of_those_of_its_day(self):
         empty = sealing.Seal(DAY, 24, sealing.draw_salts(DAY), self.key).signed_head()
-        head, links = sealed_of(AUCTION.read_bytes(), key=self.key).signed_head(), receipts.Links([], self.public, [])
-        self.assertEqual(links.verdict_and_words_on_two(empty, head)[0], receipts.RIGHT)
-        self.assertEqual(links.verdict_and_words_on_two(empty._replace(day="2026-11-29"), head)[0], receipts.UNREAD)
-        self.assertEqual(links.verdict_and_words_on_two(empty._replace(periods=25), head)[0], receipts.WRONG)
+        head, statements = sealed_of(AUCTION.read_bytes(), key=self.key).signed_head(), receipts.OperatorStatements([], self.public, [])
+        self.assertEqual(statements.verdict_and_text_on_two(empty, head)[0], receipts.RIGHT)
+        self.assertEqual(statements.verdict_and_text_on_two(empty._replace(day="2026-11-29"), head)[0], receipts.UNREAD)
+        self.assertEqual(statements.verdict_and_text_on_two(empty._replace(periods=25), head)[0], receipts.WRONG)
 
 
 def raw_of(public):
@@ -547,9 +553,9 @@ class Command(InFolder):
         self.run_tool(0, "extend", "b", "c.csv", "c.txt", "--key", "key.pem", "-o", "c")
         early = sorted(Path("a/receipts").iterdir())
         self.assertIn("no extension shows that the head of 2026-11-28 with", self.verify(4, *early, head="c/head.json"))
-        links = ["--extension", "b/extension.json", "--extension", "c/extension.json"]
-        self.verify(0, *early, *links, head="c/head.json")
-        self.run_tool(0, "heads", "a/head.json", "c/head.json", "b/head.json", *links, "--key", "key.pem.pub")
+        statements = ["--extension", "b/extension.json", "--extension", "c/extension.json"]
+        self.verify(0, *early, *statements, head="c/head.json")
+        self.run_tool(0, "heads", "a/head.json", "c/head.json", "b/head.json", *statements, "--key", "key.pem.pub")
         self.run_tool(4, "heads", "a/head.json", "c/head.json", "--key", "key.pem.pub")
         # A journal that doesn't begin with the sealed one.
         Path("d.csv").write_bytes(b"".join([lines[0], *lines[2:]]))

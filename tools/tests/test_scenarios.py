@@ -18,7 +18,7 @@ from support import AUCTION, TOOLS, journal_of, make_folder_for_case, results_of
 from lib.base import rules, text
 from lib.journal import book, journal
 from lib.runs import cleared, cluster, errors, which
-from lib.sheets import table_files
+from lib.tables import table_files
 from lib.tool import exits, modules
 from lib.whatif import changes, scenarios
 
@@ -195,7 +195,7 @@ class Distribution(unittest.TestCase):
     @unittest.skipUnless(modules.has_module("matplotlib"), "matplotlib is missing (Debian's python3-matplotlib)")
     def test_the_median_of_a_picture(self):
         """Of quarter-hours it is a fourth."""
-        from lib.pictures.drawing import pyplot
+        from lib.pictures.matplotlib_settings import pyplot
         from lib.whatif import scenario_picture
 
         for periods, median in ((24, "10.00"), (96, "2.50")):

@@ -294,7 +294,7 @@ class Drawn(unittest.TestCase):
             read = journal.parse_journal(days.draw_text(rng, 8))
             commands = [entry for entry in read.commands if getattr(entry, "who", None) == "A"]
             if commands:
-                yield rng, read, [sent.Sent(at, entry) for at, entry in enumerate(commands, 1)]
+                yield rng, read, [sent.SentCommand(at, entry) for at, entry in enumerate(commands, 1)]
 
     def differences(self, read, own):
         return sent.difference_faults(own, sent.own_entries(read, book.book_and_refusals(read)[1], "A"))
@@ -317,12 +317,12 @@ class Drawn(unittest.TestCase):
             at = rng.randrange(len(own))
             gone, entry = own[:at] + own[at + 1 :], own[at]
             self.check(read, gone, "was not sent|repeats what was sent")
-            self.check(read, own[:at] + [sent.Sent(99, journal.Cancel("A", "NOWHERE"))] + own[at:], "sent record 99 is missing")
-            self.check(read, own[:at] + [sent.Sent(99, entry.command)] + own[at:], r"sent record \d+ is (missing|moved)")
+            self.check(read, own[:at] + [sent.SentCommand(99, journal.Cancel("A", "NOWHERE"))] + own[at:], "sent record 99 is missing")
+            self.check(read, own[:at] + [sent.SentCommand(99, entry.command)] + own[at:], r"sent record \d+ is (missing|moved)")
             if not isinstance(entry.command, journal.Cancel):
                 other = self.changed(entry.command)
                 if all(one.command != other for one in own):
-                    self.check(read, own[:at] + [sent.Sent(99, other)] + own[at + 1 :], "sent record 99 is changed")
+                    self.check(read, own[:at] + [sent.SentCommand(99, other)] + own[at + 1 :], "sent record 99 is changed")
             if len(own) > 1 and entry.command not in [one.command for one in gone]:
                 elsewhere = rng.choice([place for place in range(len(own)) if place != at])
                 self.check(read, gone[:elsewhere] + [entry] + gone[elsewhere:], "is moved")
@@ -339,9 +339,9 @@ class Drawn(unittest.TestCase):
 
     def test_long_lists(self):
         """Many equal commands, and two lists with nothing in common, take no long time."""
-        cancels = [sent.Sent(at, journal.Cancel("A", f"N{at % 3}")) for at in range(1, 9_000)]
-        others = [sent.Entry(at, journal.Cancel("A", f"M{at}"), None) for at in range(2, 9_000)]
-        published = [sent.Entry(one.record + 1, one.command, "UnknownOrder") for one in cancels]
+        cancels = [sent.SentCommand(at, journal.Cancel("A", f"N{at % 3}")) for at in range(1, 9_000)]
+        others = [sent.JournalCommand(at, journal.Cancel("A", f"M{at}"), None) for at in range(2, 9_000)]
+        published = [sent.JournalCommand(one.record + 1, one.command, "UnknownOrder") for one in cancels]
         self.assertEqual(sent.difference_faults(cancels, published), [])
         self.assertEqual(len(sent.difference_faults(cancels[:4_000] + cancels[4_001:], published)), 1)
         self.assertEqual(len(sent.difference_faults(cancels, others)), len(cancels) + len(others))
@@ -363,12 +363,12 @@ class Drawn(unittest.TestCase):
             ([few, rng.sample(few, count)], count),
         ):
             began = time.process_time()
-            found = sent.difference_faults([sent.Sent(at, entry) for at, entry in enumerate(own[0], 1)],
-                                     [sent.Entry(at, entry, None) for at, entry in enumerate(own[1], 2)])
+            found = sent.difference_faults([sent.SentCommand(at, entry) for at, entry in enumerate(own[0], 1)],
+                                     [sent.JournalCommand(at, entry, None) for at, entry in enumerate(own[1], 2)])
             self.assertLess(time.process_time() - began, 10)
             self.assertEqual({fault.kind for fault in found}, {"moved"})
             self.assertLessEqual(len(found), most)
-        self.assertEqual(len(sent.difference_faults([sent.Sent(1, one), sent.Sent(2, other)], [sent.Entry(2, other, None)])), 1)
+        self.assertEqual(len(sent.difference_faults([sent.SentCommand(1, one), sent.SentCommand(2, other)], [sent.JournalCommand(2, other, None)])), 1)
 
     def test_the_time_that_the_comparison_may_take(self):
         words = ["--seconds", "0", "--json"]

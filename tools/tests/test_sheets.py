@@ -14,7 +14,7 @@ from support import AUCTION, AUCTION_RESULTS, TOP, journal_of, read_results, res
 
 from lib.base import clock, rules, text
 from lib.journal import journal
-from lib.sheets import cell_values, command_table, order_table, table_files
+from lib.tables import cell_values, command_table, order_table, table_files
 from lib.tool import exits, modules
 
 HEADER = "participant,order,kind,side,price_eur_mwh,periods,volume_mw,parent,group"
@@ -54,6 +54,7 @@ class Columns(unittest.TestCase):
         """Orders would lose their groups or parents."""
         for heading, name in (
             ("exclusive_group", "group"), ("group_name", "group"), ("Exclusive Group", "group"), ("parent_name", "parent"), ("linked to", "parent"),
+            ("excl grp", "group"), ("exgrp", "group"), ("depends_on", "parent"), ("Predecessor", "parent"),
             ("exclusive", "group"), ("Exclusive with", "group"), ("exclusion", "group"), ("exlusive", "group"), ("exclusive parent", "parent"),
         ):  # fmt: skip
             header = HEADER.removesuffix(",parent,group")
@@ -251,7 +252,7 @@ class ForSpreadsheets(unittest.TestCase):
             ("a;b, -c; d", "a;b, -c; d"),
         ):
             for decimal_comma in (False, True):
-                out = table_files.table_text([["scenario", "period"], [name, 1]], decimal_comma)
+                out = table_files.csv_text([["scenario", "period"], [name, 1]], decimal_comma)
                 rows = list(csv.reader(io.StringIO(out, newline=""), delimiter=";" if decimal_comma else ","))
                 self.assertEqual(rows[1], [shown, "1"])
             self.assertEqual(table_files.unescaped(shown), name)

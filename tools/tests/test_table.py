@@ -16,7 +16,7 @@ from support import AUCTION, AUCTION_RESULTS, FIRST, QUARTERS, QUARTERS_RESULTS,
 
 from lib.base import rules, text
 from lib.journal import book, journal
-from lib.sheets import command_table, day_tables, order_table, table_files
+from lib.tables import command_table, day_tables, order_table, table_files
 from lib.tool import exits, modules, output
 
 HEADER = "participant,order,kind,side,price_eur_mwh,periods,volume_mw,parent,group"
@@ -87,7 +87,7 @@ class Results(unittest.TestCase):
 
     def test_the_table_of_orders_makes_the_same_book(self):
         for day in self.days():
-            text = table_files.table_text(day_tables.order_rows(day)).encode()
+            text = table_files.csv_text(day_tables.order_rows(day)).encode()
             again = order_table.parse_journal_of_orders(text, day.problem.periods, True)
             made, reasons = book.book_and_refusals(again)
             self.assertEqual(set(reasons), {None})

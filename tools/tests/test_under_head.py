@@ -216,8 +216,8 @@ class Audit(Audited):
         finding = receipts.Finding("f", 1, receipts.RIGHT, "", seal.receipt(1, seal.signed_head()))
         read = journal.parse_journal(b"day,24,,,,,,,\n" + b"cancel,A,B,,,,,,\n" * count)
         signed = under_head.UnderHead(None, seal.signed_head(), seal.salts, read, book.book_and_refusals(read)[1], [finding] * count)
-        with mock.patch.object(signed, "lacked_entry_words_or_none", side_effect=AssertionError):
-            proofs = {signed.proof_words(one) for one in read.commands}
+        with mock.patch.object(signed, "lacked_entry_text", side_effect=AssertionError):
+            proofs = {signed.proof_text(one) for one in read.commands}
         self.assertEqual(proofs, {"; no receipt proves that the operator had it"})
 
     def test_the_audit_of_other_heads(self):

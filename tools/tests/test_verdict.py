@@ -174,8 +174,8 @@ class Record(unittest.TestCase):
             self.assertEqual((ran.returncode, made["verdict"]), (exits.FAILED, "failed"), files)
             self.assertEqual(ran.stderr.decode(), f"audit: {made['message']}\n")
         text = (TOOLS / "audit").read_text()
-        (start,) = re.findall(r"^from lib\.base import audit_record.*\n\nending\.last_duties\.append.*$", text, re.MULTILINE)
-        run = f"from lib.base import ending\nending.guard_tool('audit')\n{start}\nraise MemoryError"
+        (start,) = re.findall(r"^from lib\.audit import record.*\n.*\n\nending\.last_duties\.append.*$", text, re.MULTILINE)
+        run = f"from lib.process import ending\nending.guard_tool('audit')\n{start}\nraise MemoryError"
         for more, keys in ([], {"verdict", "search", "inputs"}), (["--days", "x"], {"counts", "days"}), (["--days=x"], {"counts", "days"}):
             ran = subprocess.run([sys.executable, "-B", "-c", run, "--json", *more], cwd=TOOLS, capture_output=True)
             made = json.loads(ran.stdout)

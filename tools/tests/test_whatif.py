@@ -18,11 +18,11 @@ import support
 from support import AUCTION, AUCTION_RESULTS, FIRST, QUARTERS, QUARTERS_RESULTS
 from support import journal_of, make_folder_for_case, read_results, rows_of_csv, run_tool
 
-import compare
+from shared import right_output
 from lib.base import rules, text
 from lib.journal import book, journal
 from lib.runs import by_program, cleared, engine, errors, which
-from lib.sheets import day_tables, order_table
+from lib.tables import day_tables, order_table
 from lib.tool import exits, modules
 from lib.whatif import changes, limits, scenarios
 from test_many import ends
@@ -42,7 +42,7 @@ def search(*lines, key, periods=24):
 
 def best(text):
     """The places that the rules accept, by trying each selection."""
-    out = compare.right_results_or_none(journal.parse_journal(text)).stdout
+    out = right_output.right_results_or_none(journal.parse_journal(text)).stdout
     words = [line.split(",")[3] for line in out.decode().splitlines() if line.startswith("block,")]
     return {place for place, word in enumerate(words) if word == "accepted"}
 

@@ -1,14 +1,7 @@
 -- Whether the links and the groups admit a selection is decided.
-use Rattle.std.proofs.Common.{◌≡◌, inl, inr, ℕ, zero, suc, ◌<◌, ◌≤◌, Bool, true, Option, Some, None, List, [], ◌∷◌, length, sym, subst}
-use Rattle.std.proofs.Common.{refl, arith}
+use Rattle.dam_blocks.proofs.Common.{◌≡◌, inl, inr, ℕ, zero, suc, ◌<◌, ◌≤◌, Bool, true, Option, Some, None, List, [], ◌∷◌, length, sym, subst, refl, arith}
+use Rattle.dam_blocks.proofs.Common.{cases_lt, slice_get_within, map_dec, most_of_group, Block, IsParent, accepts, accepted_of_group, IsAllowed, IsAdmissible}
 use Rattle.std.specs.List.{slice_get}
-use Rattle.std.proofs.lemmas.Bool.{cases_lt}
-use Rattle.std.proofs.lemmas.Option.{slice_get_within}
-use Rattle.std.proofs.Math.Decide.{map_dec}
-use Rattle.dam_book.specs.Limits.{most_of_group}
-use Rattle.dam_blocks.specs.declared.problem.Block.{Block}
-use Rattle.dam_blocks.specs.Problem.{IsParent}
-use Rattle.dam_blocks.specs.Selection.{accepts, accepted_of_group, IsAllowed, IsAdmissible}
 use Rattle.dam_blocks.proofs.Deciding.{decided_both, decided_if, decided_text, decided_true, decided_some_text, decided_below, decided_each, decided_at}
 
 decided_parent : (p b : Block) → Dec (IsParent p b)

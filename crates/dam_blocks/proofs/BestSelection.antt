@@ -1,10 +1,9 @@
 -- A selection that ranks above another has more welfare or accepts first, and the result ranks above each other
 -- eligible selection.
-use Rattle.std.proofs.Common.{◌≡◌, ◌≢◌, ◌<◌, ◌↔◌, ◌⊎◌, inl, inr, ℤ, ◌<ℤ◌, Bool, true, List, ◌∙◌, sym, subst, arith}
-use Rattle.std.proofs.lemmas.Int.{ints, by_lt_z}
-use Rattle.dam_blocks.specs.Problem.{ProblemState}
-use Rattle.dam_blocks.specs.Eligible.{IsEligible}
-use Rattle.dam_blocks.specs.Result.{accepts_first, RanksAbove, RanksAtOrBelow, IsResult}
+use Rattle.dam_blocks.proofs.Common.{◌≡◌, ◌≢◌, ◌<◌, ◌↔◌, ◌⊎◌, inl, inr, ℤ, Bool, true, List, ◌∙◌, sym, subst, arith, ints, by_lt_z, ProblemState, IsEligible}
+use Rattle.dam_blocks.proofs.Common.{accepts_first, RanksAtOrBelow, IsResult}
+use Rattle.std.proofs.Common.{◌<ℤ◌}
+use Rattle.dam_blocks.specs.Result.{RanksAbove}
 use Rattle.dam_blocks.proofs.Ranks.{ranks_self, ranks_either, ranks_apart, above_below, same_rank}
 use Rattle.dam_blocks.proofs.Verdicts.{one_welfare}
 

@@ -1,22 +1,11 @@
 -- In another order of the blocks, each eligible selection has its counterpart, which accepts the same blocks.
-use Rattle.std.proofs.Common.{◌≡◌, inl, inr, ℕ, zero, suc, ◌+◌, ◌<◌, ◌≤◌, ℤ, pos, ◌+ℤ◌, ◌≤ℤ◌, Bool, true, false, ◌&&◌, cond, Option}
-use Rattle.std.proofs.Common.{Some, List, [], ◌∷◌, length, ap, ap₂, ◌∙◌, sym, subst, refl, arith}
+use Rattle.dam_blocks.proofs.Common.{◌≡◌, inl, inr, ℕ, zero, suc, ◌+◌, ◌<◌, ◌≤◌, ℤ, pos, ◌+ℤ◌, ◌≤ℤ◌, Bool, true, false, ◌&&◌, cond, Option, Some, List, [], ◌∷◌}
+use Rattle.dam_blocks.proofs.Common.{length, ap, ap₂, ◌∙◌, sym, subst, refl, arith, option_map, unwrap_or, ints, cases_lt, slice_get_within, most_of_group}
+use Rattle.dam_blocks.proofs.Common.{BlockTerms, Step, Block, ProblemState, IsProblem, IsParent, accepts, over_accepted, net_volume_of_block, value_in}
+use Rattle.dam_blocks.proofs.Common.{are_of_one_group, accepted_of_group, IsAllowed, IsAdmissible, descends, accepted_where, accepted_descendants, IsChildAt}
+use Rattle.dam_blocks.proofs.Common.{Descends, Child, OfChild, ArePrices, surplus_of, surplus_at, HasNoLoss, welfare_from, IsEligible, IsResult}
 use Rattle.std.specs.List.{slice_get}
-use Rattle.std.specs.Option.{option_map, unwrap_or}
-use Rattle.std.proofs.lemmas.Int.{ints}
-use Rattle.std.proofs.lemmas.Bool.{cases_lt}
-use Rattle.std.proofs.lemmas.Option.{slice_get_within}
 use Rattle.std.proofs.lemmas.List.Sorted.{IsPermutation-sym}
-use Rattle.dam_book.specs.Limits.{most_of_group}
-use Rattle.dam_book.specs.Terms.{BlockTerms}
-use Rattle.dam_hour.specs.declared.step.Step.{Step}
-use Rattle.dam_blocks.specs.declared.problem.Block.{Block}
-use Rattle.dam_blocks.specs.Problem.{ProblemState, IsProblem, IsParent}
-use Rattle.dam_blocks.specs.Selection.{accepts, over_accepted, net_volume_of_block, value_in, are_of_one_group, accepted_of_group}
-use Rattle.dam_blocks.specs.Selection.{IsAllowed, IsAdmissible}
-use Rattle.dam_blocks.specs.Family.{descends, accepted_where, accepted_descendants, IsChildAt, Descends, Child, OfChild}
-use Rattle.dam_blocks.specs.Eligible.{ArePrices, surplus_of, surplus_at, HasNoLoss, welfare_from, IsEligible}
-use Rattle.dam_blocks.specs.Result.{IsResult}
 use Rattle.dam_blocks.specs.Changes.{AcceptTheSame, HasBlocksReordered}
 use Rattle.dam_blocks.proofs.Families.{accepts_descendant}
 use Rattle.dam_blocks.proofs.Descending.{descends_is}

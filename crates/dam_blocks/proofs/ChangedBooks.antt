@@ -1,14 +1,9 @@
 -- Two books that differ in a block, or in its limit, have problems that differ in the same.
-use Rattle.std.proofs.Common.{◌≡◌, ℕ, zero, suc, ℤ, Some, List, [], ◌∷◌, ◌++◌, length, slice_set, ap, ap₂, ◌∙◌, sym, refl}
+use Rattle.dam_blocks.proofs.Common.{◌≡◌, ℕ, zero, suc, ℤ, Some, List, [], ◌∷◌, ◌++◌, length, slice_set, ap, ap₂, ◌∙◌, sym, refl, filter_map-append, BlockTerms}
+use Rattle.dam_blocks.proofs.Common.{Key, Row, BookState, Step, Block, step_in, steps_in, hours_from, blocks_in, problem_of, with_limit, IsWithLimit}
 use Rattle.std.specs.List.{slice_get, remove}
-use Rattle.std.proofs.lemmas.List.Elements.{filter_map-append}
-use Rattle.dam_book.specs.Terms.{BlockTerms}
-use Rattle.dam_book.specs.Book.{Key, Row, BookState}
 use Rattle.dam_book.specs.declared.order.Order.TheVariants.{Block as BlockVariant}
-use Rattle.dam_hour.specs.declared.step.Step.{Step}
-use Rattle.dam_blocks.specs.declared.problem.Block.{Block}
-use Rattle.dam_blocks.specs.Problem.{step_in, steps_in, hours_from, blocks_in, problem_of}
-use Rattle.dam_blocks.specs.Changes.{IsWithoutBlock, with_limit, IsWithLimit}
+use Rattle.dam_blocks.specs.Changes.{IsWithoutBlock}
 use Rattle.dam_blocks.proofs.FromBook.{blocks-append, get_seam}
 
 abbrev pub block_at : Key → BlockTerms → Block

@@ -1,18 +1,12 @@
 -- Every list of acceptances is just one of the numbered choices.
-use Rattle.std.proofs.Common.{◌≡◌, ℕ, zero, suc, ◌+◌, ◌-◌, ◌*◌, ◌%◌, ◌^◌, ◌<◌, ◌≤◌, ℤ, Bool, true, false, cond, nat_lt, inl, inr, List, []}
-use Rattle.std.proofs.Common.{◌∷◌, ◌++◌, length, replicate, take, drop, append_assoc, length-append, ap, ap₂, ◌∙◌, sym, subst, refl, arith}
-use Rattle.std.proofs.lemmas.Bool.Decides.{nat_tests}
+use Rattle.dam_blocks.proofs.Common.{◌≡◌, ℕ, zero, suc, ◌+◌, ◌-◌, ◌*◌, ◌%◌, ◌^◌, ◌<◌, ◌≤◌, ℤ, Bool, true, false, cond, nat_lt, inl, inr, List, [], ◌∷◌, ◌++◌}
+use Rattle.dam_blocks.proofs.Common.{length, replicate, take, drop, append_assoc, length-append, ap, ap₂, ◌∙◌, sym, subst, refl, arith, nat_tests, most_blocks}
+use Rattle.dam_blocks.proofs.Common.{cases_lt, slice_get_within, ProblemState, IsProblem, accepts, padded, choice, IsAdmissible, IsEligible, RanksAtOrBelow}
+use Rattle.dam_blocks.proofs.Common.{IsResult}
 use Rattle.std.proofs.lemmas.List.{get_or-drop, length-drop, length-take-le, take-append-drop}
 use Rattle.std.proofs.Math.ListN.{set}
 use Rattle.std.proofs.Math.Nat.{two-pow-succ, mod-eq_of_lt}
 use Rattle.std.proofs.lemmas.Nat.{pow_pos, pow_below}
-use Rattle.dam_book.specs.Limits.{most_blocks}
-use Rattle.std.proofs.lemmas.Bool.{cases_lt}
-use Rattle.std.proofs.lemmas.Option.{slice_get_within}
-use Rattle.dam_blocks.specs.Problem.{ProblemState, IsProblem}
-use Rattle.dam_blocks.specs.Selection.{accepts, padded, choice, IsAdmissible}
-use Rattle.dam_blocks.specs.Eligible.{IsEligible}
-use Rattle.dam_blocks.specs.Result.{RanksAtOrBelow, IsResult}
 use Rattle.dam_blocks.proofs.Ranks.{ranks_trans}
 
 lt_true : (a b : ℕ) → a < b → nat_lt a b ≡ true

@@ -1,11 +1,9 @@
 -- Acceptances that an accepted block rules out.
-use Rattle.std.proofs.Common.{◌≡◌, ◌≢◌, ℕ, zero, suc, ◌+◌, ◌<◌, ◌≤◌, Bool, true, false, ◌&&◌, cond, Option, Some, List, [], ◌∷◌, ap, ap₂, ◌∙◌, subst, refl, arith}
+use Rattle.dam_blocks.proofs.Common.{◌≡◌, ◌≢◌, ℕ, zero, suc, ◌+◌, ◌<◌, ◌≤◌, Bool, true, false, ◌&&◌, cond, Option, Some, List, [], ◌∷◌, ap, ap₂, ◌∙◌, subst}
+use Rattle.dam_blocks.proofs.Common.{refl, arith, same_text, Block, ProblemState, IsProblem, IsParent, descends, IsChildAt, Descends, Child, OfChild, accepts}
+use Rattle.dam_blocks.proofs.Common.{are_of_one_group, accepted_of_group, IsAdmissible}
 use Rattle.std.specs.List.{slice_get}
-use Rattle.dam_book.specs.Name.{same_text}
-use Rattle.dam_blocks.specs.declared.problem.Block.{Block}
-use Rattle.dam_blocks.specs.Problem.{ProblemState, IsProblem, IsParent}
-use Rattle.dam_blocks.specs.Family.{descends, IsChildAt, Descends, Child, OfChild}
-use Rattle.dam_blocks.specs.Selection.{accepts, same_group, are_of_one_group, accepted_of_group, IsAdmissible}
+use Rattle.dam_blocks.specs.Selection.{same_group}
 use Rattle.dam_blocks.proofs.GroupCounts.{same_participant, group_is}
 use Rattle.dam_blocks.proofs.Descending.{descends_is}
 

@@ -1,9 +1,7 @@
 -- Propositions that are decided: each holds, or it doesn't.
-use Rattle.std.proofs.Common.{◌≡◌, ℕ, zero, suc, ◌<◌, ℤ, ◌≤ℤ◌, Bool, true, false, Decides, inl, inr, Option, Some, None, List, ap, subst}
-use Rattle.std.proofs.Common.{refl, arith}
-use Rattle.std.proofs.lemmas.Int.{ints, by_lt_z}
-use Rattle.std.proofs.lemmas.Bool.{cases_lt}
-use Rattle.std.proofs.Math.Decide.{map_dec}
+use Rattle.dam_blocks.proofs.Common.{◌≡◌, ℕ, zero, suc, ◌<◌, ℤ, ◌≤ℤ◌, Bool, true, false, inl, inr, Option, Some, None, List, ap, subst, refl, arith, ints}
+use Rattle.dam_blocks.proofs.Common.{by_lt_z, cases_lt, map_dec}
+use Rattle.std.proofs.Common.{Decides}
 use Rattle.std.proofs.lemmas.Slice.Eq.{bytes_eq-Decides}
 
 -- ---- the parts of a decided proposition

@@ -1,15 +1,10 @@
 -- In a problem each child has one parent, which stands before it, so that a chain of parents is never longer than the
 -- list of blocks.
-use Rattle.std.proofs.Common.{◌≡◌, ℕ, zero, suc, ◌↔◌, ◌<◌, ◌==◌, Bool, true, false, ◌||◌, Option, Some, None, List, length, get_or, ap, ◌∙◌}
-use Rattle.std.proofs.Common.{sym, refl, inl, inr, arith}
-use Rattle.std.specs.Cmp.Lexicographic.{bytes_decides}
-use Rattle.std.proofs.lemmas.Bool.{eq-eqb, cases_eq, false_from_ne_true}
-use Rattle.std.proofs.lemmas.Option.{slice_get-get_or, slice_get_within}
-use Rattle.dam_book.specs.Name.{same_text}
+use Rattle.dam_blocks.proofs.Common.{◌≡◌, ℕ, zero, suc, ◌↔◌, ◌<◌, ◌==◌, Bool, true, false, ◌||◌, Option, Some, None, List, length, get_or, ap, ◌∙◌, sym, refl}
+use Rattle.dam_blocks.proofs.Common.{inl, inr, arith, bytes_decides, eq-eqb, cases_eq, false_from_ne_true, slice_get_within, same_text, Block, ProblemState}
+use Rattle.dam_blocks.proofs.Common.{IsProblem, IsParent, names, parent_place, leads_to, descends, IsChildAt, Descends, Child, OfChild}
+use Rattle.std.proofs.lemmas.Option.{slice_get-get_or}
 use Rattle.dam_book.specs.Order.{is_parent}
-use Rattle.dam_blocks.specs.declared.problem.Block.{Block}
-use Rattle.dam_blocks.specs.Problem.{ProblemState, IsProblem, IsParent}
-use Rattle.dam_blocks.specs.Family.{names, parent_place, leads_to, descends, IsChildAt, Descends, Child, OfChild}
 use Rattle.dam_blocks.proofs.Families.{unequal, first_parent}
 use Rattle.dam_blocks.proofs.WelfareAtLeastZero.{named_parent, parent_found, parent_stands_before, same_text_in}
 

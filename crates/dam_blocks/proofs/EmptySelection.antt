@@ -1,15 +1,9 @@
 -- The empty selection is eligible.
-use Rattle.std.proofs.Common.{◌≡◌, ℕ, suc, ℤ, pos, ◌+ℤ◌, Bool, true, Option, Some, List, [], ◌∷◌, refl, arith}
-use Rattle.std.proofs.lemmas.Int.{ints}
-use Rattle.dam_book.specs.Limits.{most_blocks}
-use Rattle.dam_hour.specs.declared.step.Step.{Step}
-use Rattle.dam_hour.specs.Execution.{AreInRange, IsWithinOffers}
-use Rattle.dam_hour.specs.Price.{AreEnds, price_between}
-use Rattle.dam_hour.specs.Best.{IsBest, welfare_of, greatest_welfare}
-use Rattle.dam_blocks.specs.declared.problem.Block.{Block}
-use Rattle.dam_blocks.specs.Problem.{ProblemState, AreHoursInRange}
-use Rattle.dam_blocks.specs.Selection.{accepts, empty_selection, net_volume_of_block, net_volume, accepted_value, IsAdmissible}
-use Rattle.dam_blocks.specs.Eligible.{ArePrices, added, period_welfare, welfare_from, IsEligible}
+use Rattle.dam_blocks.proofs.Common.{◌≡◌, ℕ, suc, ℤ, pos, ◌+ℤ◌, Bool, true, Option, Some, List, [], ◌∷◌, refl, arith, ints, most_blocks, Step, AreInRange}
+use Rattle.dam_blocks.proofs.Common.{AreEnds, price_between, IsBest, welfare_of, greatest_welfare, Block, ProblemState, AreHoursInRange, accepts}
+use Rattle.dam_blocks.proofs.Common.{net_volume_of_block, net_volume, accepted_value, IsAdmissible, ArePrices, added, period_welfare, welfare_from, IsEligible}
+use Rattle.dam_hour.specs.Execution.{IsWithinOffers}
+use Rattle.dam_blocks.specs.Selection.{empty_selection}
 use Rattle.dam_blocks.proofs.Sums.{over_accepted-replicate}
 use Rattle.dam_blocks.proofs.Choices.{accepts-replicate}
 use Rattle.dam_blocks.proofs.PeriodByPeriod.{raised_is}

@@ -1,15 +1,8 @@
 -- One hourly order in an outcome.
-use Rattle.std.proofs.Common.{◌≡◌, ℕ, zero, suc, ◌+◌, ℤ, Bool, Some, List, [], ◌∷◌, subst, refl, arith}
+use Rattle.dam_blocks.proofs.Common.{◌≡◌, ℕ, zero, suc, ◌+◌, ℤ, Bool, Some, List, [], ◌∷◌, subst, refl, arith, Step, IsExecution, IsBest, Block, ProblemState}
+use Rattle.dam_blocks.proofs.Common.{net_volume, IsClearingPrice, ArePrices, AreBestExecutions, IsOutcome}
 use Rattle.std.specs.List.{slice_get}
-use Rattle.dam_hour.specs.declared.step.Step.{Step}
-use Rattle.dam_hour.specs.Execution.{IsExecution}
 use Rattle.dam_hour.specs.Market.{IsExecutedAt}
-use Rattle.dam_hour.specs.Best.{IsBest}
-use Rattle.dam_blocks.specs.declared.problem.Block.{Block}
-use Rattle.dam_blocks.specs.Problem.{ProblemState}
-use Rattle.dam_blocks.specs.Selection.{net_volume}
-use Rattle.dam_blocks.specs.Eligible.{IsClearingPrice, ArePrices}
-use Rattle.dam_blocks.specs.Market.{AreBestExecutions, IsOutcome}
 
 -- an execution has a volume for each order
 volume_at : (ss : List Step) (xs : List ℕ) (i : ℕ) (s : Step) → IsExecution ss xs → slice_get ss i ≡ Some s

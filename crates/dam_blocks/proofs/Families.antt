@@ -1,17 +1,13 @@
 -- If every accepted block gains with its accepted descendants, all accepted blocks gain together: each stands in the
 -- family of just one block without a parent.
-use Rattle.std.proofs.Common.{◌≡◌, ℕ, zero, suc, ◌+◌, ◌<◌, ◌≤◌, ◌==◌, ℤ, pos, ◌+ℤ◌, ◌≤ℤ◌, Bool, true, false, ◌&&◌, ◌||◌, Option, Some, None}
-use Rattle.std.proofs.Common.{List, [], ◌∷◌, length, get_or, cond, nat_lt, lt-ltb, le-ltb, ap, ap₂, ◌∙◌, sym, subst, refl, inl, inr, arith}
+use Rattle.dam_blocks.proofs.Common.{◌≡◌, ℕ, zero, suc, ◌+◌, ◌<◌, ◌≤◌, ◌==◌, ℤ, pos, ◌+ℤ◌, ◌≤ℤ◌, Bool, true, false, ◌&&◌, ◌||◌, Option, Some, None, List, []}
+use Rattle.dam_blocks.proofs.Common.{◌∷◌, length, get_or, cond, nat_lt, ap, ap₂, ◌∙◌, sym, subst, refl, inl, inr, arith, ints, slice_get_within}
+use Rattle.dam_blocks.proofs.Common.{get_or_from_slice_get, eq-eqb, eqb-true, cases_eq, false_from_ne_true, and_parts, BlockTerms, Block, accepts}
+use Rattle.dam_blocks.proofs.Common.{over_accepted, names, parent_among, parent_place, leads_to, descends, accepted_where, accepted_descendants, surplus_of}
+use Rattle.dam_blocks.proofs.Common.{surplus_at, HasNoLoss}
+use Rattle.std.proofs.Common.{lt-ltb, le-ltb}
 use Rattle.std.specs.List.{slice_get}
-use Rattle.std.proofs.lemmas.Int.{ints}
-use Rattle.std.proofs.lemmas.Option.{slice_get_within, get_or_from_slice_get}
 use Rattle.std.proofs.lemmas.List.Sums.{position_or_len_is}
-use Rattle.std.proofs.lemmas.Bool.{eq-eqb, eqb-true, cases_eq, false_from_ne_true, and_parts}
-use Rattle.dam_book.specs.Terms.{BlockTerms}
-use Rattle.dam_blocks.specs.declared.problem.Block.{Block}
-use Rattle.dam_blocks.specs.Selection.{accepts, over_accepted}
-use Rattle.dam_blocks.specs.Family.{names, parent_among, parent_place, leads_to, descends, accepted_where, accepted_descendants}
-use Rattle.dam_blocks.specs.Eligible.{surplus_of, surplus_at, HasNoLoss}
 
 -- ---- sums over the places below n
 abbrev sum_below : ℕ → (ℕ → ℤ) → ℤ

@@ -1,27 +1,18 @@
 -- The book invariant, carried over to the problem of the book.
-use Rattle.std.proofs.Common.{◌≡◌, ℕ, zero, suc, ◌+◌, ◌-◌, ◌<◌, ◌≤◌, Bool, true, false, cond, not, ◌&&◌, ◌==◌, nat_lt, nat_eq, Option, Some}
-use Rattle.std.proofs.Common.{None, is_some, List, [], ◌∷◌, ◌++◌, length, append_assoc, length-append, ap, ap₂, ◌∙◌, sym, subst, refl}
-use Rattle.std.proofs.Common.{arith}
-use Rattle.std.specs.List.{slice_get, cons_option}
+use Rattle.dam_blocks.proofs.Common.{◌≡◌, ℕ, zero, suc, ◌+◌, ◌-◌, ◌<◌, ◌≤◌, Bool, true, false, cond, not, ◌&&◌, ◌==◌, nat_lt, Option, Some, None, List, [], ◌∷◌}
+use Rattle.dam_blocks.proofs.Common.{◌++◌, length, append_assoc, length-append, ap, ap₂, ◌∙◌, sym, subst, refl, arith, cons_option, bytes_decides, nat_tests}
+use Rattle.dam_blocks.proofs.Common.{filter_map-append, slice_get_within, append-nil, HourTerms, BlockTerms, Key, Row, BookState, is_day, AreRows, Order, Hour}
+use Rattle.dam_blocks.proofs.Common.{Step, AreInRange, Block, ProblemRow, ProblemState, step_in, steps_in, hours_from, block_under, blocks_in, rows_after}
+use Rattle.dam_blocks.proofs.Common.{problem_of, hourly_orders, AreHoursInRange, AreBlocks, IsProblem}
+use Rattle.std.proofs.Common.{nat_eq, is_some}
+use Rattle.std.specs.List.{slice_get}
 use Rattle.std.specs.Map.{lookup}
-use Rattle.std.specs.Cmp.Lexicographic.{pointwise, bytes_decides}
-use Rattle.std.proofs.lemmas.Bool.Decides.{nat_tests}
-use Rattle.std.proofs.lemmas.List.Elements.{filter_map-append}
+use Rattle.std.specs.Cmp.Lexicographic.{pointwise}
 use Rattle.std.proofs.lemmas.List.Sums.{sum_by-append}
-use Rattle.std.proofs.lemmas.Option.{slice_get_within}
-use Rattle.std.proofs.lemmas.List.{append-nil}
-use Rattle.dam_book.specs.Terms.{HourTerms, BlockTerms}
 use Rattle.dam_book.specs.Order.{IsOrder, is_hour, is_block}
-use Rattle.dam_book.specs.Book.{Key, Row, BookState, same_key, is_day, hourly_count, block_count, is_found, parent_passes, IsRow, AreRows}
-use Rattle.dam_book.specs.Book.{are_unique, has_parent_in, are_linked, IsBook}
-use Rattle.dam_book.specs.declared.order.Order.{Order}
-use Rattle.dam_book.specs.declared.order.Order.TheVariants.{Hour, Block as BlockVariant}
-use Rattle.dam_hour.specs.declared.step.Step.{Step}
-use Rattle.dam_hour.specs.Execution.{AreInRange}
-use Rattle.dam_blocks.specs.declared.problem.Block.{Block}
-use Rattle.dam_blocks.specs.declared.problem.ProblemRow.{ProblemRow}
-use Rattle.dam_blocks.specs.Problem.{ProblemState, step_in, steps_in, hours_from, block_under, blocks_in, place_after, rows_after}
-use Rattle.dam_blocks.specs.Problem.{problem_of, hourly_orders, AreHoursInRange, AreBlocks, HasParentBefore, StandsAt, IsProblem}
+use Rattle.dam_book.specs.Book.{same_key, hourly_count, block_count, is_found, parent_passes, IsRow, are_unique, has_parent_in, are_linked, IsBook}
+use Rattle.dam_book.specs.declared.order.Order.TheVariants.{Block as BlockVariant}
+use Rattle.dam_blocks.specs.Problem.{place_after, HasParentBefore, StandsAt}
 use Rattle.dam_blocks.specs.inside.Making.{hourly_step}
 use Rattle.dam_blocks.proofs.WelfareAtLeastZero.{same_block}
 

@@ -1,10 +1,7 @@
 -- The front of an admissible selection is admissible.
-use Rattle.std.proofs.Common.{◌≡◌, ℕ, zero, suc, ◌-◌, ◌<◌, Bool, true, false, Some, List, [], ◌∷◌, ◌++◌, length, replicate, ◌∙◌, sym, arith}
+use Rattle.dam_blocks.proofs.Common.{◌≡◌, ℕ, zero, suc, ◌-◌, ◌<◌, Bool, true, false, Some, List, [], ◌∷◌, ◌++◌, length, replicate, ◌∙◌, sym, arith, most_blocks}
+use Rattle.dam_blocks.proofs.Common.{Block, ProblemState, IsParent, IsProblem, accepts, padded, IsAllowed, IsAdmissible}
 use Rattle.std.specs.List.{slice_get}
-use Rattle.dam_book.specs.Limits.{most_blocks}
-use Rattle.dam_blocks.specs.declared.problem.Block.{Block}
-use Rattle.dam_blocks.specs.Problem.{ProblemState, IsParent, IsProblem}
-use Rattle.dam_blocks.specs.Selection.{accepts, padded, IsAllowed, IsAdmissible}
 use Rattle.dam_blocks.proofs.Choices.{accepts-replicate}
 use Rattle.dam_blocks.proofs.AdmissionDecided.{accepted_within}
 use Rattle.dam_blocks.proofs.GroupCounts.{count_at_most}

@@ -1,12 +1,8 @@
 -- The number of accepted blocks of a group, and the facts on which it depends.
-use Rattle.std.proofs.Common.{◌≡◌, ℕ, suc, ◌+◌, ◌≤◌, Bool, true, false, ◌&&◌, cond, Option, Some, None, List, [], ◌∷◌, ap, ap₂}
-use Rattle.std.proofs.Common.{◌∙◌, subst, refl, arith}
+use Rattle.dam_blocks.proofs.Common.{◌≡◌, ℕ, suc, ◌+◌, ◌≤◌, Bool, true, false, ◌&&◌, cond, Option, Some, None, List, [], ◌∷◌, ap, ap₂, ◌∙◌, subst, refl, arith}
+use Rattle.dam_blocks.proofs.Common.{bytes_decides, and_parts, same_text, Block, accepts, are_of_one_group, accepted_of_group}
 use Rattle.std.specs.List.{slice_get}
-use Rattle.std.specs.Cmp.Lexicographic.{bytes_decides}
-use Rattle.std.proofs.lemmas.Bool.{and_parts}
-use Rattle.dam_book.specs.Name.{same_text}
-use Rattle.dam_blocks.specs.declared.problem.Block.{Block}
-use Rattle.dam_blocks.specs.Selection.{accepts, same_group, are_of_one_group, accepted_of_group}
+use Rattle.dam_blocks.specs.Selection.{same_group}
 
 -- ---- two blocks of one group
 named_same : (o p : Option (List ℕ)) → same_group o p ≡ true → o ≡ p

@@ -1,15 +1,9 @@
 -- The blocks that may keep another from being accepted, found place by place, and their effect.
-use Rattle.std.proofs.Common.{◌≡◌, ◌⊎◌, ℕ, zero, suc, ◌+◌, ◌≤◌, Bool, true, false, cond, Some, inl, inr, List, [], ◌∷◌, ◌++◌, length}
-use Rattle.std.proofs.Common.{length-append, append_assoc, drop, ap, ap₂, ◌∙◌, sym, subst, refl, arith}
+use Rattle.dam_blocks.proofs.Common.{◌≡◌, ◌⊎◌, ℕ, zero, suc, ◌+◌, ◌≤◌, Bool, true, false, cond, Some, inl, inr, List, [], ◌∷◌, ◌++◌, length, length-append}
+use Rattle.dam_blocks.proofs.Common.{append_assoc, drop, ap, ap₂, ◌∙◌, sym, subst, refl, arith, append-nil, drop_all, most_of_group, Block, Hindrances}
+use Rattle.dam_blocks.proofs.Common.{IsParent, names, accepts, are_of_one_group, accepted_of_group, IsAllowed, AreHindrances}
 use Rattle.std.specs.List.{slice_get}
-use Rattle.std.proofs.lemmas.List.{append-nil, drop_all}
-use Rattle.dam_book.specs.Limits.{most_of_group}
-use Rattle.dam_blocks.specs.declared.problem.Block.{Block}
-use Rattle.dam_blocks.specs.declared.hindrances.Hindrances.{Hindrances}
-use Rattle.dam_blocks.specs.Problem.{IsParent}
-use Rattle.dam_blocks.specs.Family.{names}
-use Rattle.dam_blocks.specs.Selection.{accepts, are_of_one_group, accepted_of_group, IsAllowed}
-use Rattle.dam_blocks.specs.inside.Hindrances.{places_where, group_places, count_accepted, AreHindrances}
+use Rattle.dam_blocks.specs.inside.Hindrances.{places_where, group_places, count_accepted}
 use Rattle.dam_blocks.proofs.Descending.{named}
 use Rattle.dam_blocks.proofs.GroupCounts.{count_none}
 use Rattle.dam_blocks.proofs.RowByRow.{drop_at}

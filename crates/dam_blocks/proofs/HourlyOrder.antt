@@ -1,16 +1,8 @@
 -- In every order of the hourly orders of a period, the prices, the welfare and the result are the same.
-use Rattle.std.proofs.Common.{◌≡◌, ℕ, suc, ℤ, ◌+ℤ◌, Bool, Option, List, [], ◌∷◌, ap, ap₂, ◌∙◌, sym, subst, refl}
-use Rattle.std.specs.List.Sorted.{IsPermutation}
-use Rattle.std.specs.Option.{option_map}
+use Rattle.dam_blocks.proofs.Common.{◌≡◌, ℕ, suc, ℤ, ◌+ℤ◌, Bool, Option, List, [], ◌∷◌, ap, ap₂, ◌∙◌, sym, subst, refl, IsPermutation, option_map, Step}
+use Rattle.dam_blocks.proofs.Common.{AreEnds, greatest_welfare, Block, ProblemState, net_volume, accepted_value, IsAdmissible, ArePrices, HasNoLoss, added}
+use Rattle.dam_blocks.proofs.Common.{welfare_from, IsEligible, IsResult}
 use Rattle.std.proofs.lemmas.List.Sorted.{IsPermutation-sym}
-use Rattle.dam_hour.specs.declared.step.Step.{Step}
-use Rattle.dam_hour.specs.Price.{AreEnds}
-use Rattle.dam_hour.specs.Best.{greatest_welfare}
-use Rattle.dam_blocks.specs.declared.problem.Block.{Block}
-use Rattle.dam_blocks.specs.Problem.{ProblemState}
-use Rattle.dam_blocks.specs.Selection.{net_volume, accepted_value, IsAdmissible}
-use Rattle.dam_blocks.specs.Eligible.{ArePrices, HasNoLoss, added, welfare_from, IsEligible}
-use Rattle.dam_blocks.specs.Result.{IsResult}
 use Rattle.dam_blocks.specs.Changes.{AreReordered, IsReordered}
 
 -- the laws of one period on another order of its hourly orders

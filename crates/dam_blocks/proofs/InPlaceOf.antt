@@ -1,27 +1,16 @@
 -- A block accepted in place of another with the same side and volumes: prices stay, and a better limit raises the welfare.
-use Rattle.std.proofs.Common.{◌≡◌, inl, inr, ℕ, zero, suc, ◌+◌, ◌<◌, ◌≤◌, ℤ, pos, negsuc, ◌+ℤ◌, ◌-ℤ◌, ◌*ℤ◌, ◌≤ℤ◌, ◌<ℤ◌, Bool, true, false}
-use Rattle.std.proofs.Common.{◌&&◌, ◌||◌, cond, nat_lt, Option, Some, None, List, [], ◌∷◌, length, set, ap, ap₂, ◌∙◌, sym, subst, refl, arith}
+use Rattle.dam_blocks.proofs.Common.{◌≡◌, inl, inr, ℕ, zero, suc, ◌+◌, ◌<◌, ◌≤◌, ℤ, pos, negsuc, ◌+ℤ◌, ◌-ℤ◌, ◌*ℤ◌, ◌≤ℤ◌, Bool, true, false, ◌&&◌, ◌||◌, cond}
+use Rattle.dam_blocks.proofs.Common.{nat_lt, Option, Some, None, List, [], ◌∷◌, length, ap, ap₂, ◌∙◌, sym, subst, refl, arith, option_map, unwrap_or, ints}
+use Rattle.dam_blocks.proofs.Common.{cases_lt, cases_eq, eq-eqb, nat_tests, slice_get_within, BlockTerms, Side, Buy, Sell, Step, IsBetter, signed}
+use Rattle.dam_blocks.proofs.Common.{greatest_welfare, Block, ProblemState, IsParent, AreBlocks, IsProblem, accepts, volume_in, over_accepted}
+use Rattle.dam_blocks.proofs.Common.{net_volume_of_block, value_in, net_volume, accepted_value, IsAllowed, IsAdmissible, descends, accepted_descendants}
+use Rattle.dam_blocks.proofs.Common.{IsChildAt, Descends, Child, OfChild, surplus_of, surplus_at, family_surplus, HasNoLoss, added, period_welfare}
+use Rattle.dam_blocks.proofs.Common.{welfare_from, IsEligible, IsResult, with_limit}
+use Rattle.std.proofs.Common.{◌<ℤ◌, set}
 use Rattle.std.specs.List.{slice_get}
-use Rattle.std.specs.Option.{option_map, unwrap_or}
-use Rattle.std.proofs.lemmas.Int.{ints}
-use Rattle.std.proofs.lemmas.Bool.{cases_lt, cases_eq, eq-eqb}
-use Rattle.std.proofs.lemmas.Bool.Decides.{nat_tests}
-use Rattle.std.proofs.lemmas.Option.{slice_get_within}
 use Rattle.dam_book.specs.Volumes.{Pair, have_beyond, ArePairs}
-use Rattle.dam_book.specs.Terms.{BlockTerms}
-use Rattle.dam_book.specs.declared.order.Side.{Side}
-use Rattle.dam_book.specs.declared.order.Side.TheVariants.{Buy, Sell}
-use Rattle.dam_hour.specs.declared.step.Step.{Step}
-use Rattle.dam_hour.specs.Price.{IsBetter}
-use Rattle.dam_hour.specs.Best.{signed, greatest_welfare}
-use Rattle.dam_blocks.specs.declared.problem.Block.{Block}
-use Rattle.dam_blocks.specs.Problem.{ProblemState, IsParent, IsBlock, AreBlocks, IsProblem}
-use Rattle.dam_blocks.specs.Selection.{accepts, volume_in, over_accepted, net_volume_of_block, value_in, net_volume, accepted_value, IsAllowed, IsAdmissible}
-use Rattle.dam_blocks.specs.Family.{descends, accepted_descendants, IsChildAt, Descends, Child, OfChild}
-use Rattle.dam_blocks.specs.Eligible.{surplus_of, surplus_at, family_surplus, HasNoLoss, added, period_welfare, welfare_from, IsEligible}
-use Rattle.dam_blocks.specs.Result.{IsResult}
+use Rattle.dam_blocks.specs.Problem.{IsBlock}
 use Rattle.dam_blocks.specs.Market.{StandsAlone}
-use Rattle.dam_blocks.specs.Changes.{with_limit}
 use Rattle.dam_blocks.proofs.Families.{accepts_descendant}
 use Rattle.dam_blocks.proofs.GroupCounts.{count_at_most, count_alone, other_has_group}
 use Rattle.dam_blocks.proofs.Descending.{descends_is}

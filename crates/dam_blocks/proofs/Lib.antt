@@ -1,4 +1,5 @@
 -- The lemmas that several functions need.
+pub mod Common
 pub mod Bits
 pub mod Sums
 pub mod Families

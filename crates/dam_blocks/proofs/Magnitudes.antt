@@ -1,24 +1,16 @@
 -- How large values and welfares are.
-use Rattle.std.proofs.Common.{◌≡◌, ℕ, suc, ◌+◌, ◌*◌, ◌≤◌, ◌==◌, cond, ℤ, pos, negsuc, neg_ℤ, nat_abs, ◌*ℤ◌, ◌≤ℤ◌, Bool, true, false, Some}
-use Rattle.std.proofs.Common.{List, [], ◌∷◌, length, arith}
-use Rattle.std.proofs.lemmas.Int.{ints}
+use Rattle.dam_blocks.proofs.Common.{◌≡◌, ℕ, suc, ◌+◌, ◌*◌, ◌≤◌, ◌==◌, cond, ℤ, pos, negsuc, neg_ℤ, nat_abs, ◌*ℤ◌, ◌≤ℤ◌, Bool, true, false, Some, List, [], ◌∷◌}
+use Rattle.dam_blocks.proofs.Common.{length, arith, ints, greatest_volume, most_blocks, is_day, BlockTerms, Side, Buy, Sell, greatest_value, Step, AreInRange}
+use Rattle.dam_blocks.proofs.Common.{IsExecution, Balances, signed, welfare_of, greatest_welfare, Block, ProblemState, hourly_orders, AreHoursInRange}
+use Rattle.dam_blocks.proofs.Common.{AreBlocks, IsProblem, volume_in, value_in, net_volume, accepted_value, period_welfare, welfare_from, selection_welfare}
+use Rattle.dam_blocks.proofs.Common.{IsWithin}
 use Rattle.std.proofs.Math.Nat.{mul-le-mul}
-use Rattle.dam_book.specs.Limits.{lowest_price, greatest_volume, last_period, most_blocks}
-use Rattle.dam_book.specs.Book.{is_day}
+use Rattle.dam_book.specs.Limits.{lowest_price, last_period}
 use Rattle.dam_book.specs.Price.{IsPrice}
 use Rattle.dam_book.specs.Volumes.{Pair, ArePairs}
-use Rattle.dam_book.specs.Terms.{BlockTerms, IsBlockOrder}
-use Rattle.dam_book.specs.declared.order.Side.{Side}
-use Rattle.dam_book.specs.declared.order.Side.TheVariants.{Buy, Sell}
-use Rattle.dam_hour.specs.Limits.{greatest_price, greatest_value}
-use Rattle.dam_hour.specs.declared.step.Step.{Step}
-use Rattle.dam_hour.specs.Execution.{AreInRange, IsExecution, Balances}
-use Rattle.dam_hour.specs.Best.{signed, welfare_of, greatest_welfare}
-use Rattle.dam_blocks.specs.declared.problem.Block.{Block}
-use Rattle.dam_blocks.specs.Problem.{ProblemState, hourly_orders, AreHoursInRange, AreBlocks, IsProblem}
-use Rattle.dam_blocks.specs.Selection.{volume_in, value_in, net_volume, accepted_value}
-use Rattle.dam_blocks.specs.Eligible.{period_welfare, welfare_from, selection_welfare}
-use Rattle.dam_blocks.specs.Magnitude.{IsWithin, greatest_block_value_in_period, greatest_selection_welfare}
+use Rattle.dam_book.specs.Terms.{IsBlockOrder}
+use Rattle.dam_hour.specs.Limits.{greatest_price}
+use Rattle.dam_blocks.specs.Magnitude.{greatest_block_value_in_period, greatest_selection_welfare}
 use Rattle.dam_blocks.proofs.WelfareAtLeastZero.{added_some, raised_some}
 
 -- ---- the hourly orders

@@ -1,21 +1,11 @@
 -- The gains of the book's orders, row by row, add up to the welfare.
-use Rattle.std.proofs.Common.{◌≡◌, ℕ, zero, suc, ◌+◌, ◌-◌, ◌<◌, ◌≤◌, ℤ, pos, ◌+ℤ◌, Bool, true, false, cond, Some, List, []}
-use Rattle.std.proofs.Common.{◌∷◌, ◌++◌, length, length-append, drop, append_assoc, ap, ap₂, ◌∙◌, sym, refl, arith}
+use Rattle.dam_blocks.proofs.Common.{◌≡◌, ℕ, zero, suc, ◌+◌, ◌-◌, ◌<◌, ◌≤◌, ℤ, pos, ◌+ℤ◌, Bool, true, false, cond, Some, List, [], ◌∷◌, ◌++◌, length}
+use Rattle.dam_blocks.proofs.Common.{length-append, drop, append_assoc, ap, ap₂, ◌∙◌, sym, refl, arith, ints, eq-eqb, append-nil, drop_all, filter_map-append}
+use Rattle.dam_blocks.proofs.Common.{HourTerms, BlockTerms, Key, Row, AreRows, Hour, Step, execution_surplus, Block, ProblemState, step_in, steps_in}
+use Rattle.dam_blocks.proofs.Common.{hours_from, blocks_in, rows_after, IsProblem, accepts, surplus_of, surplus_at, selection_welfare, IsOutcome, gain_of}
 use Rattle.std.specs.List.{slice_get}
-use Rattle.std.proofs.lemmas.Int.{ints}
-use Rattle.std.proofs.lemmas.Bool.{eq-eqb}
-use Rattle.std.proofs.lemmas.List.{append-nil, drop_all}
-use Rattle.std.proofs.lemmas.List.Elements.{filter_map-append}
-use Rattle.dam_book.specs.Terms.{HourTerms, BlockTerms}
-use Rattle.dam_book.specs.Book.{Key, Row, AreRows}
-use Rattle.dam_book.specs.declared.order.Order.TheVariants.{Hour, Block as BlockVariant}
-use Rattle.dam_hour.specs.declared.step.Step.{Step}
-use Rattle.dam_hour.specs.Best.{execution_surplus}
-use Rattle.dam_blocks.specs.declared.problem.Block.{Block}
-use Rattle.dam_blocks.specs.Problem.{ProblemState, step_in, steps_in, hours_from, blocks_in, rows_after, IsProblem}
-use Rattle.dam_blocks.specs.Selection.{accepts}
-use Rattle.dam_blocks.specs.Eligible.{surplus_of, surplus_at, selection_welfare}
-use Rattle.dam_blocks.specs.Market.{IsOutcome, hourly_surplus, accepted_surplus, order_surplus_at, order_surplus_in, gain_of, over_orders}
+use Rattle.dam_book.specs.declared.order.Order.TheVariants.{Block as BlockVariant}
+use Rattle.dam_blocks.specs.Market.{hourly_surplus, accepted_surplus, order_surplus_at, order_surplus_in, over_orders}
 use Rattle.dam_blocks.proofs.Families.{unequal, where_true}
 use Rattle.dam_blocks.proofs.FromBook.{blocks-append, steps_same, steps_apart}
 use Rattle.dam_blocks.proofs.Participants.{by_place, by_place-all, StandFrom, stand_later}

@@ -1,13 +1,13 @@
 -- A book whose rows stand in another order, each parent before its children, satisfies the book
 -- invariant.
-use Rattle.std.proofs.Common.{◌≡◌, ℕ, Bool, true, false, cond, not, ◌&&◌, is_some, Option, Some, None, List, [], ap, ap₂, ◌∙◌, sym, subst, refl, arith}
-use Rattle.std.specs.List.Sorted.{IsPermutation}
+use Rattle.dam_blocks.proofs.Common.{◌≡◌, ℕ, Bool, true, false, cond, not, ◌&&◌, Option, Some, None, List, [], ap, ap₂, ◌∙◌, sym, subst, refl, arith}
+use Rattle.dam_blocks.proofs.Common.{IsPermutation, bytes_decides, same_text, Key, Row, BookState, is_day, AreRows, Order}
+use Rattle.std.proofs.Common.{is_some}
 use Rattle.std.specs.Map.{lookup}
 use Rattle.std.proofs.lemmas.List.Sorted.{sum_by-IsPermutation}
+use Rattle.std.proofs.lemmas.Bool.Decides.{same_from_decides}
 use Rattle.dam_book.specs.Order.{is_hour, is_block}
-use Rattle.dam_book.specs.Book.{Key, Row, BookState, same_key, is_day, AreRows, are_unique, are_linked, IsBook}
-use Rattle.dam_book.specs.declared.order.Order.{Order}
-use Rattle.dam_book.proofs.Keys.{same_key-flipped}
+use Rattle.dam_book.specs.Book.{same_key, are_unique, are_linked, IsBook}
 use Rattle.dam_blocks.proofs.Exchanges.{Reordered, Same, Kept, Exchanged, Then, reordered}
 
 rows_too : (n : ℕ) (rows others : List Row) → Reordered rows others → AreRows n rows → AreRows n others
@@ -36,14 +36,12 @@ found_too k _ _ (Kept r rows others rest) =
 found_too k _ _ (Exchanged r s rows) = found_either (same_key k r.0) (same_key k s.0) r.1 s.1 (lookup (same_key k) rows)
 found_too k _ _ (Then rows others more first second) = found_too k rows others first ∙ found_too k others more second
 
-both_or_none : (b c : Bool) → (b ≡ false → c ≡ false) → (c ≡ false → b ≡ false) → b ≡ c
-both_or_none true true f g = refl
-both_or_none true false f g = g refl
-both_or_none false true f g = sym (f refl)
-both_or_none false false f g = refl
+same_text-sym : (s t : List ℕ) → same_text s t ≡ same_text t s
+same_text-sym s t = let other = bytes_decides t s in
+    same_from_decides (same_text s t) (same_text t s) (bytes_decides s t) (λ e. sym (other.0 e), λ e. other.1 (sym e))
 
 same_key-sym : (k l : Key) → same_key k l ≡ same_key l k
-same_key-sym k l = both_or_none (same_key k l) (same_key l k) (same_key-flipped k l) (same_key-flipped l k)
+same_key-sym k l = ap₂ (λ (a b : Bool). a && b) (same_text-sym k.0 l.0) (same_text-sym k.1 l.1)
 
 two_apart : (b : Bool) (o p : Order) (x y : Option Order) (rest : Bool)
     → (not (is_some (cond b (Some p) x)) && (not (is_some y) && rest)) ≡ (not (is_some (cond b (Some o) y)) && (not (is_some x) && rest))

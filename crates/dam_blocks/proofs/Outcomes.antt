@@ -1,12 +1,6 @@
 -- An eligible selection has an outcome, and only one.
-use Rattle.std.proofs.Common.{◌≡◌, ℕ, suc, ℤ, Bool, List, [], ◌∷◌, ap₂, refl}
-use Rattle.dam_hour.specs.declared.step.Step.{Step}
-use Rattle.dam_hour.specs.Best.{IsBest}
-use Rattle.dam_blocks.specs.declared.problem.Block.{Block}
-use Rattle.dam_blocks.specs.Problem.{ProblemState, AreHoursInRange, IsProblem}
-use Rattle.dam_blocks.specs.Selection.{net_volume}
-use Rattle.dam_blocks.specs.Eligible.{IsEligible}
-use Rattle.dam_blocks.specs.Market.{AreBestExecutions, IsOutcome}
+use Rattle.dam_blocks.proofs.Common.{◌≡◌, ℕ, suc, ℤ, Bool, List, [], ◌∷◌, ap₂, refl, Step, IsBest, Block, ProblemState, AreHoursInRange, IsProblem, net_volume}
+use Rattle.dam_blocks.proofs.Common.{IsEligible, AreBestExecutions, IsOutcome}
 use Rattle.dam_blocks.proofs.EmptySelection.{ExistenceLaws, AreWithin}
 use Rattle.dam_blocks.proofs.ResultExists.{BalanceLaw, within_from_prices}
 use Rattle.dam_blocks.proofs.PricesUnique.{prices_unique}

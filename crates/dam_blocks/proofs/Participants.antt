@@ -1,27 +1,16 @@
 -- No hourly order loses, and no participant does: its accepted blocks make up whole families, none of which loses.
-use Rattle.std.proofs.Common.{◌≡◌, ℕ, zero, suc, ◌+◌, ◌-◌, ℤ, pos, ◌+ℤ◌, ◌≤ℤ◌, Bool, true, false, cond, ◌&&◌, Option, Some, None, List, []}
-use Rattle.std.proofs.Common.{◌∷◌, ◌++◌, length, length-append, ap, ap₂, ◌∙◌, sym, subst, refl, arith}
+use Rattle.dam_blocks.proofs.Common.{◌≡◌, ℕ, zero, suc, ◌+◌, ◌-◌, ℤ, pos, ◌+ℤ◌, ◌≤ℤ◌, Bool, true, false, cond, ◌&&◌, Option, Some, None, List, [], ◌∷◌, ◌++◌}
+use Rattle.dam_blocks.proofs.Common.{length, length-append, ap, ap₂, ◌∙◌, sym, subst, refl, arith, bytes_decides, ints, and_parts, append-nil, same_text}
+use Rattle.dam_blocks.proofs.Common.{BlockTerms, Row, Hour, Step, IsExecution, AreEnds, price_between, IsBest, execution_surplus, Block, ProblemState, steps_in}
+use Rattle.dam_blocks.proofs.Common.{blocks_in, rows_after, IsProblem, accepts, over_accepted, net_volume, IsAdmissible, descends, accepted_where}
+use Rattle.dam_blocks.proofs.Common.{accepted_descendants, Descends, Child, OfChild, ArePrices, surplus_of, surplus_at, family_surplus, HasNoLoss, IsEligible}
+use Rattle.dam_blocks.proofs.Common.{AreBestExecutions, IsOutcome, gain_of}
 use Rattle.std.specs.List.{slice_get}
-use Rattle.std.specs.Cmp.Lexicographic.{bytes_decides}
-use Rattle.std.proofs.lemmas.Int.{ints}
-use Rattle.std.proofs.lemmas.Bool.{and_parts}
-use Rattle.std.proofs.lemmas.List.{append-nil}
-use Rattle.dam_book.specs.Name.{same_text}
-use Rattle.dam_book.specs.Terms.{BlockTerms}
-use Rattle.dam_book.specs.Book.{Row}
-use Rattle.dam_book.specs.declared.order.Order.TheVariants.{Hour, Block as BlockVariant}
-use Rattle.dam_hour.specs.declared.step.Step.{Step}
-use Rattle.dam_hour.specs.Execution.{IsExecution}
-use Rattle.dam_hour.specs.Price.{Supports, AreEnds, price_between}
-use Rattle.dam_hour.specs.Best.{IsBest, execution_surplus}
+use Rattle.dam_book.specs.declared.order.Order.TheVariants.{Block as BlockVariant}
+use Rattle.dam_hour.specs.Price.{Supports}
 use Rattle.dam_hour.specs.Market.{order_surplus}
-use Rattle.dam_blocks.specs.declared.problem.Block.{Block}
 use Rattle.dam_blocks.specs.declared.problem.Place.TheVariants.{Hour as AtHour}
-use Rattle.dam_blocks.specs.Problem.{ProblemState, steps_in, blocks_in, rows_after, IsProblem}
-use Rattle.dam_blocks.specs.Selection.{accepts, over_accepted, net_volume, IsAdmissible}
-use Rattle.dam_blocks.specs.Family.{descends, accepted_where, accepted_descendants, Descends, Child, OfChild}
-use Rattle.dam_blocks.specs.Eligible.{ArePrices, surplus_of, surplus_at, family_surplus, HasNoLoss, IsEligible}
-use Rattle.dam_blocks.specs.Market.{AreBestExecutions, IsOutcome, order_surplus_at, order_surplus_in, gain_of, over_orders_of}
+use Rattle.dam_blocks.specs.Market.{order_surplus_at, order_surplus_in, over_orders_of}
 use Rattle.dam_blocks.proofs.Sums.{over_accepted-nil}
 use Rattle.dam_blocks.proofs.Families.{AreChains, no_loss_in_families, accepts_where, accepts_descendant, where_true}
 use Rattle.dam_blocks.proofs.WelfareAtLeastZero.{are_chains, parent_found, same_block}

@@ -1,24 +1,15 @@
 -- Clearing the periods one by one.
-use Rattle.std.proofs.Common.{◌≡◌, ℕ, zero, suc, ◌+◌, ◌-◌, ◌*◌, ◌<◌, ◌≤◌, ℤ, pos, neg_ℤ, ◌+ℤ◌, ◌≤ℤ◌, Bool, Option, Some, None, List, []}
-use Rattle.std.proofs.Common.{◌∷◌, length, get_or, take, drop, ap, ap₂, ◌∙◌, sym, subst, refl, inl, inr, arith}
+use Rattle.dam_blocks.proofs.Common.{◌≡◌, ℕ, zero, suc, ◌+◌, ◌-◌, ◌*◌, ◌<◌, ◌≤◌, ℤ, pos, neg_ℤ, ◌+ℤ◌, ◌≤ℤ◌, Bool, Option, Some, None, List, [], ◌∷◌, length}
+use Rattle.dam_blocks.proofs.Common.{get_or, take, drop, ap, ap₂, ◌∙◌, sym, subst, refl, inl, inr, arith, option_map, ints, cases_lt, slice_get_within}
+use Rattle.dam_blocks.proofs.Common.{drop_all, most_hourly, greatest_value, Step, AreInRange, AreEnds, greatest_welfare, Block, ProblemState, AreHoursInRange}
+use Rattle.dam_blocks.proofs.Common.{hourly_orders, net_volume, accepted_value, IsClearingPrice, ArePrices, added, period_welfare, welfare_from}
 use Rattle.std.specs.List.{slice_get}
-use Rattle.std.specs.Option.{option_map}
-use Rattle.std.proofs.lemmas.Int.{ints}
-use Rattle.std.proofs.lemmas.Bool.{cases_lt}
-use Rattle.std.proofs.lemmas.Option.{slice_get_within}
-use Rattle.std.proofs.lemmas.List.{drop_all, length-set}
+use Rattle.std.proofs.lemmas.List.{length-set}
 use Rattle.std.proofs.Math.ListN.{set}
-use Rattle.dam_book.specs.Limits.{last_period, most_hourly}
-use Rattle.dam_hour.specs.Limits.{greatest_value}
-use Rattle.dam_hour.specs.declared.step.Step.{Step}
-use Rattle.dam_hour.specs.Execution.{AreInRange, IsBalanced, IsUnbalanced}
-use Rattle.dam_hour.specs.Price.{AreEnds}
-use Rattle.dam_hour.specs.Best.{greatest_welfare, AreBestTotals}
-use Rattle.dam_blocks.specs.declared.problem.Block.{Block}
-use Rattle.dam_blocks.specs.Problem.{ProblemState, AreHoursInRange, hourly_orders}
+use Rattle.dam_book.specs.Limits.{last_period}
+use Rattle.dam_hour.specs.Execution.{IsBalanced, IsUnbalanced}
+use Rattle.dam_hour.specs.Best.{AreBestTotals}
 use Rattle.dam_blocks.specs.Magnitude.{greatest_block_value_in_period}
-use Rattle.dam_blocks.specs.Selection.{net_volume, accepted_value}
-use Rattle.dam_blocks.specs.Eligible.{IsClearingPrice, ArePrices, added, period_welfare, welfare_from}
 use Rattle.dam_blocks.specs.Score.{IsFirstUnbalanced}
 use Rattle.dam_blocks.proofs.Magnitudes.{welfare_within}
 

@@ -1,11 +1,6 @@
 -- The prices of a selection are the only ones.
-use Rattle.std.proofs.Common.{◌≡◌, ℕ, suc, ℤ, Bool, List, [], ◌∷◌, ap₂, ◌∙◌, sym, refl, arith}
-use Rattle.std.proofs.lemmas.Int.{ints}
-use Rattle.dam_hour.specs.declared.step.Step.{Step}
-use Rattle.dam_hour.specs.Price.{price_between}
-use Rattle.dam_blocks.specs.declared.problem.Block.{Block}
-use Rattle.dam_blocks.specs.Selection.{net_volume}
-use Rattle.dam_blocks.specs.Eligible.{IsClearingPrice, ArePrices}
+use Rattle.dam_blocks.proofs.Common.{◌≡◌, ℕ, suc, ℤ, Bool, List, [], ◌∷◌, ap₂, ◌∙◌, sym, refl, arith, ints, Step, price_between, Block, net_volume}
+use Rattle.dam_blocks.proofs.Common.{IsClearingPrice, ArePrices}
 
 price_unique : (ss : List Step) (net p q : ℤ) → IsClearingPrice ss net p → IsClearingPrice ss net q → p ≡ q
 price_unique ss net p q c d =

@@ -1,10 +1,7 @@
 -- How large a difference of two prices times a volume is.
-use Rattle.std.proofs.Common.{ℕ, suc, ◌*◌, ◌≤◌, ℤ, pos, negsuc, neg_ℤ, ◌*ℤ◌, ◌≤ℤ◌, arith}
-use Rattle.std.proofs.lemmas.Int.{ints}
+use Rattle.dam_blocks.proofs.Common.{ℕ, suc, ◌*◌, ◌≤◌, ℤ, pos, negsuc, neg_ℤ, ◌*ℤ◌, ◌≤ℤ◌, arith, ints, greatest_volume, IsWithin, greatest_gain}
 use Rattle.std.proofs.Math.Nat.{mul-le-mul}
-use Rattle.dam_book.specs.Limits.{greatest_volume}
 use Rattle.dam_hour.specs.Limits.{price_span}
-use Rattle.dam_blocks.specs.Magnitude.{IsWithin, greatest_gain}
 
 pub product_within : (d : ℤ) (x : ℕ) → neg_ℤ (pos price_span) ≤ℤ d → d ≤ℤ pos price_span → x ≤ greatest_volume
     → IsWithin greatest_gain (d *ℤ pos x)

@@ -1,8 +1,7 @@
 -- The order of selections is total, and the result is the only one.
-use Rattle.std.proofs.Common.{◌≡◌, ◌<◌, ◌⊎◌, inl, inr, ℤ, ◌≤ℤ◌, Bool, true, false, List, [], ◌∷◌, length, ap, ◌∙◌, sym, refl, arith}
-use Rattle.std.proofs.lemmas.Int.{ints, by_lt_z}
-use Rattle.dam_blocks.specs.Problem.{ProblemState}
-use Rattle.dam_blocks.specs.Result.{accepts_first, RanksAbove, RanksAtOrBelow, IsResult}
+use Rattle.dam_blocks.proofs.Common.{◌≡◌, ◌<◌, ◌⊎◌, inl, inr, ℤ, ◌≤ℤ◌, Bool, true, false, List, [], ◌∷◌, length, ap, ◌∙◌, sym, refl, arith, ints, by_lt_z}
+use Rattle.dam_blocks.proofs.Common.{ProblemState, accepts_first, RanksAtOrBelow, IsResult}
+use Rattle.dam_blocks.specs.Result.{RanksAbove}
 
 pub accepts_first-self : (xs : List Bool) → accepts_first xs xs ≡ false
 accepts_first-self [] = refl

@@ -1,11 +1,9 @@
 -- The values that the readers of a problem find are within the limits.
-use Rattle.std.proofs.Common.{◌≡◌, ℕ, zero, suc, ◌≤◌, Some, List, [], ◌∷◌, subst, arith}
+use Rattle.dam_blocks.proofs.Common.{◌≡◌, ℕ, zero, suc, ◌≤◌, Some, List, [], ◌∷◌, subst, arith, most_hourly, Step, Block, hourly_orders, AreHoursInRange}
+use Rattle.dam_blocks.proofs.Common.{AreBlocks}
 use Rattle.std.specs.List.{slice_get}
-use Rattle.dam_book.specs.Limits.{most_hourly}
-use Rattle.dam_hour.specs.declared.step.Step.{Step}
 use Rattle.dam_hour.specs.Execution.{IsHour}
-use Rattle.dam_blocks.specs.declared.problem.Block.{Block}
-use Rattle.dam_blocks.specs.Problem.{hourly_orders, AreHoursInRange, IsBlock, AreBlocks}
+use Rattle.dam_blocks.specs.Problem.{IsBlock}
 use Rattle.dam_blocks.proofs.PeriodByPeriod.{hour_at}
 
 pub hour_is : (hours : List (List Step)) (i : ℕ) (hour : List Step) → slice_get hours i ≡ Some hour → AreHoursInRange hours

@@ -1,10 +1,8 @@
 -- Two books with the same rows in another order have problems that differ in the same.
-use Rattle.std.proofs.Common.{◌≡◌, ℕ, zero, suc, Option, Some, None, List, [], ◌∷◌, sym, subst}
-use Rattle.std.specs.List.{cons_option, filter_map}
-use Rattle.std.specs.List.Sorted.{IsPermutation}
+use Rattle.dam_blocks.proofs.Common.{◌≡◌, ℕ, zero, suc, Option, Some, None, List, [], ◌∷◌, sym, subst, cons_option, IsPermutation, Row, BookState, step_in}
+use Rattle.dam_blocks.proofs.Common.{hours_from, block_under, problem_of}
+use Rattle.std.specs.List.{filter_map}
 use Rattle.std.proofs.lemmas.List.Sorted.{IsPermutation-refl, IsPermutation-cons, IsPermutation-trans, IsPermutation-middle}
-use Rattle.dam_book.specs.Book.{Row, BookState}
-use Rattle.dam_blocks.specs.Problem.{step_in, hours_from, block_under, problem_of}
 use Rattle.dam_blocks.specs.Changes.{AreReordered, IsReordered, HasBlocksReordered}
 use Rattle.dam_blocks.proofs.Exchanges.{Reordered, Same, Kept, Exchanged, Then, reordered}
 

@@ -1,29 +1,15 @@
 -- A block with another limit: no price reads it, and a better one raises the gain of the block and its ancestors, and
 -- the welfare of the selections that accept it.
-use Rattle.std.proofs.Common.{◌≡◌, ◌⊎◌, inl, inr, ℕ, zero, suc, ◌+◌, ◌*◌, ◌<◌, ◌≤◌, ℤ, pos, negsuc, ◌+ℤ◌, ◌-ℤ◌, ◌*ℤ◌, ◌≤ℤ◌, Bool, true, false}
-use Rattle.std.proofs.Common.{◌&&◌, ◌||◌, ◌==◌, cond, not, nat_lt, Option, Some, None, List, [], ◌∷◌, length, slice_set, ap, ap₂, ◌∙◌, sym, subst, refl, arith}
+use Rattle.dam_blocks.proofs.Common.{◌≡◌, ◌⊎◌, inl, inr, ℕ, zero, suc, ◌+◌, ◌*◌, ◌<◌, ◌≤◌, ℤ, pos, negsuc, ◌+ℤ◌, ◌-ℤ◌, ◌*ℤ◌, ◌≤ℤ◌, Bool, true, false, ◌&&◌}
+use Rattle.dam_blocks.proofs.Common.{◌||◌, ◌==◌, cond, not, nat_lt, Option, Some, None, List, [], ◌∷◌, length, slice_set, ap, ap₂, ◌∙◌, sym, subst, refl, arith}
+use Rattle.dam_blocks.proofs.Common.{option_map, unwrap_or, ints, cases_eq, most_of_group, BlockTerms, Side, Buy, Sell, Step, IsBetter, signed}
+use Rattle.dam_blocks.proofs.Common.{greatest_welfare, Block, ProblemState, IsParent, accepts, volume_in, over_accepted, net_volume_of_block, value_in}
+use Rattle.dam_blocks.proofs.Common.{net_volume, accepted_value, are_of_one_group, accepted_of_group, IsAdmissible, names, parent_among, parent_place, leads_to}
+use Rattle.dam_blocks.proofs.Common.{descends, accepted_descendants, ArePrices, surplus_from, surplus_of, surplus_at, family_surplus, HasNoLoss, added}
+use Rattle.dam_blocks.proofs.Common.{period_welfare, welfare_from, IsEligible, RanksAtOrBelow, IsResult, IsOutcome, AreBestExecutions, with_limit, IsWithLimit}
 use Rattle.std.specs.List.{slice_get, position_or_len}
-use Rattle.std.specs.Option.{option_map, unwrap_or}
-use Rattle.std.proofs.lemmas.Int.{ints}
-use Rattle.std.proofs.lemmas.Bool.{cases_eq}
 use borrow.Author.Differences.{up, down}
-use Rattle.dam_book.specs.Limits.{most_of_group}
-use Rattle.dam_book.specs.Terms.{BlockTerms}
-use Rattle.dam_book.specs.declared.order.Side.{Side}
-use Rattle.dam_book.specs.declared.order.Side.TheVariants.{Buy, Sell}
-use Rattle.dam_hour.specs.declared.step.Step.{Step}
-use Rattle.dam_hour.specs.Price.{IsBetter, IsWorse}
-use Rattle.dam_hour.specs.Best.{signed, greatest_welfare}
-use Rattle.dam_blocks.specs.declared.problem.Block.{Block}
-use Rattle.dam_blocks.specs.Problem.{ProblemState, IsParent}
-use Rattle.dam_blocks.specs.Selection.{accepts, volume_in, over_accepted, net_volume_of_block, value_in, net_volume, accepted_value, are_of_one_group}
-use Rattle.dam_blocks.specs.Selection.{accepted_of_group, IsAdmissible}
-use Rattle.dam_blocks.specs.Family.{names, parent_among, parent_place, leads_to, descends, accepted_descendants}
-use Rattle.dam_blocks.specs.Eligible.{ArePrices, surplus_from, surplus_of, surplus_at, family_surplus, HasNoLoss, added, period_welfare}
-use Rattle.dam_blocks.specs.Eligible.{welfare_from, IsEligible}
-use Rattle.dam_blocks.specs.Result.{RanksAtOrBelow, IsResult}
-use Rattle.dam_blocks.specs.Market.{IsOutcome, AreBestExecutions}
-use Rattle.dam_blocks.specs.Changes.{with_limit, IsWithLimit}
+use Rattle.dam_hour.specs.Price.{IsWorse}
 use Rattle.dam_blocks.proofs.Families.{accepts_descendant, where_true}
 use Rattle.dam_blocks.proofs.GroupCounts.{same_count}
 use Rattle.dam_blocks.proofs.WelfareAtLeastZero.{added_some, raised_some}

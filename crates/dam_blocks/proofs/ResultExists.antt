@@ -1,17 +1,11 @@
 -- A problem has a result: whether a selection is eligible is decided, and of the eligible ones one is the best.
-use Rattle.std.proofs.Common.{◌≡◌, ℕ, zero, suc, ◌+◌, ◌-◌, ◌≤◌, ◌^◌, ℤ, pos, neg_ℤ, ◌≤ℤ◌, Bool, true, false, inl, inr, List, [], ◌∷◌}
-use Rattle.std.proofs.Common.{length, replicate, length-append, subst, refl, arith}
+use Rattle.dam_blocks.proofs.Common.{◌≡◌, ℕ, zero, suc, ◌+◌, ◌-◌, ◌≤◌, ◌^◌, ℤ, pos, neg_ℤ, ◌≤ℤ◌, Bool, true, false, inl, inr, List, [], ◌∷◌, length, replicate}
+use Rattle.dam_blocks.proofs.Common.{length-append, subst, refl, arith, Buy, Sell, most_blocks, Step, IsExecution, Balances, map_dec, Block, ProblemState}
+use Rattle.dam_blocks.proofs.Common.{AreHoursInRange, IsProblem, accepts, padded, choice, net_volume, IsAdmissible, ArePrices, family_surplus, HasNoLoss}
+use Rattle.dam_blocks.proofs.Common.{IsEligible, RanksAtOrBelow, IsResult}
 use Rattle.std.proofs.lemmas.List.{length-replicate}
-use Rattle.dam_book.specs.declared.order.Side.TheVariants.{Buy, Sell}
-use Rattle.dam_book.specs.Limits.{most_blocks}
-use Rattle.dam_hour.specs.declared.step.Step.{Step}
-use Rattle.dam_hour.specs.Execution.{IsExecution, offered_volume, Balances, IsWithinOffers}
-use Rattle.std.proofs.Math.Decide.{map_dec}
-use Rattle.dam_blocks.specs.declared.problem.Block.{Block}
-use Rattle.dam_blocks.specs.Problem.{ProblemState, AreHoursInRange, IsProblem}
-use Rattle.dam_blocks.specs.Selection.{accepts, padded, empty_selection, choice, net_volume, IsAdmissible}
-use Rattle.dam_blocks.specs.Eligible.{ArePrices, family_surplus, HasNoLoss, IsEligible}
-use Rattle.dam_blocks.specs.Result.{RanksAtOrBelow, IsResult}
+use Rattle.dam_hour.specs.Execution.{offered_volume, IsWithinOffers}
+use Rattle.dam_blocks.specs.Selection.{empty_selection}
 use Rattle.dam_blocks.proofs.Deciding.{decided_both, decided_if, decided_true, decided_at_least, decided_each}
 use Rattle.dam_blocks.proofs.AdmissionDecided.{accepted_within, decided_admissible}
 use Rattle.dam_blocks.proofs.EmptySelection.{ExistenceLaws, AreWithin, Cleared, cleared}

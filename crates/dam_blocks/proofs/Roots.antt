@@ -1,12 +1,7 @@
 -- An accepted block has just one root, an accepted block without a parent, and a family has one owner.
-use Rattle.std.proofs.Common.{◌≡◌, ℕ, Bool, true, Some, List, length, ◌∙◌, sym, refl, arith}
+use Rattle.dam_blocks.proofs.Common.{◌≡◌, ℕ, Bool, true, Some, List, length, ◌∙◌, sym, refl, arith, eq-eqb, eqb-true, slice_get_within, Block, ProblemState}
+use Rattle.dam_blocks.proofs.Common.{IsProblem, accepts, IsAdmissible, parent_place, descends}
 use Rattle.std.specs.List.{slice_get}
-use Rattle.std.proofs.lemmas.Bool.{eq-eqb, eqb-true}
-use Rattle.std.proofs.lemmas.Option.{slice_get_within}
-use Rattle.dam_blocks.specs.declared.problem.Block.{Block}
-use Rattle.dam_blocks.specs.Problem.{ProblemState, IsProblem}
-use Rattle.dam_blocks.specs.Selection.{accepts, IsAdmissible}
-use Rattle.dam_blocks.specs.Family.{parent_place, descends}
 use Rattle.dam_blocks.specs.Market.{IsRootOf}
 use Rattle.dam_blocks.proofs.Families.{root, root_is_top, in_family}
 use Rattle.dam_blocks.proofs.WelfareAtLeastZero.{are_chains}

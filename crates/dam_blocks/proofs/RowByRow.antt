@@ -1,24 +1,16 @@
 -- A row more of a book.
-use Rattle.std.proofs.Common.{◌≡◌, ℕ, zero, suc, ◌+◌, ◌-◌, ◌<◌, ◌≤◌, Bool, true, false, cond, ◌==◌, Option, Some, None, List, [], ◌∷◌}
-use Rattle.std.proofs.Common.{map, ℤ}
-use Rattle.std.proofs.Common.{◌++◌, length, get_or, take, drop, append_assoc, length-append, ap, ap₂, ◌∙◌, sym, subst, refl}
-use Rattle.std.proofs.Common.{arith}
-use Rattle.std.specs.List.{slice_get, filter_map, cons_option}
-use Rattle.std.proofs.lemmas.Bool.Decides.{nat_tests}
-use Rattle.std.proofs.lemmas.List.{take_more, append-nil, map-set, get_or-map}
-use Rattle.std.proofs.lemmas.Option.{slice_get_within, get_or_from_slice_get}
+use Rattle.dam_blocks.proofs.Common.{◌≡◌, ℕ, zero, suc, ◌+◌, ◌-◌, ◌<◌, ◌≤◌, Bool, true, false, cond, ◌==◌, Option, Some, None, List, [], ◌∷◌, map, ℤ, ◌++◌}
+use Rattle.dam_blocks.proofs.Common.{length, get_or, take, drop, append_assoc, length-append, ap, ap₂, ◌∙◌, sym, subst, refl, arith, cons_option, nat_tests}
+use Rattle.dam_blocks.proofs.Common.{append-nil, slice_get_within, get_or_from_slice_get, most_hourly, Side, HourTerms, BlockTerms, Key, Row, AreRows, Hour}
+use Rattle.dam_blocks.proofs.Common.{Step, Block, ProblemRow, steps_in, hours_from, block_under, blocks_in, rows_after, hourly_orders}
+use Rattle.std.specs.List.{slice_get, filter_map}
+use Rattle.std.proofs.lemmas.List.{take_more, map-set, get_or-map}
 use Rattle.std.proofs.Math.ListN.{set}
-use Rattle.dam_book.specs.Limits.{most_hourly}
-use Rattle.dam_book.specs.declared.order.Side.{Side}
-use Rattle.dam_book.specs.Terms.{HourTerms, BlockTerms}
-use Rattle.dam_book.specs.Book.{Key, Row, AreRows, hourly_count}
+use Rattle.dam_book.specs.Book.{hourly_count}
 use Rattle.dam_book.specs.Order.{is_beyond}
-use Rattle.dam_book.specs.declared.order.Order.TheVariants.{Hour, Block as BlockVariant}
-use Rattle.dam_hour.specs.declared.step.Step.{Step}
-use Rattle.dam_blocks.specs.declared.problem.Block.{Block}
+use Rattle.dam_book.specs.declared.order.Order.TheVariants.{Block as BlockVariant}
 use Rattle.dam_blocks.specs.declared.problem.Place.TheVariants.{Hour as AtHour, Block as AtBlock}
-use Rattle.dam_blocks.specs.declared.problem.ProblemRow.{ProblemRow}
-use Rattle.dam_blocks.specs.Problem.{steps_in, hours_from, block_under, blocks_in, place_after, rows_after, hourly_orders}
+use Rattle.dam_blocks.specs.Problem.{place_after}
 use Rattle.dam_blocks.specs.inside.Making.{hourly_step, with_step}
 use Rattle.dam_blocks.proofs.FromBook.{hour_stands, few_hours, blocks-append, steps-append}
 

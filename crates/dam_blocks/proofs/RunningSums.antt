@@ -1,14 +1,8 @@
 -- A place more of a loop over a selection, its blocks and its periods.
-use Rattle.std.proofs.Common.{◌≡◌, ℕ, zero, suc, ◌+◌, ◌*◌, ◌<◌, ℤ, pos, neg_ℤ, ◌+ℤ◌, ◌≤ℤ◌, Bool, true, false, Some, List, [], ◌∷◌, length}
-use Rattle.std.proofs.Common.{get_or, drop, ap, ap₂, ◌∙◌, sym, refl, arith}
+use Rattle.dam_blocks.proofs.Common.{◌≡◌, ℕ, zero, suc, ◌+◌, ◌*◌, ◌<◌, ℤ, pos, neg_ℤ, ◌+ℤ◌, ◌≤ℤ◌, Bool, true, false, Some, List, [], ◌∷◌, length, get_or, drop}
+use Rattle.dam_blocks.proofs.Common.{ap, ap₂, ◌∙◌, sym, refl, arith, ints, BlockTerms, Block, greatest_gain, accepts, over_accepted, surplus_in, surplus_from}
 use Rattle.std.specs.List.{slice_get}
-use Rattle.std.proofs.lemmas.Int.{ints}
 use Rattle.std.proofs.Math.Seq.{drop-cons}
-use Rattle.dam_book.specs.Terms.{BlockTerms}
-use Rattle.dam_blocks.specs.declared.problem.Block.{Block}
-use Rattle.dam_blocks.specs.Magnitude.{greatest_gain}
-use Rattle.dam_blocks.specs.Selection.{accepts, over_accepted}
-use Rattle.dam_blocks.specs.Eligible.{surplus_in, surplus_from}
 use Rattle.dam_blocks.proofs.Sums.{over_accepted-nil}
 
 one_more : (i : ℕ) → suc i ≡ i + 1

@@ -1,14 +1,9 @@
 -- The gains of the participants add up to the welfare: each order is one participant's.
-use Rattle.std.proofs.Common.{◌≡◌, ℕ, zero, suc, ℤ, pos, ◌+ℤ◌, Bool, true, false, cond, Some, List, [], ◌∷◌, ap, ◌∙◌, sym, refl, arith}
+use Rattle.dam_blocks.proofs.Common.{◌≡◌, ℕ, zero, suc, ℤ, pos, ◌+ℤ◌, Bool, true, false, cond, Some, List, [], ◌∷◌, ap, ◌∙◌, sym, refl, arith, bytes_decides}
+use Rattle.dam_blocks.proofs.Common.{ints, same_text, ProblemRow, ProblemState, IsProblem, selection_welfare, IsOutcome, gain_of}
 use Rattle.std.specs.List.{slice_get}
-use Rattle.std.specs.Cmp.Lexicographic.{bytes_decides}
-use Rattle.std.proofs.lemmas.Int.{ints}
-use Rattle.dam_book.specs.Name.{same_text}
 use Rattle.dam_blocks.specs.declared.problem.Place.{Place}
-use Rattle.dam_blocks.specs.declared.problem.ProblemRow.{ProblemRow}
-use Rattle.dam_blocks.specs.Problem.{ProblemState, IsProblem}
-use Rattle.dam_blocks.specs.Eligible.{selection_welfare}
-use Rattle.dam_blocks.specs.Market.{IsOutcome, gain_of, over_participants, AreParticipants, over_orders}
+use Rattle.dam_blocks.specs.Market.{over_participants, AreParticipants, over_orders}
 use Rattle.dam_blocks.proofs.Sharing.{SharingLaws}
 use Rattle.dam_blocks.proofs.Orders.{shared_by_orders}
 

@@ -1,18 +1,10 @@
 -- The welfare of a selection is the gain of its orders, and as much is bought as is sold.
-use Rattle.std.proofs.Common.{◌≡◌, ℕ, suc, ℤ, pos, neg_ℤ, ◌+ℤ◌, ◌*ℤ◌, Bool, Option, Some, List, [], ◌∷◌, length, ap, ap₂, ◌∙◌}
-use Rattle.std.proofs.Common.{sym, refl, arith}
-use Rattle.std.specs.Option.{option_map}
-use Rattle.std.proofs.lemmas.Int.{ints}
-use Rattle.dam_book.specs.declared.order.Side.{Side}
-use Rattle.dam_book.specs.declared.order.Side.TheVariants.{Buy, Sell}
-use Rattle.dam_hour.specs.declared.step.Step.{Step}
-use Rattle.dam_hour.specs.Execution.{volume_on, Balances}
-use Rattle.dam_hour.specs.Best.{signed, IsBest, welfare_of, execution_surplus, greatest_welfare}
-use Rattle.dam_blocks.specs.declared.problem.Block.{Block}
-use Rattle.dam_blocks.specs.Problem.{ProblemState}
-use Rattle.dam_blocks.specs.Selection.{over_accepted, volume_in, net_volume_of_block, net_volume, accepted_value}
-use Rattle.dam_blocks.specs.Eligible.{ArePrices, surplus_in, surplus_from, added, period_welfare, welfare_from, selection_welfare}
-use Rattle.dam_blocks.specs.Market.{AreBestExecutions, block_volume_of, traded, money_from, hourly_surplus, accepted_surplus}
+use Rattle.dam_blocks.proofs.Common.{◌≡◌, ℕ, suc, ℤ, pos, neg_ℤ, ◌+ℤ◌, ◌*ℤ◌, Bool, Option, Some, List, [], ◌∷◌, length, ap, ap₂, ◌∙◌, sym, refl, arith}
+use Rattle.dam_blocks.proofs.Common.{option_map, ints, Side, Buy, Sell, Step, Balances, signed, IsBest, welfare_of, execution_surplus, greatest_welfare, Block}
+use Rattle.dam_blocks.proofs.Common.{ProblemState, over_accepted, volume_in, net_volume_of_block, net_volume, accepted_value, ArePrices, surplus_in}
+use Rattle.dam_blocks.proofs.Common.{surplus_from, added, period_welfare, welfare_from, selection_welfare, AreBestExecutions}
+use Rattle.dam_hour.specs.Execution.{volume_on}
+use Rattle.dam_blocks.specs.Market.{block_volume_of, traded, money_from, hourly_surplus, accepted_surplus}
 use Rattle.dam_blocks.proofs.Sums.{over_accepted-plus, over_accepted-same, over_accepted-zero, accepted_surplus as value_and_price}
 
 -- the laws of one period on a best execution

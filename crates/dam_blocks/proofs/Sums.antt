@@ -1,16 +1,8 @@
 -- Sums over the accepted blocks.
-use Rattle.std.proofs.Common.{◌≡◌, ℕ, zero, suc, ◌+◌, ◌-◌, ◌*◌, ℤ, pos, neg_ℤ, ◌+ℤ◌, ◌-ℤ◌, ◌*ℤ◌, Bool, true, false, List, []}
-use Rattle.std.proofs.Common.{◌∷◌, ◌++◌, length, drop, replicate, ap, ap₂, ◌∙◌, sym, refl, arith}
-use Rattle.std.proofs.lemmas.Int.{ints}
+use Rattle.dam_blocks.proofs.Common.{◌≡◌, ℕ, zero, suc, ◌+◌, ◌-◌, ◌*◌, ℤ, pos, neg_ℤ, ◌+ℤ◌, ◌-ℤ◌, ◌*ℤ◌, Bool, true, false, List, [], ◌∷◌, ◌++◌, length, drop}
+use Rattle.dam_blocks.proofs.Common.{replicate, ap, ap₂, ◌∙◌, sym, refl, arith, ints, BlockTerms, most_blocks, Side, Buy, Sell, signed, Block, padded}
+use Rattle.dam_blocks.proofs.Common.{over_accepted, volume_in, net_volume_of_block, value_in, net_volume, accepted_value, surplus_in}
 use borrow.Author.Differences.{up, down}
-use Rattle.dam_book.specs.Terms.{BlockTerms}
-use Rattle.dam_book.specs.Limits.{most_blocks}
-use Rattle.dam_book.specs.declared.order.Side.{Side}
-use Rattle.dam_book.specs.declared.order.Side.TheVariants.{Buy, Sell}
-use Rattle.dam_hour.specs.Best.{signed}
-use Rattle.dam_blocks.specs.declared.problem.Block.{Block}
-use Rattle.dam_blocks.specs.Selection.{padded, over_accepted, volume_in, net_volume_of_block, value_in, net_volume, accepted_value}
-use Rattle.dam_blocks.specs.Eligible.{surplus_in}
 
 pub over_accepted-plus : (f g : BlockTerms → ℤ) (bs : List Block) (sel : List Bool)
     → over_accepted (λ o. f o +ℤ g o) bs sel ≡ over_accepted f bs sel +ℤ over_accepted g bs sel

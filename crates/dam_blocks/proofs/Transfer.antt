@@ -1,13 +1,7 @@
 -- Two selections, perhaps of two problems: if the blocks' net volumes are the same in each period, so are prices and
 -- executions; if their values are too, so is the welfare.
-use Rattle.std.proofs.Common.{◌≡◌, ℕ, suc, ℤ, ◌+ℤ◌, Bool, Option, List, [], ◌∷◌, ap₂, subst, refl}
-use Rattle.std.specs.Option.{option_map}
-use Rattle.dam_hour.specs.declared.step.Step.{Step}
-use Rattle.dam_hour.specs.Best.{IsBest, greatest_welfare}
-use Rattle.dam_blocks.specs.declared.problem.Block.{Block}
-use Rattle.dam_blocks.specs.Selection.{net_volume, accepted_value}
-use Rattle.dam_blocks.specs.Eligible.{IsClearingPrice, ArePrices, added, welfare_from}
-use Rattle.dam_blocks.specs.Market.{AreBestExecutions}
+use Rattle.dam_blocks.proofs.Common.{◌≡◌, ℕ, suc, ℤ, ◌+ℤ◌, Bool, Option, List, [], ◌∷◌, ap₂, subst, refl, option_map, Step, IsBest, greatest_welfare, Block}
+use Rattle.dam_blocks.proofs.Common.{net_volume, accepted_value, IsClearingPrice, ArePrices, added, welfare_from, AreBestExecutions}
 
 pub prices_transfer : (bs cs : List Block) (xs ys : List Bool) (t : ℕ) (hours : List (List Step)) (prices : List ℤ)
     → ((s : ℕ) → net_volume bs xs s ≡ net_volume cs ys s) → ArePrices bs xs t hours prices → ArePrices cs ys t hours prices

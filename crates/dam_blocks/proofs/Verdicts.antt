@@ -1,17 +1,10 @@
 -- The facts on which the verdict on a selection rests, and the verdicts that it rules out.
-use Rattle.std.proofs.Common.{◌≡◌, ◌≢◌, ℕ, zero, suc, ◌+◌, ◌-◌, ◌<◌, ℤ, pos, negsuc, nat_abs, ◌≤ℤ◌, Bool, Some, List, [], ◌∷◌, length, take}
-use Rattle.std.proofs.Common.{◌∙◌, sym, subst, refl, arith}
+use Rattle.dam_blocks.proofs.Common.{◌≡◌, ◌≢◌, ℕ, zero, suc, ◌+◌, ◌-◌, ◌<◌, ℤ, pos, negsuc, nat_abs, ◌≤ℤ◌, Bool, Some, List, [], ◌∷◌, length, take, ◌∙◌, sym}
+use Rattle.dam_blocks.proofs.Common.{subst, refl, arith, ints, most_blocks, Step, Balances, Block, ProblemState, net_volume, IsAdmissible, IsClearingPrice}
+use Rattle.dam_blocks.proofs.Common.{ArePrices, family_surplus, HasNoLoss, selection_welfare, IsEligible}
 use Rattle.std.specs.List.{slice_get}
-use Rattle.std.proofs.lemmas.Int.{ints}
-use Rattle.dam_book.specs.Limits.{most_blocks}
-use Rattle.dam_hour.specs.declared.step.Step.{Step}
-use Rattle.dam_hour.specs.Execution.{Balances}
-use Rattle.dam_blocks.specs.declared.problem.Block.{Block}
 use Rattle.dam_blocks.specs.declared.scoring.Verdict.{Verdict}
 use Rattle.dam_blocks.specs.declared.scoring.Verdict.TheVariants.{NotAdmissible, Unbalanced, Losing, Eligible}
-use Rattle.dam_blocks.specs.Problem.{ProblemState}
-use Rattle.dam_blocks.specs.Selection.{net_volume, IsAdmissible}
-use Rattle.dam_blocks.specs.Eligible.{IsClearingPrice, ArePrices, family_surplus, HasNoLoss, selection_welfare, IsEligible}
 use Rattle.dam_blocks.specs.Score.{IsFirstUnbalanced, IsFirstLosing, IsVerdict}
 use Rattle.dam_blocks.proofs.PricesUnique.{prices_unique}
 

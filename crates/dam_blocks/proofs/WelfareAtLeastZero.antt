@@ -1,24 +1,14 @@
 -- An eligible selection has a welfare of at least 0: the hourly orders gain at the prices, and no accepted block loses.
-use Rattle.std.proofs.Common.{◌≡◌, ℕ, suc, ◌↔◌, ℤ, pos, ◌+ℤ◌, ◌*ℤ◌, ◌≤ℤ◌, ◌<◌, Bool, true, Option, Some, None, List, [], ◌∷◌, get_or, ap}
-use Rattle.std.proofs.Common.{◌∙◌, sym, subst, refl, arith}
+use Rattle.dam_blocks.proofs.Common.{◌≡◌, ℕ, suc, ◌↔◌, ℤ, pos, ◌+ℤ◌, ◌*ℤ◌, ◌≤ℤ◌, ◌<◌, Bool, true, Option, Some, None, List, [], ◌∷◌, get_or, ap, ◌∙◌, sym}
+use Rattle.dam_blocks.proofs.Common.{subst, refl, arith, option_map, bytes_decides, and_parts, ints, Step, IsExecution, Balances, AreEnds, price_between}
+use Rattle.dam_blocks.proofs.Common.{welfare_of, execution_surplus, greatest_welfare, Block, same_text, ProblemState, IsProblem, IsParent, over_accepted}
+use Rattle.dam_blocks.proofs.Common.{net_volume, accepted_value, IsAdmissible, names, parent_among, parent_place, IsClearingPrice, ArePrices, surplus_in}
+use Rattle.dam_blocks.proofs.Common.{surplus_from, added, period_welfare, welfare_from, IsEligible}
 use Rattle.std.specs.List.{slice_get}
-use Rattle.std.specs.Option.{option_map}
-use Rattle.std.specs.Cmp.Lexicographic.{bytes_decides}
-use Rattle.std.proofs.lemmas.Bool.{and_parts}
 use Rattle.std.proofs.lemmas.Option.{slice_get-get_or}
 use Rattle.std.proofs.lemmas.List.Quantifiers.{position-Some}
-use Rattle.std.proofs.lemmas.Int.{ints}
-use Rattle.dam_hour.specs.declared.step.Step.{Step}
-use Rattle.dam_hour.specs.Execution.{IsExecution, Balances}
-use Rattle.dam_hour.specs.Price.{Supports, IsSupporting, AreEnds, price_between}
-use Rattle.dam_hour.specs.Best.{welfare_of, execution_surplus, greatest_welfare}
-use Rattle.dam_blocks.specs.declared.problem.Block.{Block}
-use Rattle.dam_book.specs.Name.{same_text}
+use Rattle.dam_hour.specs.Price.{Supports, IsSupporting}
 use Rattle.dam_book.specs.Order.{is_parent}
-use Rattle.dam_blocks.specs.Problem.{ProblemState, IsProblem, IsParent}
-use Rattle.dam_blocks.specs.Selection.{over_accepted, net_volume, accepted_value, IsAdmissible}
-use Rattle.dam_blocks.specs.Family.{names, parent_among, parent_place}
-use Rattle.dam_blocks.specs.Eligible.{IsClearingPrice, ArePrices, surplus_in, surplus_from, added, period_welfare, welfare_from, IsEligible}
 use Rattle.dam_blocks.proofs.Sums.{over_accepted-plus, over_accepted-zero, accepted_surplus}
 use Rattle.dam_blocks.proofs.Families.{AreChains, no_loss_in_families}
 

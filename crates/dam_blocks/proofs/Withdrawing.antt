@@ -1,23 +1,13 @@
 -- A problem without one of its blocks: its selections are those of the whole that reject the block.
-use Rattle.std.proofs.Common.{◌≡◌, ◌⊎◌, inl, inr, ℕ, zero, suc, ◌-◌, ◌<◌, ℤ, pos, ◌+ℤ◌, ◌≤ℤ◌, Bool, true, false, ◌&&◌, cond, Option}
-use Rattle.std.proofs.Common.{Some, ◌+◌, ◌≤◌, List, [], ◌∷◌, ◌++◌, length, length-append, ap, ap₂, ◌∙◌, sym, subst, refl, arith}
+use Rattle.dam_blocks.proofs.Common.{◌≡◌, ◌⊎◌, inl, inr, ℕ, zero, suc, ◌-◌, ◌<◌, ℤ, pos, ◌+ℤ◌, ◌≤ℤ◌, Bool, true, false, ◌&&◌, cond, Option, Some, ◌+◌, ◌≤◌}
+use Rattle.dam_blocks.proofs.Common.{List, [], ◌∷◌, ◌++◌, length, length-append, ap, ap₂, ◌∙◌, sym, subst, refl, arith, option_map, unwrap_or, ints}
+use Rattle.dam_blocks.proofs.Common.{false_from_ne_true, slice_get_within, BlockTerms, most_blocks, most_of_group, Step, Block, ProblemState, IsProblem}
+use Rattle.dam_blocks.proofs.Common.{IsParent, accepts, over_accepted, net_volume_of_block, value_in, net_volume, are_of_one_group, accepted_of_group}
+use Rattle.dam_blocks.proofs.Common.{IsAllowed, IsAdmissible, descends, accepted_descendants, IsChildAt, Descends, Child, OfChild, ArePrices, surplus_of}
+use Rattle.dam_blocks.proofs.Common.{family_surplus, HasNoLoss, welfare_from, selection_welfare, IsEligible, accepts_first, RanksAtOrBelow, IsResult, IsOutcome}
+use Rattle.dam_blocks.proofs.Common.{AreBestExecutions}
 use Rattle.std.specs.List.{slice_get, insert, remove}
-use Rattle.std.specs.Option.{option_map, unwrap_or}
-use Rattle.std.proofs.lemmas.Int.{ints}
-use Rattle.std.proofs.lemmas.Bool.{false_from_ne_true}
-use Rattle.std.proofs.lemmas.Option.{slice_get_within}
 use Rattle.std.proofs.lemmas.List.Edits.{length-remove}
-use Rattle.dam_book.specs.Terms.{BlockTerms}
-use Rattle.dam_book.specs.Limits.{most_blocks, most_of_group}
-use Rattle.dam_hour.specs.declared.step.Step.{Step}
-use Rattle.dam_blocks.specs.declared.problem.Block.{Block}
-use Rattle.dam_blocks.specs.Problem.{ProblemState, IsProblem, IsParent}
-use Rattle.dam_blocks.specs.Selection.{accepts, over_accepted, net_volume_of_block, value_in, net_volume, are_of_one_group, accepted_of_group}
-use Rattle.dam_blocks.specs.Selection.{IsAllowed, IsAdmissible}
-use Rattle.dam_blocks.specs.Family.{descends, accepted_descendants, IsChildAt, Descends, Child, OfChild}
-use Rattle.dam_blocks.specs.Eligible.{ArePrices, surplus_of, family_surplus, HasNoLoss, welfare_from, selection_welfare, IsEligible}
-use Rattle.dam_blocks.specs.Result.{accepts_first, RanksAtOrBelow, IsResult}
-use Rattle.dam_blocks.specs.Market.{IsOutcome, AreBestExecutions}
 use Rattle.dam_blocks.specs.Changes.{without_place, IsWithoutBlock}
 use Rattle.dam_blocks.proofs.Sums.{over_accepted-nil}
 use Rattle.dam_blocks.proofs.Families.{accepts_descendant}

@@ -1,21 +1,15 @@
 -- Of the limits of the range, those at which a block is accepted are all from a worst one on, or there is none.
-use Rattle.std.proofs.Common.{◌≡◌, ◌⊎◌, inl, inr, ℕ, zero, suc, ◌^◌, ◌<◌, ◌≤◌, ℤ, pos, ◌+ℤ◌, ◌-ℤ◌, Bool, true, false, Some, List}
-use Rattle.std.proofs.Common.{[], ◌∷◌, length, slice_set, set-set, sym, subst, refl, nat_abs, arith}
+use Rattle.dam_blocks.proofs.Common.{◌≡◌, ◌⊎◌, inl, inr, ℕ, zero, suc, ◌^◌, ◌<◌, ◌≤◌, ℤ, pos, ◌+ℤ◌, ◌-ℤ◌, Bool, true, false, Some, List, [], ◌∷◌, length}
+use Rattle.dam_blocks.proofs.Common.{slice_set, sym, subst, refl, nat_abs, arith, ints, cases_lt, most_blocks, Side, Buy, Sell, IsBetter, Block, ProblemState}
+use Rattle.dam_blocks.proofs.Common.{AreHoursInRange, IsProblem, accepts, choice, padded, IsResult, with_limit, IsWithLimit}
+use Rattle.std.proofs.Common.{set-set}
 use Rattle.std.specs.List.{slice_get}
-use Rattle.std.proofs.lemmas.Int.{ints}
 use Rattle.std.proofs.lemmas.List.{length-set}
-use Rattle.std.proofs.lemmas.Bool.{cases_lt}
-use Rattle.dam_book.specs.Limits.{lowest_price, highest_price, most_blocks}
+use Rattle.dam_book.specs.Limits.{lowest_price, highest_price}
 use Rattle.dam_book.specs.Price.{IsPrice}
-use Rattle.dam_book.specs.declared.order.Side.{Side}
-use Rattle.dam_book.specs.declared.order.Side.TheVariants.{Buy, Sell}
 use Rattle.dam_hour.specs.Limits.{price_span}
-use Rattle.dam_hour.specs.Price.{IsBetter, IsWorse}
-use Rattle.dam_blocks.specs.declared.problem.Block.{Block}
-use Rattle.dam_blocks.specs.Problem.{ProblemState, AreHoursInRange, IsProblem}
-use Rattle.dam_blocks.specs.Selection.{accepts, choice, padded}
-use Rattle.dam_blocks.specs.Result.{IsResult}
-use Rattle.dam_blocks.specs.Changes.{with_limit, with_limit_at, IsWithLimit, IsAcceptedAt, IsRejectedAt, IsNeverAccepted, IsWorstLimit}
+use Rattle.dam_hour.specs.Price.{IsWorse}
+use Rattle.dam_blocks.specs.Changes.{with_limit_at, IsAcceptedAt, IsRejectedAt, IsNeverAccepted, IsWorstLimit}
 use Rattle.dam_blocks.proofs.EmptySelection.{ExistenceLaws, empty_eligible}
 use Rattle.dam_blocks.proofs.ResultExists.{BalanceLaw, decided_eligible, best_so_far, length-padded}
 use Rattle.dam_blocks.proofs.Choices.{all_tried}

@@ -74,7 +74,7 @@ pub fn an_eligible_selection_has_an_outcome()
 }
 
 /// An outcome executes each hourly order, at place `i` of the period that `k` others precede, at the period's
-/// price. So `dam_hour::market::a_period_is_fair` is of each.
+/// price. So `dam_hour::market_laws::a_period_is_fair` is of each.
 pub fn hourly_orders_are_executed()
     ensures executed { (problem : ProblemState) (selection : List Bool) (prices : List ℤ)
         (executions : List (List ℕ)) (k i : ℕ) (steps : List Step) (step : Step)
@@ -262,7 +262,7 @@ pub fn book_order_of_hourly_orders_decides_only_ties()
         → IsReordered problem other
         → IsResult problem selection welfare → IsResult other selection welfare }
 {
-    dam_hour::market::book_order_decides_only_ties();
+    dam_hour::market_laws::book_order_decides_only_ties();
 }
 
 /// Book order decides only ties, for blocks: if they stand in another order, parents before their

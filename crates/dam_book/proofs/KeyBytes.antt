@@ -4,8 +4,7 @@ use Rattle.std.proofs.Common.{arith, refl, ap₂}
 use Rattle.std.specs.List.{list_all}
 use Rattle.dam_book.specs.Limits.{longest_name, longest_participant}
 use Rattle.dam_book.specs.Name.{IsName, IsParticipant, is_letter_byte, is_name_byte}
-use Rattle.dam_book.specs.Book.{Key}
-use Rattle.dam_book.specs.inside.Gaps.{key_bytes}
+use Rattle.dam_book.specs.Book.{Key, key_bytes}
 use Rattle.dam_book.proofs.Keys.{both_true}
 
 -- what comes after equally many zeros

@@ -1,4 +1,5 @@
 -- The modules of lemmas, each after those that it uses.
+pub mod Common
 pub mod Keys
 pub mod KeyBytes
 pub mod Histories

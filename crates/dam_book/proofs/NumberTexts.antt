@@ -1,14 +1,12 @@
 -- The text of a number, and the number that its digits say.
-use Rattle.std.proofs.Common.{zero, suc, pos, negsuc, ◌≡◌, ◌≢◌, ◌<◌, ◌≤◌, ◌+◌, ◌-◌, ◌*◌, ◌^◌, ℕ, ℤ, List, ◌∷◌, Option, None, Some}
-use Rattle.std.proofs.Common.{MatchOption, length, get_or, true, false, arith, refl, sym, ap, subst, ◌∙◌, rules}
-use Rattle.std.specs.Prelude.{decimal}
+use Rattle.dam_book.proofs.Common.{IsNumeralModel, IsShort, List, MatchOption, None, Option, Some, all_ascii_digits, ap, arith, decimal}
+use Rattle.dam_book.proofs.Common.{digits_decimal, false, get_or, ints, length, negsuc, pos, refl, rules, subst, suc, sym, true, value_from, zero, ℕ}
+use Rattle.dam_book.proofs.Common.{ℤ, ◌+◌, ◌-◌, ◌<◌, ◌^◌, ◌∙◌, ◌∷◌, ◌≡◌, ◌≢◌, ◌≤◌}
+use Rattle.std.proofs.Common.{◌*◌}
 use Rattle.std.specs.Fmt.{signed_decimal}
-use Rattle.std.proofs.lemmas.Int.{ints}
-use Rattle.std.specs.Str.{all_ascii_digits}
 use Rattle.std.proofs.lemmas.Nat.{pow-add}
-use Rattle.std.proofs.lemmas.Fmt.{decimal-digits_value, digits_decimal, decimal_digit, decimal_nonempty, first_decimal, length-decimal-le}
-use Rattle.std.proofs.lemmas.Str.Parse.{IsNumeralModel, numerals_by_fold, digits_value_short, tells_all_ascii_digits}
-use Rattle.dam_book.specs.inside.Digits.{value_from, IsShort}
+use Rattle.std.proofs.lemmas.Fmt.{decimal-digits_value, decimal_digit, decimal_nonempty, first_decimal, length-decimal-le}
+use Rattle.std.proofs.lemmas.Str.Parse.{numerals_by_fold, digits_value_short, tells_all_ascii_digits}
 
 pub own : IsNumeralModel (λ ds. all_ascii_digits ds ≡ true) (value_from 0)
 own = numerals_by_fold _ tells_all_ascii_digits value_from (search rules)

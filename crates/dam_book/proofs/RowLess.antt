@@ -1,10 +1,9 @@
 -- A book still satisfies the book invariant without the row at a place, if no row names it as its
 -- parent.
-use Rattle.std.proofs.Common.{◌≡◌, ℕ, zero, suc, Bool, true, false, cond, List, [], ◌∷◌, Some, None, ap, ◌∙◌, sym, subst, arith}
-use Rattle.std.specs.List.{slice_get, remove, list_any}
-use Rattle.std.specs.Map.{lookup, remove_entry}
-use Rattle.dam_book.specs.Order.{is_hour, is_block}
-use Rattle.dam_book.specs.Book.{Key, Row, BookState, same_key, hourly_count, block_count, is_day, names_parent, AreRows, are_unique, are_linked, IsBook}
+use Rattle.dam_book.proofs.Common.{AreRows, BookState, Bool, IsBook, Key, List, None, Row, Some, [], ap, are_linked, are_unique, arith, block_count}
+use Rattle.dam_book.proofs.Common.{cond, false, hourly_count, is_block, is_day, is_hour, list_any, lookup, names_parent, remove_entry, same_key}
+use Rattle.dam_book.proofs.Common.{subst, suc, sym, true, zero, ℕ, ◌∙◌, ◌∷◌, ◌≡◌}
+use Rattle.std.specs.List.{slice_get, remove}
 use Rattle.dam_book.proofs.Keys.{same_key-refl, same_key-flipped}
 use Rattle.dam_book.proofs.RowFacts.{none_head, lookup-first, AreRows-remove_entry, are_unique-remove_entry, count_by-remove_entry}
 use Rattle.dam_book.proofs.LinkFacts.{are_linked-removed}

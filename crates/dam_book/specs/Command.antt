@@ -12,9 +12,9 @@ giver (Amend who name price volumes) = Some who
 giver (Cancel who name) = Some who
 giver Close = None
 
--- whether a journal of `held` entries has no room for the command: the last entry is kept for a close
+-- whether a journal of `entry_count` entries has no room for the command: the last entry is kept for a close
 abbrev pub is_journal_full : ℕ → Command → Bool
-is_journal_full held c = nat_le (if is_some (giver c) then most_entries - 1 else most_entries) held
+is_journal_full entry_count c = nat_le (if is_some (giver c) then most_entries - 1 else most_entries) entry_count
 
 -- whether the command has at most one volume: a submit of an hourly order, an amend of one period, a cancel or a close
 abbrev pub is_small : Command → Bool

@@ -12,7 +12,7 @@ ghost use Rattle.dam_book.specs.inside.Digits.{value_from, IsShort};
 const MOST_DIGITS: usize = 9;
 
 // The number that these bytes are the digits of, or `None` if another byte is among them.
-fn value_of(digits: &[u8]) -> Option<u32>
+fn value_of_digits(digits: &[u8]) -> Option<u32>
     requires { length digits.now ≤ 9 }
     ensures { MatchOption result
         (all_ascii_digits digits.now ≡ false)
@@ -51,7 +51,7 @@ pub(crate) fn read_number(text: &[u8]) -> Option<u32>
     if has_leading_zero(text) {
         return None;
     }
-    value_of(text)
+    value_of_digits(text)
 }
 
 // The same with a sign: a number below zero has a dash before its digits.

@@ -23,12 +23,12 @@ use std::sync::Arc;
 /// A contract sees the command.
 #[derive(Debug, Drop)]
 pub struct PackedCommand<A: Allocator = Global> {
-    form: Form<A>,
+    packing: Packing<A>,
 }
 
-/// The forms of a command.
+/// A command in no more memory than it needs.
 #[derive(Debug, Drop)]
-enum Form<A: Allocator> {
+enum Packing<A: Allocator> {
     /// A submit of an hourly order.
     Hour {
         who: Participant,
@@ -58,7 +58,7 @@ impl<A: Allocator> Model for PackedCommand<A> {
 
     ghost Value = { Command };
 
-    ghost view = { λ p. command_of p.form };
+    ghost view = { λ p. command_of p.packing };
 }
 
 impl<A: Allocator> PackedCommand<A> {
@@ -67,39 +67,39 @@ impl<A: Allocator> PackedCommand<A> {
         ensures command { IfOk result (λ packed. packed ≡ command.now) }
         ensures small { is_small command.now ≡ true → IsOk result }
     {
-        let form = match command {
+        let packing = match command {
             Command::Submit {
                 who,
                 name,
                 order: Order::Hour(order),
-            } => hour_form(who, name, order),
+            } => pack_hour(who, name, order),
             Command::Amend {
                 who,
                 name,
                 price,
                 volumes,
             } => match volumes.pairs() {
-                [(period, volume)] => amend_form(who, name, *price, *period, *volume),
-                _ => whole_form(alloc, command)?,
+                [(period, volume)] => pack_amend(who, name, *price, *period, *volume),
+                _ => pack_whole(alloc, command)?,
             },
-            Command::Cancel { who, name } => cancel_form(who, name),
-            Command::Close => Form::Close,
-            Command::Submit { .. } => whole_form(alloc, command)?,
+            Command::Cancel { who, name } => pack_cancel(who, name),
+            Command::Close => Packing::Close,
+            Command::Submit { .. } => pack_whole(alloc, command)?,
         };
-        Ok(PackedCommand { form })
+        Ok(PackedCommand { packing })
     }
 
     /// The command; it can't fail.
     pub fn command(&self) -> Command
         ensures { result ≡ self.now }
     {
-        match &self.form {
-            Form::Hour { who, name, order } => Command::Submit {
+        match &self.packing {
+            Packing::Hour { who, name, order } => Command::Submit {
                 who: who.copy(),
                 name: name.copy(),
                 order: Order::Hour(*order),
             },
-            Form::Amend {
+            Packing::Amend {
                 who,
                 name,
                 price,
@@ -111,12 +111,12 @@ impl<A: Allocator> PackedCommand<A> {
                 price: *price,
                 volumes: Volumes::of_one(*period, *volume),
             },
-            Form::Cancel { who, name } => Command::Cancel {
+            Packing::Cancel { who, name } => Command::Cancel {
                 who: who.copy(),
                 name: name.copy(),
             },
-            Form::Close => Command::Close,
-            Form::Whole(command) => command.copy(),
+            Packing::Close => Command::Close,
+            Packing::Whole(command) => command.copy(),
         }
     }
 
@@ -124,38 +124,37 @@ impl<A: Allocator> PackedCommand<A> {
     pub fn participant(&self) -> Option<&Participant>
         ensures { option_copied result ≡ giver self.now }
     {
-        match &self.form {
-            Form::Hour { who, .. } | Form::Amend { who, .. } | Form::Cancel { who, .. } => Some(
-                who,
-            ),
-            Form::Close => None,
-            Form::Whole(command) => command.participant(),
+        match &self.packing {
+            Packing::Hour { who, .. } | Packing::Amend { who, .. } | Packing::Cancel { who, .. } =>
+                Some(who),
+            Packing::Close => None,
+            Packing::Whole(command) => command.participant(),
         }
     }
 
-    /// Whether the other is the same command. Neither is unpacked if both are of one form.
+    /// Whether the other is the same command. Neither is unpacked if both are packed alike.
     pub fn equals<B: Allocator>(&self, other: &PackedCommand<B>) -> bool
         ensures { MatchBool result (self.now ≡ other.now) (self.now ≢ other.now) }
     {
         equality();
-        match (&self.form, &other.form) {
+        match (&self.packing, &other.packing) {
             (
-                Form::Hour { who, name, order },
-                Form::Hour {
+                Packing::Hour { who, name, order },
+                Packing::Hour {
                     who: other_who,
                     name: other_name,
                     order: other_order,
                 },
             ) => *who == *other_who && *name == *other_name && *order == *other_order,
             (
-                Form::Amend {
+                Packing::Amend {
                     who,
                     name,
                     price,
                     period,
                     volume,
                 },
-                Form::Amend {
+                Packing::Amend {
                     who: other_who,
                     name: other_name,
                     price: other_price,
@@ -170,40 +169,41 @@ impl<A: Allocator> PackedCommand<A> {
                     && *volume == *other_volume
             }
             (
-                Form::Cancel { who, name },
-                Form::Cancel {
+                Packing::Cancel { who, name },
+                Packing::Cancel {
                     who: other_who,
                     name: other_name,
                 },
             ) => *who == *other_who && *name == *other_name,
-            (Form::Close, Form::Close) => true,
-            (Form::Whole(command), Form::Whole(other_command)) => **command == **other_command,
+            (Packing::Close, Packing::Close) => true,
+            (Packing::Whole(command), Packing::Whole(other_command)) => **command
+                == **other_command,
             _ => self.command() == other.command(),
         }
     }
 }
 
-fn hour_form<A: Allocator>(who: &Participant, name: &Name, order: &HourOrder) -> Form<A>
+fn pack_hour<A: Allocator>(who: &Participant, name: &Name, order: &HourOrder) -> Packing<A>
     ensures { command_of result ≡ Command.Submit who.now name.now (Order.Hour order.now) }
 {
-    Form::Hour {
+    Packing::Hour {
         who: who.copy(),
         name: name.copy(),
         order: *order,
     }
 }
 
-fn amend_form<A: Allocator>(
+fn pack_amend<A: Allocator>(
     who: &Participant,
     name: &Name,
     price: Price,
     period: Period,
     volume: Qty,
-) -> Form<A>
+) -> Packing<A>
     ensures { command_of result
         ≡ Command.Amend who.now name.now price ((period, volume) ∷ []) }
 {
-    Form::Amend {
+    Packing::Amend {
         who: who.copy(),
         name: name.copy(),
         price,
@@ -212,20 +212,20 @@ fn amend_form<A: Allocator>(
     }
 }
 
-fn cancel_form<A: Allocator>(who: &Participant, name: &Name) -> Form<A>
+fn pack_cancel<A: Allocator>(who: &Participant, name: &Name) -> Packing<A>
     ensures { command_of result ≡ Command.Cancel who.now name.now }
 {
-    Form::Cancel {
+    Packing::Cancel {
         who: who.copy(),
         name: name.copy(),
     }
 }
 
-fn whole_form<A: Allocator>(alloc: A, command: &Command) -> Result<Form<A>, AllocError>
-    ensures { IfOk result (λ form. command_of form ≡ command.now) }
+fn pack_whole<A: Allocator>(alloc: A, command: &Command) -> Result<Packing<A>, AllocError>
+    ensures { IfOk result (λ packing. command_of packing ≡ command.now) }
 {
     match Arc::new(alloc, command.copy()) {
-        Ok(shared) => Ok(Form::Whole(shared)),
+        Ok(shared) => Ok(Packing::Whole(shared)),
         Err(_) => Err(AllocError),
     }
 }
@@ -234,20 +234,20 @@ impl<A: Allocator + Copy> Clone for PackedCommand<A> {
     ghost is_clone = { λ x y. y ≡ x };
 
     fn clone(&self) -> Result<PackedCommand<A>, AllocError> {
-        let form = match &self.form {
-            Form::Hour { who, name, order } => hour_form(who, name, order),
-            Form::Amend {
+        let packing = match &self.packing {
+            Packing::Hour { who, name, order } => pack_hour(who, name, order),
+            Packing::Amend {
                 who,
                 name,
                 price,
                 period,
                 volume,
-            } => amend_form(who, name, *price, *period, *volume),
-            Form::Cancel { who, name } => cancel_form(who, name),
-            Form::Close => Form::Close,
-            Form::Whole(command) => Form::Whole(Arc::try_clone(command)?),
+            } => pack_amend(who, name, *price, *period, *volume),
+            Packing::Cancel { who, name } => pack_cancel(who, name),
+            Packing::Close => Packing::Close,
+            Packing::Whole(command) => Packing::Whole(Arc::try_clone(command)?),
         };
-        Ok(PackedCommand { form })
+        Ok(PackedCommand { packing })
     }
 }
 

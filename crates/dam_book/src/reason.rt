@@ -2,7 +2,7 @@
 
 ghost use Rattle.std.specs.Prelude.{◌≡◌, option_map};
 ghost use Rattle.std.specs.Option.{option_copied};
-ghost use Rattle.dam_book.specs.Book.{reason_word, refusal, is_out_of_day, is_name_taken, is_unknown_order, is_wrong_shape, is_unknown_parent, is_parent_hourly, is_hourly_full, is_blocks_full, has_children};
+ghost use Rattle.dam_book.specs.Book.{reason_word, refusal, is_period_out_of_day, is_name_taken, is_unknown_order, is_wrong_shape, is_unknown_parent, is_parent_not_block, is_hourly_full, is_blocks_full, has_children};
 ghost use Rattle.dam_book.specs.inside.Reasons.{order_named, parent_named};
 
 use crate::book::Book;
@@ -71,7 +71,7 @@ impl<A: Allocator + Copy> Book<A> {
         if self.is_closed() {
             return Some(Reason::Closed);
         }
-        if self.is_out_of_day(command) {
+        if self.is_period_out_of_day(command) {
             return Some(Reason::PeriodOutOfDay);
         }
         if self.is_name_taken(command, named) {
@@ -87,7 +87,7 @@ impl<A: Allocator + Copy> Book<A> {
         if self.is_unknown_parent(command, parent) {
             return Some(Reason::UnknownParent);
         }
-        if self.is_parent_hourly(command, parent) {
+        if self.is_parent_not_block(command, parent) {
             return Some(Reason::ParentNotBlock);
         }
         if self.is_hourly_full(command) {
@@ -96,14 +96,14 @@ impl<A: Allocator + Copy> Book<A> {
         if self.is_blocks_full(command) {
             return Some(Reason::BlocksFull);
         }
-        if self.cancels_parent(command, named) {
+        if self.has_children(command, named) {
             return Some(Reason::HasChildren);
         }
         None
     }
 
-    fn is_out_of_day(&self, command: &Command) -> bool
-        ensures { result ≡ is_out_of_day self.now command.now }
+    fn is_period_out_of_day(&self, command: &Command) -> bool
+        ensures { result ≡ is_period_out_of_day self.now command.now }
     {
         match command {
             Command::Submit { order, .. } => order.is_beyond(self.periods()),
@@ -168,9 +168,9 @@ impl<A: Allocator + Copy> Book<A> {
         }
     }
 
-    fn is_parent_hourly(&self, command: &Command, parent: Option<&Order>) -> bool
+    fn is_parent_not_block(&self, command: &Command, parent: Option<&Order>) -> bool
         requires { option_copied parent ≡ parent_named self.now command.now }
-        ensures { result ≡ is_parent_hourly self.now command.now }
+        ensures { result ≡ is_parent_not_block self.now command.now }
     {
         match command {
             Command::Submit { .. } => match parent {
@@ -199,7 +199,7 @@ impl<A: Allocator + Copy> Book<A> {
         }
     }
 
-    fn cancels_parent(&self, command: &Command, named: Option<(usize, &Order)>) -> bool
+    fn has_children(&self, command: &Command, named: Option<(usize, &Order)>) -> bool
         requires { option_map (λ r. r.1.now) named ≡ order_named self.now command.now }
         ensures { result ≡ has_children self.now command.now }
     {
@@ -208,7 +208,7 @@ impl<A: Allocator + Copy> Book<A> {
                 let _kept = self.periods(); // for the proof: parents are blocks
                 match named {
                     Some((_, order)) if order.is_hour() => false,
-                    Some(_) | None => self.has_children(who, name),
+                    Some(_) | None => self.is_parent(who, name),
                 }
             }
             Command::Submit { .. } | Command::Amend { .. } | Command::Close => false,

@@ -7,11 +7,11 @@ ghost use Rattle.std.specs.Map.{lookup, remove_entry, keys_of};
 ghost use Rattle.std.specs.Cmp.Rules.{comparing, hashing};
 ghost use Rattle.std.specs.Hash as fed;
 ghost use Rattle.std.proofs.Common.{rules};
-ghost use Rattle.dam_book.specs.Book.{same_key, changed, names_parent};
+ghost use Rattle.dam_book.specs.Book.{same_key, key_bytes, changed, names_parent};
 ghost use Rattle.dam_book.specs.Order.{amended};
-ghost use Rattle.dam_book.specs.inside.Gaps.{held, gap_count, key_bytes, same_label, AreNumbered, IsLabelledAt, child_at, is_child_place};
+ghost use Rattle.dam_book.specs.inside.Gaps.{rows_of, gap_count, same_label, AreNumbered, IsLabelledAt, child_at, is_child_place};
 
-use crate::boxed::BoxedOrder;
+use crate::boxed_order::BoxedOrder;
 use crate::name::{LONGEST_NAME, LONGEST_PARTICIPANT, Name, Participant};
 use crate::order::Order;
 use crate::price::Price;
@@ -82,10 +82,10 @@ impl Hash for Label {
 }
 
 // The bytes of a key's two texts, one after the other: one call hashes them in whole words.
-fn key_bytes(who: &Participant, name: &Name) -> [u8; HASHED]
+fn key_bytes(who: &Participant, name: &Name) -> [u8; KEY_BYTES]
     ensures { result ≡ key_bytes (who.now, name.now) }
 {
-    let mut bytes = [0; HASHED];
+    let mut bytes = [0; KEY_BYTES];
     bytes[..LONGEST_PARTICIPANT].copy_from_slice(who.as_padded_bytes());
     bytes[LONGEST_PARTICIPANT..LONGEST_PARTICIPANT + LONGEST_NAME].copy_from_slice(
         name.as_padded_bytes(),
@@ -94,10 +94,10 @@ fn key_bytes(who: &Participant, name: &Name) -> [u8; HASHED]
 }
 
 // Three words of eight bytes, in which both texts find room.
-const HASHED: usize = 24;
+const KEY_BYTES: usize = 24;
 
 // The content of a place is an order, or `None` at a gap.
-type Places<A> = IndexMap<Label, Option<BoxedOrder<A>>, Seed, A>;
+type RowMap<A> = IndexMap<Label, Option<BoxedOrder<A>>, Seed, A>;
 
 // Rows in an order that stays, each under a key of its own. A row that is taken out leaves a gap in its place, so that
 // no other moves; once there are more gaps than rows they are squeezed out.
@@ -105,7 +105,7 @@ type Places<A> = IndexMap<Label, Option<BoxedOrder<A>>, Seed, A>;
 // A contract sees the rows.
 #[derive(Debug, Drop)]
 pub(crate) struct Rows<A: Allocator> {
-    places: Places<A>,
+    map: RowMap<A>,
     gaps: usize,
 }
 
@@ -114,15 +114,15 @@ impl<A: Allocator> Model for Rows<A> {
     ghost use Rattle.std.specs.List.{IsDistinct};
     ghost use Rattle.std.specs.Map.{keys_of};
     ghost use Rattle.dam_book.specs.Book.{Row};
-    ghost use Rattle.dam_book.specs.inside.Gaps.{held, gap_count, same_label, AreNumbered};
+    ghost use Rattle.dam_book.specs.inside.Gaps.{rows_of, gap_count, same_label, AreNumbered};
 
     ghost Value = { List Row };
 
-    ghost view = { λ r. held r.places.entries };
+    ghost view = { λ r. rows_of r.map.entries };
 
-    ghost invariant = { λ r. (r.gaps ≡ gap_count r.places.entries)
-        × AreNumbered 1 r.places.entries
-        × IsDistinct same_label (keys_of r.places.entries) };
+    ghost invariant = { λ r. (r.gaps ≡ gap_count r.map.entries)
+        × AreNumbered 1 r.map.entries
+        × IsDistinct same_label (keys_of r.map.entries) };
 }
 
 // The label of the key's row.
@@ -137,69 +137,69 @@ fn row_label(who: &Participant, name: &Name) -> Label
 }
 
 // Replaces the removed row's label, in the gap at this place, by a filler: the last place in the map takes the place
-// of the one that is removed, and so no other moves. An `Err` leaves the places.
+// of the one that is removed, and so no other moves. An `Err` leaves the map.
 fn relabel_gap<A: Allocator>(
-    places: &mut Places<A>,
+    map: &mut RowMap<A>,
     place: usize,
-    row: &Label,
+    label: &Label,
 ) -> Result<(), AllocError>
-    requires unfilled { row.now.1 ≡ 0 }
-    requires gap { slice_get places.old.entries place ≡ Some (row.now, None) }
-    requires numbered { AreNumbered 1 places.old.entries }
-    ensures rows { held places.new.entries ≡ held places.old.entries }
-    ensures count { gap_count places.new.entries ≡ gap_count places.old.entries }
-    ensures numbered { AreNumbered 1 places.new.entries }
-    ensures absent { OnOk result (lookup (same_label row.now) places.new.entries ≡ None) }
-    ensures apart { IsDistinct same_label (keys_of places.new.entries) }
+    requires unfilled { label.now.1 ≡ 0 }
+    requires gap { slice_get map.old.entries place ≡ Some (label.now, None) }
+    requires numbered { AreNumbered 1 map.old.entries }
+    ensures rows { rows_of map.new.entries ≡ rows_of map.old.entries }
+    ensures count { gap_count map.new.entries ≡ gap_count map.old.entries }
+    ensures numbered { AreNumbered 1 map.new.entries }
+    ensures absent { OnOk result (lookup (same_label label.now) map.new.entries ≡ None) }
+    ensures apart { IsDistinct same_label (keys_of map.new.entries) }
 {
-    let _len = places.len(); // for the proof: there is a number after the place's
+    let _len = map.len(); // for the proof: there is a number after the place's
     let filler = Label {
-        who: row.who.copy(),
-        name: row.name.copy(),
+        who: label.who.copy(),
+        name: label.name.copy(),
         filler: place + 1,
     };
-    places.insert(filler, None)?;
-    let _found = places.swap_remove_index(place).is_some();
+    map.insert(filler, None)?;
+    let _found = map.swap_remove_index(place).is_some();
     Ok(())
 }
 
 // Makes the label of a row free for it to go last, by relabelling the gap that still has it.
 fn release_label<A: Allocator>(
-    places: &mut Places<A>,
+    map: &mut RowMap<A>,
     gaps: usize,
-    row: &Label,
+    label: &Label,
 ) -> Result<(), AllocError>
-    requires unfilled { row.now.1 ≡ 0 }
-    requires counted { gaps ≡ gap_count places.old.entries }
-    requires numbered { AreNumbered 1 places.old.entries }
-    requires apart { IsDistinct same_label (keys_of places.old.entries) }
-    requires free { lookup (same_key row.now.0) (held places.old.entries) ≡ None }
-    ensures rows { held places.new.entries ≡ held places.old.entries }
-    ensures count { gap_count places.new.entries ≡ gap_count places.old.entries }
-    ensures numbered { AreNumbered 1 places.new.entries }
-    ensures absent { OnOk result (lookup (same_label row.now) places.new.entries ≡ None) }
-    ensures apart { IsDistinct same_label (keys_of places.new.entries) }
+    requires unfilled { label.now.1 ≡ 0 }
+    requires counted { gaps ≡ gap_count map.old.entries }
+    requires numbered { AreNumbered 1 map.old.entries }
+    requires apart { IsDistinct same_label (keys_of map.old.entries) }
+    requires free { lookup (same_key label.now.0) (rows_of map.old.entries) ≡ None }
+    ensures rows { rows_of map.new.entries ≡ rows_of map.old.entries }
+    ensures count { gap_count map.new.entries ≡ gap_count map.old.entries }
+    ensures numbered { AreNumbered 1 map.new.entries }
+    ensures absent { OnOk result (lookup (same_label label.now) map.new.entries ≡ None) }
+    ensures apart { IsDistinct same_label (keys_of map.new.entries) }
 {
     if gaps == 0 {
         return Ok(());
     }
-    let Some((place, _, _)) = places.get_full(row) else {
+    let Some((place, _, _)) = map.get_full(label) else {
         return Ok(());
     };
-    relabel_gap(places, place, row)
+    relabel_gap(map, place, label)
 }
 
-// The label's place: `near` if the label stands there, or else found by a look-up.
-fn place_of<A: Allocator>(places: &Places<A>, near: usize, row: &Label) -> Option<usize>
-    ensures found { IfSome result (λ place. IsLabelledAt row.now places.now.entries place) }
-    ensures absent { IfNone result (lookup (same_label row.now) places.now.entries ≡ None) }
+// The label's place: `likely_place` if the label stands there, or else found by a look-up.
+fn place_of<A: Allocator>(map: &RowMap<A>, likely_place: usize, label: &Label) -> Option<usize>
+    ensures found { IfSome result (λ place. IsLabelledAt label.now map.now.entries place) }
+    ensures absent { IfNone result (lookup (same_label label.now) map.now.entries ≡ None) }
 {
-    if let Some((label, _)) = places.get_index(near) {
-        if *label == *row {
-            return Some(near);
+    if let Some((there, _)) = map.get_index(likely_place) {
+        if *there == *label {
+            return Some(likely_place);
         }
     }
-    let Some((place, _, _)) = places.get_full(row) else {
+    let Some((place, _, _)) = map.get_full(label) else {
         return None;
     };
     Some(place)
@@ -207,25 +207,25 @@ fn place_of<A: Allocator>(places: &Places<A>, near: usize, row: &Label) -> Optio
 
 // Removes the order under the key, which leaves a gap.
 fn take_order<A: Allocator>(
-    places: &mut Places<A>,
-    near: usize,
-    row: &Label,
+    map: &mut RowMap<A>,
+    likely_place: usize,
+    label: &Label,
 ) -> Option<BoxedOrder<A>>
-    requires unfilled { row.now.1 ≡ 0 }
-    requires numbered { AreNumbered 1 places.old.entries }
-    requires apart { IsDistinct same_label (keys_of places.old.entries) }
-    ensures value { result ≡ lookup (same_key row.now.0) (held places.old.entries) }
-    ensures rows { held places.new.entries
-        ≡ remove_entry (same_key row.now.0) (held places.old.entries) }
-    ensures count { gap_count places.new.entries
-        ≡ gap_count places.old.entries + (if is_some result then 1 else 0) }
-    ensures numbered { AreNumbered 1 places.new.entries }
-    ensures apart { IsDistinct same_label (keys_of places.new.entries) }
+    requires unfilled { label.now.1 ≡ 0 }
+    requires numbered { AreNumbered 1 map.old.entries }
+    requires apart { IsDistinct same_label (keys_of map.old.entries) }
+    ensures value { result ≡ lookup (same_key label.now.0) (rows_of map.old.entries) }
+    ensures rows { rows_of map.new.entries
+        ≡ remove_entry (same_key label.now.0) (rows_of map.old.entries) }
+    ensures count { gap_count map.new.entries
+        ≡ gap_count map.old.entries + (if is_some result then 1 else 0) }
+    ensures numbered { AreNumbered 1 map.new.entries }
+    ensures apart { IsDistinct same_label (keys_of map.new.entries) }
 {
-    let Some(place) = place_of(places, near, row) else {
+    let Some(place) = place_of(map, likely_place, label) else {
         return None;
     };
-    let Some(content) = places.get_index_mut(place) else {
+    let Some(content) = map.get_index_mut(place) else {
         return None;
     };
     content.take()
@@ -233,25 +233,25 @@ fn take_order<A: Allocator>(
 
 // Changes the order under the key at its place.
 fn amend_order<A: Allocator>(
-    places: &mut Places<A>,
-    near: usize,
-    row: &Label,
+    map: &mut RowMap<A>,
+    likely_place: usize,
+    label: &Label,
     price: Price,
     volumes: &Volumes,
 )
-    requires unfilled { row.now.1 ≡ 0 }
-    requires numbered { AreNumbered 1 places.old.entries }
-    requires apart { IsDistinct same_label (keys_of places.old.entries) }
-    ensures rows { held places.new.entries
-        ≡ changed row.now.0 (amended price volumes.now) (held places.old.entries) }
-    ensures count { gap_count places.new.entries ≡ gap_count places.old.entries }
-    ensures numbered { AreNumbered 1 places.new.entries }
-    ensures apart { IsDistinct same_label (keys_of places.new.entries) }
+    requires unfilled { label.now.1 ≡ 0 }
+    requires numbered { AreNumbered 1 map.old.entries }
+    requires apart { IsDistinct same_label (keys_of map.old.entries) }
+    ensures rows { rows_of map.new.entries
+        ≡ changed label.now.0 (amended price volumes.now) (rows_of map.old.entries) }
+    ensures count { gap_count map.new.entries ≡ gap_count map.old.entries }
+    ensures numbered { AreNumbered 1 map.new.entries }
+    ensures apart { IsDistinct same_label (keys_of map.new.entries) }
 {
-    let Some(place) = place_of(places, near, row) else {
+    let Some(place) = place_of(map, likely_place, label) else {
         return;
     };
-    let Some(content) = places.get_index_mut(place) else {
+    let Some(content) = map.get_index_mut(place) else {
         return;
     };
     let Some(boxed) = content else {
@@ -276,19 +276,19 @@ fn is_child<A: Allocator>(
 }
 
 // Whether a row names this order as its parent.
-fn any_child<A: Allocator>(places: &Places<A>, who: &Participant, name: &Name) -> bool
-    ensures { result ≡ list_any (is_child_place (who.now, name.now)) places.now.entries }
+fn any_child<A: Allocator>(map: &RowMap<A>, who: &Participant, name: &Name) -> bool
+    ensures { result ≡ list_any (is_child_place (who.now, name.now)) map.now.entries }
 {
-    places.iter().any(|(label, content)| is_child(who, name, &label.who, content))
+    map.iter().any(|(label, content)| is_child(who, name, &label.who, content))
 }
 
 // The row at a place, counted from 0 without the gaps.
-fn row_among<A: Allocator>(places: &Places<A>, place: usize) -> Option<(Participant, Name, &Order)>
+fn row_among<A: Allocator>(map: &RowMap<A>, place: usize) -> Option<(Participant, Name, &Order)>
     ensures { option_map (λ r. ((r.0, r.1), r.2.now)) result
-        ≡ slice_get (held places.now.entries) place }
+        ≡ slice_get (rows_of map.now.entries) place }
 {
     let mut left = place;
-    for (label, content) in places.iter() {
+    for (label, content) in map.iter() {
         if let Some(order) = content {
             if left == 0 {
                 return Some((label.who.copy(), label.name.copy(), order.get()));
@@ -304,7 +304,7 @@ impl<A: Allocator + Copy> Rows<A> {
         ensures { result ≡ [] }
     {
         Rows {
-            places: IndexMap::with_hasher(alloc, seed),
+            map: IndexMap::with_hasher(alloc, seed),
             gaps: 0,
         }
     }
@@ -313,7 +313,7 @@ impl<A: Allocator + Copy> Rows<A> {
     pub(crate) fn len(&self) -> usize
         ensures { result ≡ length self.now }
     {
-        self.places.len() - self.gaps
+        self.map.len() - self.gaps
     }
 
     // The order under the key.
@@ -331,7 +331,7 @@ impl<A: Allocator + Copy> Rows<A> {
         ensures { option_map (λ r. r.1.now) result
             ≡ lookup (same_key (who.now, name.now)) self.now }
     {
-        let Some((place, _, found)) = self.places.get_full(&row_label(who, name)) else {
+        let Some((place, _, found)) = self.map.get_full(&row_label(who, name)) else {
             return None;
         };
         let Some(order) = found else {
@@ -341,10 +341,10 @@ impl<A: Allocator + Copy> Rows<A> {
     }
 
     // Whether a row names this order as its parent.
-    pub(crate) fn has_children(&self, who: &Participant, name: &Name) -> bool
+    pub(crate) fn is_parent(&self, who: &Participant, name: &Name) -> bool
         ensures { result ≡ list_any (names_parent (who.now, name.now)) self.now }
     {
-        any_child(&self.places, who, name)
+        any_child(&self.map, who, name)
     }
 
     // The row at a place, counted from 0 without the gaps: one step if there is no gap.
@@ -352,7 +352,7 @@ impl<A: Allocator + Copy> Rows<A> {
         ensures { option_map (λ r. ((r.0, r.1), r.2.now)) result ≡ slice_get self.now place }
     {
         if self.gaps == 0 {
-            let Some((label, content)) = self.places.get_index(place) else {
+            let Some((label, content)) = self.map.get_index(place) else {
                 return None;
             };
             let Some(order) = content else {
@@ -360,7 +360,7 @@ impl<A: Allocator + Copy> Rows<A> {
             };
             return Some((label.who.copy(), label.name.copy(), order.get()));
         }
-        row_among(&self.places, place)
+        row_among(&self.map, place)
     }
 
     // Puts a row last. On an `Err` the rows are unchanged.
@@ -375,17 +375,17 @@ impl<A: Allocator + Copy> Rows<A> {
             (self.new ≡ self.old ++ ((who.now, name.now), order.now) ∷ []) }
         ensures err { OnErr result (self.new ≡ self.old) }
     {
-        let boxed = BoxedOrder::of(*self.places.allocator(), order)?;
-        let row = row_label(who, name);
-        release_label(&mut self.places, self.gaps, &row)?;
-        self.places.insert(row, Some(boxed))?;
+        let boxed = BoxedOrder::of(*self.map.allocator(), order)?;
+        let label = row_label(who, name);
+        release_label(&mut self.map, self.gaps, &label)?;
+        self.map.insert(label, Some(boxed))?;
         Ok(())
     }
 
-    // Changes the order under the key at its place, which is quicker if the place is `near`.
+    // Changes the order under the key at its place, which is quicker if the place is `likely_place`.
     pub(crate) fn amend(
         &mut self,
-        near: usize,
+        likely_place: usize,
         who: &Participant,
         name: &Name,
         price: Price,
@@ -394,26 +394,26 @@ impl<A: Allocator + Copy> Rows<A> {
         ensures { self.new
             ≡ changed (who.now, name.now) (amended price volumes.now) self.old }
     {
-        let row = row_label(who, name);
-        amend_order(&mut self.places, near, &row, price, volumes);
+        let label = row_label(who, name);
+        amend_order(&mut self.map, likely_place, &label, price, volumes);
     }
 
     // Removes the order under the key. The rest keep their order. It is quicker if the order stands at this place.
     pub(crate) fn remove(
         &mut self,
-        near: usize,
+        likely_place: usize,
         who: &Participant,
         name: &Name,
     ) -> Option<BoxedOrder<A>>
         ensures value { result ≡ lookup (same_key (who.now, name.now)) self.old }
         ensures entries { self.new ≡ remove_entry (same_key (who.now, name.now)) self.old }
     {
-        let Some(order) = take_order(&mut self.places, near, &row_label(who, name)) else {
+        let Some(order) = take_order(&mut self.map, likely_place, &row_label(who, name)) else {
             return None;
         };
-        let places = self.places.len();
+        let place_count = self.map.len();
         self.gaps += 1;
-        if self.gaps > places - self.gaps {
+        if self.gaps > place_count - self.gaps {
             self.remove_gaps();
         }
         Some(order)
@@ -424,7 +424,7 @@ impl<A: Allocator + Copy> Rows<A> {
         ensures { self.new ≡ self.old }
     {
         if self.gaps > 0 {
-            self.places.retain(|_, content| content.is_some());
+            self.map.retain(|_, content| content.is_some());
             self.gaps = 0;
         }
     }
@@ -434,7 +434,7 @@ impl<A: Allocator + Copy> Rows<A> {
         ensures { IfOk result (λ rows. rows ≡ self.now) }
     {
         Ok(Rows {
-            places: self.places.clone()?,
+            map: self.map.clone()?,
             gaps: self.gaps,
         })
     }

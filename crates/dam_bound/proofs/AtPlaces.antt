@@ -1,23 +1,14 @@
 -- Numbers of the blocks at their places: how they are read, how large they are, and how they change.
-use Rattle.std.proofs.Common.{◌≡◌, ℕ, zero, suc, ◌*◌, ◌<◌, ◌≤◌, ◌==◌, cond, true, false, ℤ, pos, neg_ℤ, ◌+ℤ◌, ◌*ℤ◌, Some, List, []}
-use Rattle.std.proofs.Common.{◌∷◌, length, take, get_or, slice_set, ap, ap₂, ◌∙◌, sym, subst, refl, arith}
-use Rattle.std.specs.List.{slice_get}
-use Rattle.std.proofs.lemmas.Int.{ints}
-use Rattle.dam_book.specs.Terms.{BlockTerms, IsBlockOrder}
+use Rattle.dam_bound.proofs.Common.{◌≡◌, ℕ, zero, suc, ◌*◌, ◌<◌, ◌≤◌, ◌==◌, cond, true, false, ℤ, neg_ℤ, ◌+ℤ◌, ◌*ℤ◌, Some, List, [], ◌∷◌, length, take, get_or}
+use Rattle.dam_bound.proofs.Common.{slice_set, ap, ap₂, ◌∙◌, sym, subst, refl, arith, slice_get, ints, BlockTerms, most_blocks, last_period, greatest_volume}
+use Rattle.dam_bound.proofs.Common.{Side, Buy, Sell, greatest_price, greatest_value, signed, Block, AreBlocks, IsWithin, volume_in, net_volume_of_block}
+use Rattle.dam_bound.proofs.Common.{value_in, over_periods, at_places, AreNumbersWithin, AreRaised}
+use Rattle.std.proofs.Common.{pos}
+use Rattle.dam_book.specs.Price.{IsPrice}
+use Rattle.dam_book.specs.Terms.{IsBlockOrder}
 use Rattle.dam_book.specs.Volumes.{Pair, ArePairs}
-use Rattle.dam_book.specs.Limits.{most_blocks, last_period, greatest_volume}
-use Rattle.dam_book.specs.declared.order.Side.{Side}
-use Rattle.dam_book.specs.declared.order.Side.TheVariants.{Buy, Sell}
-use Rattle.dam_hour.specs.Limits.{greatest_value}
-use Rattle.dam_hour.specs.Best.{signed}
-use Rattle.dam_blocks.specs.declared.problem.Block.{Block}
-use Rattle.dam_blocks.specs.Problem.{AreBlocks}
-use Rattle.dam_blocks.specs.Magnitude.{IsWithin}
-use Rattle.dam_blocks.specs.Selection.{volume_in, net_volume_of_block, value_in}
-use Rattle.dam_blocks.proofs.Magnitudes.{value_within}
-use Rattle.dam_bound.specs.Sums.{over_periods, at_places}
-use Rattle.dam_bound.specs.inside.BlockNumbers.{AreNumbersWithin, AreRaised}
 use Rattle.dam_bound.proofs.ClassPlaces.{periods_within}
+use Rattle.dam_bound.proofs.PlaceSums.{times_within}
 
 -- ---- reading
 pub at_long : (n : ℕ) (f : BlockTerms → ℤ) (bs : List Block) → length (at_places n f bs) ≡ n
@@ -103,9 +94,24 @@ order_at periods (x ∷ bs) (suc k) b are at = order_at periods bs k b are.1 at
 pub net_small : (t : ℕ) (o : BlockTerms) → IsBlockOrder o → IsWithin greatest_volume (net_volume_of_block t o)
 net_small t o is = one_net o.side (volume_in o.volumes t) (volume_small o.volumes t is.volumes.ranges)
 
+one_value : (side : Side) (price : ℤ) (v : ℕ) → IsPrice price → v ≤ greatest_volume → IsWithin greatest_value (signed side (price *ℤ pos v))
+one_value side price v is l = by_side side
+  where
+    product : IsWithin greatest_value (price *ℤ pos v)
+    product =
+        let low = is.at_least in let high = is.at_most in
+        times_within greatest_price greatest_volume price (pos v)
+        (record { at_least = omega (arith, ints, low); at_most = omega (arith, ints, high) })
+        (record { at_least = omega (arith, ints); at_most = omega (arith, ints, l) })
+
+    by_side : (side : Side) → IsWithin greatest_value (signed side (price *ℤ pos v))
+    by_side Buy = product
+    by_side Sell = let low = product.at_least in let high = product.at_most in
+        record { at_least = omega (arith, ints, high); at_most = omega (arith, ints, low) }
+
 pub value_small : (n : ℕ) (o : BlockTerms) → n ≤ last_period → IsBlockOrder o
     → IsWithin (last_period * greatest_value) (over_periods (λ t. value_in t o) 1 n)
 value_small n o few is =
-    let sum = periods_within (λ t. value_in t o) 1 n greatest_value (λ t. value_within t o is) in
+    let sum = periods_within (λ t. value_in t o) 1 n greatest_value (λ t. one_value o.side o.price (volume_in o.volumes t) is.price (volume_small o.volumes t is.volumes.ranges)) in
     let a = sum.at_least in let b = sum.at_most in
     record { at_least = omega (arith, ints, a, few); at_most = omega (arith, ints, b, few) }

@@ -1,17 +1,10 @@
 -- The relaxed welfare, period by period.
-use Rattle.std.proofs.Common.{◌≡◌, ℕ, suc, ◌+◌, ◌*◌, ◌≤◌, ℤ, pos, neg_ℤ, ◌+ℤ◌, ◌≤ℤ◌, Bool, Option, Some, None, List, ◌++◌, length, drop, ap}
-use Rattle.std.proofs.Common.{ap₂, ◌∙◌, sym, refl, arith}
-use Rattle.std.specs.List.{slice_get}
+use Rattle.dam_bound.proofs.Common.{◌≡◌, ℕ, suc, ◌+◌, ◌*◌, ◌≤◌, ℤ, neg_ℤ, ◌+ℤ◌, ◌≤ℤ◌, Bool, Option, Some, None, List, ◌++◌, length, drop, ap, ap₂, ◌∙◌, sym}
+use Rattle.dam_bound.proofs.Common.{refl, arith, slice_get, greatest_welfare, ints, drop_all, Step, Block, net_volume, accepted_value, period_welfare}
+use Rattle.dam_bound.proofs.Common.{welfare_from, IsWithin, as_steps, relaxed_hours}
+use Rattle.std.proofs.Common.{pos}
 use Rattle.std.specs.Option.{option_map}
-use Rattle.dam_hour.specs.Best.{greatest_welfare}
-use Rattle.std.proofs.lemmas.Int.{ints}
-use Rattle.std.proofs.lemmas.List.{drop_all}
-use Rattle.dam_hour.specs.declared.step.Step.{Step}
-use Rattle.dam_blocks.specs.declared.problem.Block.{Block}
-use Rattle.dam_blocks.specs.Selection.{net_volume, accepted_value}
-use Rattle.dam_blocks.specs.Eligible.{added, period_welfare, welfare_from}
-use Rattle.dam_blocks.specs.Magnitude.{IsWithin}
-use Rattle.dam_bound.specs.Relaxed.{as_steps, relaxed_hours}
+use Rattle.dam_blocks.specs.Eligible.{added}
 use Rattle.dam_bound.specs.inside.Levels.{greatest_period_bound}
 use Rattle.dam_bound.proofs.Levelling.{drop_at}
 

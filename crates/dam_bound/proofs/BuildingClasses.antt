@@ -1,7 +1,6 @@
 -- The search for the first period of a class.
-use Rattle.std.proofs.Common.{◌≡◌, ℕ, suc, ◌+◌, ◌-◌, ◌<◌, ◌≤◌, cond, Bool, true, false, List, ap, ◌∙◌, sym, arith}
-use Rattle.dam_blocks.specs.declared.problem.Block.{Block}
-use Rattle.dam_bound.specs.Classes.{are_alike, first_from, first_of_class}
+use Rattle.dam_bound.proofs.Common.{◌≡◌, ℕ, suc, ◌+◌, ◌-◌, ◌<◌, ◌≤◌, cond, Bool, true, false, List, ap, ◌∙◌, sym, arith, Block, are_alike, first_from}
+use Rattle.dam_bound.specs.Classes.{first_of_class}
 
 left_over : (at other : ℕ) → other < at → at - other ≡ suc (at - (other + 1))
 left_over at other l = omega (arith, l)

@@ -1,22 +1,13 @@
 -- The welfare of a selection, class by class.
-use Rattle.std.proofs.Common.{◌≡◌, ℕ, zero, suc, ◌+◌, ◌-◌, ◌==◌, cond, Bool, true, false, ℤ, pos, ◌+ℤ◌, Option, Some, None, List, []}
-use Rattle.std.proofs.Common.{◌∷◌, length, get_or, ap, ap₂, ◌∙◌, sym, subst, refl, inl, inr, arith}
-use Rattle.std.specs.List.{slice_get}
-use Rattle.std.proofs.lemmas.Int.{ints}
-use Rattle.std.proofs.lemmas.Bool.{cases_eq}
-use Rattle.std.proofs.lemmas.Bool.Decides.{nat_tests}
-use Rattle.std.proofs.lemmas.Option.{get_or_from_slice_get, slice_get_within}
-use Rattle.dam_hour.specs.Best.{greatest_welfare}
-use Rattle.dam_hour.specs.declared.step.Step.{Step}
-use Rattle.dam_curve.specs.Curve.{both, joint_welfare}
-use Rattle.dam_blocks.specs.declared.problem.Block.{Block}
-use Rattle.dam_blocks.specs.Problem.{ProblemState}
-use Rattle.dam_blocks.specs.Selection.{over_accepted, value_in, net_volume, accepted_value}
-use Rattle.dam_blocks.specs.Eligible.{added, period_welfare, welfare_from, selection_welfare}
-use Rattle.dam_blocks.proofs.Sums.{over_accepted-plus, over_accepted-zero}
-use Rattle.dam_bound.specs.Classes.{first_of_class, members}
-use Rattle.dam_bound.specs.ClassCurves.{class_orders, day_value}
-use Rattle.dam_bound.specs.Sums.{over_periods, class_places, over_places}
+use Rattle.dam_bound.proofs.Common.{◌≡◌, ℕ, zero, suc, ◌+◌, ◌-◌, ◌==◌, cond, Bool, true, false, ℤ, ◌+ℤ◌, Option, Some, None, List, [], ◌∷◌, length, get_or, ap}
+use Rattle.dam_bound.proofs.Common.{ap₂, ◌∙◌, sym, subst, refl, inl, inr, arith, slice_get, ints, cases_eq, nat_tests, get_or_from_slice_get, slice_get_within}
+use Rattle.dam_bound.proofs.Common.{greatest_welfare, Step, joint_welfare, Block, ProblemState, over_accepted, value_in, net_volume, accepted_value}
+use Rattle.dam_bound.proofs.Common.{period_welfare, welfare_from, selection_welfare, members, class_orders, day_value, over_periods, class_places, over_places}
+use Rattle.std.proofs.Common.{pos}
+use Rattle.dam_curve.specs.Curve.{both}
+use Rattle.dam_blocks.specs.Eligible.{added}
+use Rattle.dam_bound.specs.Classes.{first_of_class}
+use Rattle.dam_bound.proofs.Accepted.{over_accepted-plus, over_accepted-zero}
 use Rattle.dam_bound.proofs.ClassPlaces.{over_same, by_class, periods_plus, listed}
 use Rattle.dam_bound.proofs.Classing.{over_class, class_net, first_first, first_most}
 use Rattle.dam_bound.proofs.Covering.{added_some, raised_some, raised_is}

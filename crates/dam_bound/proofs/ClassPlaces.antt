@@ -1,15 +1,10 @@
 -- The places at which classes begin, and sums over them.
-use Rattle.std.proofs.Common.{◌≡◌, ◌≢◌, ℕ, zero, suc, ◌+◌, ◌*◌, ◌<◌, ◌≤◌, ◌==◌, cond, Bool, true, false, ℤ, pos, ◌+ℤ◌, ◌*ℤ◌, ◌≤ℤ◌, Some, List, []}
-use Rattle.std.proofs.Common.{◌∷◌, ◌++◌, length, drop, take, ap, ap₂, ◌∙◌, sym, subst, refl, inl, inr, arith}
-use Rattle.std.specs.List.{slice_get}
-use Rattle.std.proofs.lemmas.Int.{ints}
-use Rattle.std.proofs.lemmas.Bool.{cases_eq}
-use Rattle.std.proofs.lemmas.Bool.Decides.{nat_tests}
-use borrow.Author.Differences.{up, down}
-use Rattle.dam_blocks.specs.declared.problem.Block.{Block}
-use Rattle.dam_blocks.specs.Magnitude.{IsWithin}
+use Rattle.dam_bound.proofs.Common.{◌≡◌, ◌≢◌, ℕ, zero, suc, ◌+◌, ◌*◌, ◌<◌, ◌≤◌, ◌==◌, cond, Bool, true, false, ℤ, ◌+ℤ◌, ◌*ℤ◌, ◌≤ℤ◌, Some, List, [], ◌∷◌, ◌++◌}
+use Rattle.dam_bound.proofs.Common.{length, drop, take, ap, ap₂, ◌∙◌, sym, subst, refl, inl, inr, arith, slice_get, ints, cases_eq, nat_tests, up, down, Block}
+use Rattle.dam_bound.proofs.Common.{IsWithin, over_periods, over_places}
+use Rattle.std.proofs.Common.{pos}
 use Rattle.dam_bound.specs.Classes.{first_of_class}
-use Rattle.dam_bound.specs.Sums.{over_periods, firsts_from, over_places}
+use Rattle.dam_bound.specs.Sums.{firsts_from}
 use Rattle.dam_bound.proofs.Classing.{over_class, first_first, class_elsewhere, over_classes}
 use Rattle.dam_bound.proofs.Levelling.{drop_at}
 use Rattle.dam_bound.proofs.Worth.{sum_from}

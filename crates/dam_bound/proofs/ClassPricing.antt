@@ -1,33 +1,23 @@
 -- The prices of the classes at the net volumes of a selection, and what blocks gain at them.
-use Rattle.std.proofs.Common.{◌≡◌, ℕ, suc, ◌+◌, ◌*◌, ◌<◌, ◌≤◌, ◌&&◌, Bool, true, false, ℤ, pos, ◌+ℤ◌, ◌-ℤ◌, ◌*ℤ◌, Option, Some, List, [], length, drop, take, get_or, slice_set, option_map, unwrap_or, ap, ap₂, ◌∙◌, sym, subst, refl, inl, inr, arith}
-use Rattle.std.specs.List.{slice_get}
-use Rattle.std.proofs.lemmas.Int.{ints}
-use Rattle.std.proofs.lemmas.Bool.{cases_eq, and_right}
-use Rattle.std.proofs.lemmas.List.{take_all, get_or-set_same, get_or-set_other, length-set}
-use Rattle.std.proofs.lemmas.Option.{slice_get_within}
-use Rattle.dam_book.specs.Limits.{most_blocks, last_period, greatest_volume}
-use Rattle.dam_hour.specs.Limits.{greatest_price, greatest_value}
-use Rattle.dam_blocks.specs.declared.problem.Block.{Block}
-use Rattle.dam_blocks.specs.Problem.{ProblemState}
-use Rattle.dam_blocks.specs.Magnitude.{IsWithin}
-use Rattle.dam_blocks.specs.Selection.{accepts, over_accepted, net_volume_of_block}
-use Rattle.dam_blocks.specs.Family.{descends, accepted_descendants}
-use Rattle.dam_blocks.specs.Eligible.{ArePrices, surplus_of, surplus_at, family_surplus}
-use Rattle.dam_bound.specs.ClassCurves.{day_value}
+use Rattle.dam_bound.proofs.Common.{◌≡◌, ℕ, suc, ◌+◌, ◌*◌, ◌<◌, ◌≤◌, ◌&&◌, Bool, true, false, ℤ, ◌+ℤ◌, ◌-ℤ◌, ◌*ℤ◌, Option, Some, List, [], length, drop, take}
+use Rattle.dam_bound.proofs.Common.{get_or, slice_set, ap, ap₂, ◌∙◌, sym, subst, refl, inl, inr, arith, slice_get, ints, cases_eq, take_all, get_or-set_same}
+use Rattle.dam_bound.proofs.Common.{get_or-set_other, length-set, slice_get_within, most_blocks, last_period, greatest_volume, greatest_price, greatest_value}
+use Rattle.dam_bound.proofs.Common.{Block, ProblemState, IsWithin, accepts, over_accepted, net_volume_of_block, descends, accepted_descendants, ArePrices}
+use Rattle.dam_bound.proofs.Common.{surplus_of, surplus_at, family_surplus, day_value, greatest_priced_gain, class_places, over_places, at_places, Class}
+use Rattle.dam_bound.proofs.Common.{AreNumbersWithin}
+use Rattle.std.proofs.Common.{pos, option_map, unwrap_or}
+use Rattle.std.proofs.lemmas.Bool.{and_right}
 use Rattle.dam_bound.specs.ClassPrices.{IsClassPrice, AreClassPrices}
-use Rattle.dam_bound.specs.Prices.{greatest_priced_gain}
-use Rattle.dam_bound.specs.Sums.{class_places, over_places, at_places}
-use Rattle.dam_bound.specs.declared.class_curves.Class.{Class}
-use Rattle.dam_bound.specs.inside.BlockNumbers.{AreNumbersWithin}
 use Rattle.dam_bound.specs.inside.Counted.{counted_if}
 use Rattle.dam_bound.proofs.Accepted.{if_accepted}
 use Rattle.dam_bound.proofs.AtPlaces.{at_block}
 use Rattle.dam_bound.proofs.ClassPlaces.{over_next, over_same}
 use Rattle.dam_bound.proofs.PeriodPrices.{AreEndsUnique}
 use Rattle.dam_bound.proofs.LineByLine.{IsAtPlace}
-use Rattle.dam_bound.proofs.LossPrices.{AreDescendants, class_price, joint_price_is, surplus_is}
+use Rattle.dam_bound.proofs.LossPrices.{AreDescendants, joint_price_is}
 use Rattle.dam_bound.proofs.Members.{member_more, no_members, stands}
 use Rattle.dam_bound.proofs.PlaceSums.{times_within}
+use Rattle.dam_bound.proofs.PricesByClass.{class_price, surplus_is}
 
 -- ---- the prices of the classes so far
 pub record ArePricedSoFar (problem : ProblemState) (sel : List Bool) (j : ℕ) (prices : List ℤ) : Type 0 where

@@ -1,15 +1,9 @@
 -- The classes of a day's periods: which period a class begins with, and sums over classes.
-use Rattle.std.proofs.Common.{◌≡◌, ◌≢◌, ℕ, zero, suc, ◌+◌, ◌<◌, ◌≤◌, ◌==◌, ◌&&◌, cond, Bool, true, false, ℤ, pos, neg_ℤ, ◌+ℤ◌, Some, List, [], ◌∷◌}
-use Rattle.std.proofs.Common.{inl, inr, ap, ap₂, ◌∙◌, sym, subst, refl, arith}
-use Rattle.std.specs.List.{slice_get}
-use Rattle.std.proofs.lemmas.Int.{ints}
-use Rattle.std.proofs.lemmas.Bool.{cases_lt}
-use Rattle.std.proofs.lemmas.Bool.Decides.{nat_tests}
-use Rattle.dam_book.specs.Terms.{BlockTerms}
-use Rattle.dam_hour.specs.Best.{signed}
-use Rattle.dam_blocks.specs.declared.problem.Block.{Block}
-use Rattle.dam_blocks.specs.Selection.{volume_in, over_accepted, net_volume_of_block, net_volume}
-use Rattle.dam_bound.specs.Classes.{are_alike, first_from, first_of_class}
+use Rattle.dam_bound.proofs.Common.{◌≡◌, ◌≢◌, ℕ, zero, suc, ◌+◌, ◌<◌, ◌≤◌, ◌==◌, ◌&&◌, cond, Bool, true, false, ℤ, neg_ℤ, ◌+ℤ◌, Some, List, [], ◌∷◌, inl, inr}
+use Rattle.dam_bound.proofs.Common.{ap, ap₂, ◌∙◌, sym, subst, refl, arith, slice_get, ints, cases_lt, nat_tests, BlockTerms, signed, Block, volume_in}
+use Rattle.dam_bound.proofs.Common.{over_accepted, net_volume_of_block, net_volume, are_alike, first_from}
+use Rattle.std.proofs.Common.{pos}
+use Rattle.dam_bound.specs.Classes.{first_of_class}
 use Rattle.dam_bound.proofs.Worth.{sum_from}
 
 -- ---- alike periods

@@ -1,12 +1,10 @@
 -- The completions of a prefix.
-use Rattle.std.proofs.Common.{◌≡◌, ℕ, suc, ◌+◌, ◌-◌, ◌<◌, ◌≤◌, ◌⊎◌, inl, inr, Bool, true, false, List, [], ◌∷◌, ◌++◌, length, replicate}
-use Rattle.std.proofs.Common.{append_assoc, length-append, ap, ◌∙◌, sym, refl, arith}
+use Rattle.dam_bound.proofs.Common.{◌≡◌, ℕ, suc, ◌+◌, ◌-◌, ◌<◌, ◌≤◌, ◌⊎◌, inl, inr, Bool, true, false, List, [], ◌∷◌, ◌++◌, length, ap, ◌∙◌, sym, refl, arith}
+use Rattle.dam_bound.proofs.Common.{slice_get_within, most_blocks, ProblemState, accepts}
+use Rattle.std.proofs.Common.{replicate, append_assoc, length-append}
 use Rattle.std.proofs.lemmas.List.{get_or-drop, length-replicate}
-use Rattle.std.proofs.lemmas.Option.{slice_get_within}
 use Rattle.std.proofs.Math.Seq.{drop-append_seam}
-use Rattle.dam_book.specs.Limits.{most_blocks}
-use Rattle.dam_blocks.specs.Problem.{ProblemState}
-use Rattle.dam_blocks.specs.Selection.{accepts, padded, IsAdmissible}
+use Rattle.dam_blocks.specs.Selection.{padded, IsAdmissible}
 use Rattle.dam_bound.specs.Prefix.{IsCompletion}
 
 -- ---- the extensions

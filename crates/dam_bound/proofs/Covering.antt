@@ -1,18 +1,13 @@
 -- The bound law: the relaxed period reaches every welfare that a selection reaches in the period.
-use Rattle.std.proofs.Common.{◌≡◌, ℕ, suc, ◌+◌, ℤ, pos, ◌+ℤ◌, ◌≤ℤ◌, Bool, Option, Some, None, List, [], ◌∷◌, ◌++◌, length, drop, ap, ap₂}
-use Rattle.std.proofs.Common.{◌∙◌, sym, refl, arith}
+use Rattle.dam_bound.proofs.Common.{◌≡◌, ℕ, suc, ◌+◌, ℤ, ◌+ℤ◌, ◌≤ℤ◌, Bool, Option, Some, None, List, [], ◌∷◌, ◌++◌, length, drop, ap, ap₂, ◌∙◌, sym, refl}
+use Rattle.dam_bound.proofs.Common.{arith, ints, Side, Buy, Sell, Step, AreInRange, IsExecution, welfare_of, greatest_welfare, Block, BlockTerms, over_accepted}
+use Rattle.dam_bound.proofs.Common.{net_volume_of_block, value_in, net_volume, accepted_value, period_welfare, welfare_from, as_steps, relaxed_hours}
+use Rattle.std.proofs.Common.{pos}
 use Rattle.std.specs.Option.{option_map}
-use Rattle.std.proofs.lemmas.Int.{ints}
-use Rattle.dam_book.specs.declared.order.Side.{Side}
-use Rattle.dam_book.specs.declared.order.Side.TheVariants.{Buy, Sell}
-use Rattle.dam_hour.specs.declared.step.Step.{Step}
-use Rattle.dam_hour.specs.Execution.{AreInRange, IsExecution, executed_volume, Balances, IsBalanced}
-use Rattle.dam_hour.specs.Best.{welfare_of, AreSmall, greatest_welfare}
-use Rattle.dam_blocks.specs.declared.problem.Block.{Block}
-use Rattle.dam_book.specs.Terms.{BlockTerms}
-use Rattle.dam_blocks.specs.Selection.{padded, over_accepted, net_volume_of_block, value_in, net_volume, accepted_value}
-use Rattle.dam_blocks.specs.Eligible.{added, period_welfare, welfare_from}
-use Rattle.dam_bound.specs.Relaxed.{as_steps, relaxed_hours}
+use Rattle.dam_hour.specs.Execution.{executed_volume, Balances, IsBalanced}
+use Rattle.dam_hour.specs.Best.{AreSmall}
+use Rattle.dam_blocks.specs.Selection.{padded}
+use Rattle.dam_blocks.specs.Eligible.{added}
 use Rattle.dam_bound.proofs.Levelling.{relaxed_at}
 use Rattle.dam_bound.proofs.Standing.{stand, idle}
 

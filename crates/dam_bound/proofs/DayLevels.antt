@@ -1,16 +1,12 @@
 -- The levels of the day, period by period.
-use Rattle.std.proofs.Common.{◌≡◌, ℕ, zero, suc, ◌+◌, ◌<◌, ◌≤◌, ◌⊎◌, inl, inr, true, Some, Result, Ok, Err, IfOk, List, [], ◌∷◌, ◌++◌}
-use Rattle.std.proofs.Common.{length, map, length-append, ap, ap₂, ◌∙◌, sym, subst, refl, arith}
-use Rattle.std.specs.List.{slice_get}
+use Rattle.dam_bound.proofs.Common.{◌≡◌, ℕ, zero, suc, ◌+◌, ◌<◌, ◌≤◌, ◌⊎◌, inl, inr, true, Some, List, [], ◌∷◌, ◌++◌, length, map, ap, ap₂, ◌∙◌, sym, subst}
+use Rattle.dam_bound.proofs.Common.{refl, arith, slice_get, nat_tests, last_period, Step, Block, ProblemState, AreBlocks, last_steps}
+use Rattle.std.proofs.Common.{Result, Ok, Err, IfOk, length-append}
 use Rattle.std.specs.Option.{option_map}
-use Rattle.std.proofs.lemmas.Bool.Decides.{nat_tests}
 use Rattle.std.proofs.lemmas.Option.{slice_get-map}
 use Rattle.dam_book.specs.Book.{is_day}
-use Rattle.dam_book.specs.Limits.{last_period}
-use Rattle.dam_hour.specs.declared.step.Step.{Step}
-use Rattle.dam_blocks.specs.declared.problem.Block.{Block}
-use Rattle.dam_blocks.specs.Problem.{ProblemState, IsProblem, AreBlocks, hourly_orders}
-use Rattle.dam_bound.specs.inside.Levels.{LevelsState, AreLevels, AreLevelsAt, last_steps, AreDayLevels}
+use Rattle.dam_blocks.specs.Problem.{IsProblem, hourly_orders}
+use Rattle.dam_bound.specs.inside.Levels.{LevelsState, AreLevels, AreLevelsAt, AreDayLevels}
 
 -- an element of a list with one more at its end
 pub of_pushed : {X : Type 0} (xs : List X) (y : X) (i : ℕ) (x : X) → slice_get (xs ++ y ∷ []) i ≡ Some x

@@ -1,17 +1,12 @@
 -- The levels of a period, block by block.
-use Rattle.std.proofs.Common.{◌≡◌, ℕ, zero, suc, ◌+◌, ◌-◌, ◌<◌, ◌≤◌, ◌==◌, cond, true, false, Some, List, [], ◌∷◌, ◌++◌, length, drop}
-use Rattle.std.proofs.Common.{length-append, ap, ◌∙◌, sym, inl, inr, subst, refl, arith}
-use Rattle.std.specs.List.{slice_get, remove}
-use Rattle.std.proofs.lemmas.Bool.{cases_lt}
-use Rattle.std.proofs.lemmas.Bool.Decides.{nat_tests}
-use Rattle.std.proofs.lemmas.List.{drop_all, append-nil}
+use Rattle.dam_bound.proofs.Common.{◌≡◌, ℕ, zero, suc, ◌+◌, ◌-◌, ◌<◌, ◌≤◌, ◌==◌, cond, true, false, Some, List, [], ◌∷◌, ◌++◌, length, drop, ap, ◌∙◌, sym, inl}
+use Rattle.dam_bound.proofs.Common.{inr, subst, refl, arith, slice_get, cases_lt, nat_tests, drop_all, get_or_from_slice_get, Step, Block, volume_in, step_of}
+use Rattle.dam_bound.proofs.Common.{as_steps, last_steps}
+use Rattle.std.proofs.Common.{length-append}
+use Rattle.std.specs.List.{remove}
+use Rattle.std.proofs.lemmas.List.{append-nil}
 use Rattle.std.proofs.lemmas.List.Edits.{remove-append_right}
-use Rattle.std.proofs.lemmas.Option.{get_or_from_slice_get}
-use Rattle.dam_hour.specs.declared.step.Step.{Step}
-use Rattle.dam_blocks.specs.declared.problem.Block.{Block}
-use Rattle.dam_blocks.specs.Selection.{volume_in}
-use Rattle.dam_bound.specs.Relaxed.{step_of, as_steps}
-use Rattle.dam_bound.specs.inside.Levels.{IsAtDepth, last_steps}
+use Rattle.dam_bound.specs.inside.Levels.{IsAtDepth}
 
 -- ---- lists that grow
 kept : {X : Type 0} (xs : List X) (y : X) (i : ℕ) (x : X) → slice_get xs i ≡ Some x → slice_get (xs ++ y ∷ []) i ≡ Some x

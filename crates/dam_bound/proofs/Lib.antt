@@ -1,3 +1,4 @@
+pub mod Common
 pub mod Opening
 pub mod Standing
 pub mod Covering

@@ -1,25 +1,17 @@
 -- What decisions take of the slack under a limit, place by place.
-use Rattle.std.proofs.Common.{◌≡◌, ◌≢◌, ◌⊎◌, ℕ, zero, suc, ◌+◌, ◌*◌, ◌<◌, ◌≤◌, ℤ, pos, neg_ℤ, ◌+ℤ◌, ◌-ℤ◌, ◌≤ℤ◌, ◌<ℤ◌, Bool, true, false, Option, Some, None, List, [], ◌∷◌, length, drop, get_or, slice_set, replicate, not, ◌==◌, ◌&&◌}
-use Rattle.std.proofs.Common.{ap, ap₂, ◌∙◌, sym, subst, refl, inl, inr, arith}
-use Rattle.std.specs.Int.{int_max, int_min}
-use Rattle.std.proofs.lemmas.Int.{ints, by_lt_z, int_max_is, int_min_is}
-use Rattle.std.proofs.lemmas.Bool.{cases_eq}
-use Rattle.std.proofs.lemmas.Bool.Decides.{nat_tests}
-use Rattle.std.proofs.lemmas.List.{drop_all, length-replicate, length-set, get_or-set_same, get_or-set_other}
-use Rattle.dam_book.specs.Limits.{most_blocks, greatest_volume}
-use Rattle.dam_curve.specs.Curve.{CurvesState, joint_welfare}
+use Rattle.dam_bound.proofs.Common.{◌≡◌, ◌≢◌, ◌⊎◌, ℕ, zero, suc, ◌+◌, ◌*◌, ◌<◌, ◌≤◌, ℤ, neg_ℤ, ◌+ℤ◌, ◌-ℤ◌, ◌≤ℤ◌, Bool, true, false, Option, Some, None, List}
+use Rattle.dam_bound.proofs.Common.{[], ◌∷◌, length, drop, get_or, slice_set, ◌==◌, ◌&&◌, ap, ap₂, ◌∙◌, sym, subst, refl, inl, inr, arith, int_max, int_min}
+use Rattle.dam_bound.proofs.Common.{ints, int_max_is, int_min_is, cases_eq, nat_tests, drop_all, length-set, get_or-set_same, get_or-set_other, most_blocks}
+use Rattle.dam_bound.proofs.Common.{greatest_volume, CurvesState, joint_welfare, ProblemState, IsWithin, accepts, net_volume_of_block, net_volume, class_orders}
+use Rattle.dam_bound.proofs.Common.{least_net_in, most_net_in, IsClassIn, most_limits, slack_taken, limit_in, over_gains, at_places, Class, AreNumbersWithin}
+use Rattle.dam_bound.proofs.Common.{negative_sum}
+use Rattle.std.proofs.Common.{pos, ◌<ℤ◌, replicate, not}
+use Rattle.std.proofs.lemmas.Int.{by_lt_z}
+use Rattle.std.proofs.lemmas.List.{length-replicate}
 use Rattle.dam_curve.specs.declared.net_range.NetRange.{NetRange}
-use Rattle.dam_blocks.specs.Problem.{ProblemState}
-use Rattle.dam_blocks.specs.Magnitude.{IsWithin}
-use Rattle.dam_blocks.specs.Selection.{accepts, net_volume_of_block, net_volume}
 use Rattle.dam_blocks.specs.Eligible.{IsEligible}
-use Rattle.dam_bound.specs.ClassCurves.{class_orders, least_net_in, most_net_in, IsClassIn}
-use Rattle.dam_bound.specs.NetLimits.{most_limits, slack_taken, if_open, taken_under, every_place, greatest_slack, IsLimit, limit_in, AreLimits, AreSlacks, HasSlack}
-use Rattle.dam_bound.specs.Prices.{over_gains}
-use Rattle.dam_bound.specs.Sums.{at_places}
-use Rattle.dam_bound.specs.declared.class_curves.Class.{Class}
+use Rattle.dam_bound.specs.NetLimits.{if_open, taken_under, every_place, greatest_slack, IsLimit, AreLimits, AreSlacks, HasSlack}
 use Rattle.dam_bound.specs.declared.net_limits.NetLimit.{NetLimit}
-use Rattle.dam_bound.specs.inside.BlockNumbers.{AreNumbersWithin, negative_sum}
 use Rattle.dam_bound.proofs.Accepted.{if_accepted}
 use Rattle.dam_bound.proofs.ByClass.{has_whole}
 use Rattle.dam_bound.proofs.Lining.{gains_are, net_inside}

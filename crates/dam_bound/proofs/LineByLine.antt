@@ -1,30 +1,19 @@
 -- A pricing, line by line.
-use Rattle.std.proofs.Common.{◌≡◌, ◌≢◌, ℕ, zero, suc, ◌+◌, ◌*◌, ◌<◌, ◌≤◌, Bool, ℤ, pos, ◌+ℤ◌, ◌*ℤ◌, Option, Some, List, []}
-use Rattle.std.proofs.Common.{◌∷◌, length, map, take, get_or, slice_set, ap, ap₂, ◌∙◌, sym, subst, refl, inl, inr, arith}
-use Rattle.std.specs.List.{slice_get}
-use Rattle.std.proofs.lemmas.Int.{ints, to_z-of_z}
-use Rattle.std.proofs.lemmas.List.{get_or-set_same, get_or-set_other, length-set, take_all}
-use Rattle.std.proofs.lemmas.Option.{slice_get_within, slice_get-get_or}
+use Rattle.dam_bound.proofs.Common.{◌≡◌, ◌≢◌, ℕ, zero, suc, ◌+◌, ◌*◌, ◌<◌, ◌≤◌, Bool, ℤ, ◌+ℤ◌, ◌*ℤ◌, Option, Some, List, [], ◌∷◌, length, map, take, get_or}
+use Rattle.dam_bound.proofs.Common.{slice_set, ap, ap₂, ◌∙◌, sym, subst, refl, inl, inr, arith, slice_get, ints, to_z-of_z, get_or-set_same, get_or-set_other}
+use Rattle.dam_bound.proofs.Common.{length-set, take_all, slice_get_within, slice_get-get_or, SFits, cases_eq, BlockTerms, most_blocks, last_period}
+use Rattle.dam_bound.proofs.Common.{greatest_volume, greatest_price, greatest_value, CurvesState, Line, ProblemState, AreBlocks, IsWithin, net_volume_of_block}
+use Rattle.dam_bound.proofs.Common.{day_value, IsClassIn, AreClassCurves, line_in, IsByLines, class_places, over_places, at_places, Class, Pricing}
+use Rattle.dam_bound.proofs.Common.{AreNumbersWithin, AreRaised}
+use Rattle.std.proofs.Common.{pos}
 use mir.Syntax.{w32, w64}
-use mir.Val.{to_z, of_z, SFits}
+use mir.Val.{to_z, of_z}
 use Rattle.dam_curve.specs.Line.{IsSmallLine}
-use Rattle.dam_bound.proofs.Sizes.{added_up}
-use Rattle.std.proofs.lemmas.Bool.{cases_eq}
-use Rattle.dam_book.specs.Terms.{BlockTerms}
-use Rattle.dam_book.specs.Limits.{most_blocks, last_period, greatest_volume}
-use Rattle.dam_hour.specs.Limits.{greatest_price, greatest_value}
-use Rattle.dam_curve.specs.Curve.{CurvesState, greatest_segment_surplus}
-use Rattle.dam_curve.specs.declared.line.Line.{Line}
-use Rattle.dam_blocks.specs.Problem.{ProblemState, AreBlocks}
-use Rattle.dam_blocks.specs.Magnitude.{IsWithin}
-use Rattle.dam_blocks.specs.Selection.{net_volume_of_block}
+use Rattle.dam_curve.specs.Curve.{greatest_segment_surplus}
 use Rattle.dam_bound.specs.Classes.{first_of_class}
-use Rattle.dam_bound.specs.ClassCurves.{day_value, IsClassIn, AreClasses, AreClassCurves}
-use Rattle.dam_bound.specs.Prices.{line_in, IsClassLine, IsByLines, IsPricing}
-use Rattle.dam_bound.specs.Sums.{class_places, over_places, at_places}
-use Rattle.dam_bound.specs.declared.class_curves.Class.{Class}
-use Rattle.dam_bound.specs.declared.pricing.Pricing.{Pricing}
-use Rattle.dam_bound.specs.inside.BlockNumbers.{AreNumbersWithin, AreRaised}
+use Rattle.dam_bound.specs.ClassCurves.{AreClasses}
+use Rattle.dam_bound.specs.Prices.{IsClassLine, IsPricing}
+use Rattle.dam_bound.proofs.Sizes.{added_up}
 use Rattle.dam_bound.proofs.AtPlaces.{at_same, all_within, raised_is, order_at, net_small, value_small}
 use Rattle.dam_bound.proofs.ClassPlaces.{over_same, over_within, over_next, take_get, is_place, listed, few_places, rising, few_taken, no_class, one_more}
 use Rattle.dam_bound.proofs.Lining.{bounds_welfare}

@@ -1,24 +1,13 @@
 -- Lines over the classes of a problem.
-use Rattle.std.proofs.Common.{◌≡◌, ℕ, zero, suc, ◌+◌, ◌≤◌, Bool, true, false, ℤ, pos, ◌+ℤ◌, ◌*ℤ◌, ◌≤ℤ◌, Some, List, []}
-use Rattle.std.proofs.Common.{◌∷◌, length, ap, ap₂, ◌∙◌, sym, refl, arith}
-use Rattle.std.specs.Int.{int_max, int_min}
-use Rattle.std.proofs.lemmas.Int.{ints, int_max_is, int_min_is}
-use Rattle.dam_book.specs.Terms.{BlockTerms}
-use Rattle.dam_book.specs.Limits.{most_blocks}
-use Rattle.dam_curve.specs.Curve.{joint_welfare}
-use Rattle.dam_curve.specs.Line.{line_value}
-use Rattle.dam_curve.specs.declared.line.Line.{Line}
-use Rattle.dam_blocks.specs.declared.problem.Block.{Block}
-use Rattle.dam_blocks.specs.Problem.{ProblemState}
-use Rattle.dam_blocks.specs.Selection.{over_accepted, net_volume_of_block, net_volume}
-use Rattle.dam_blocks.specs.Eligible.{selection_welfare}
-use Rattle.dam_blocks.proofs.Sums.{over_accepted-plus, over_accepted-times, over_accepted-zero}
-use Rattle.dam_bound.specs.ClassCurves.{class_orders, least_net_in, most_net_in, day_value}
-use Rattle.dam_bound.specs.Prices.{over_gains, line_in, IsClassLine, priced_gain, IsByLines}
-use Rattle.dam_bound.specs.Sums.{class_places, over_places, at_places}
-use Rattle.dam_bound.specs.declared.pricing.Pricing.{Pricing}
+use Rattle.dam_bound.proofs.Common.{◌≡◌, ℕ, zero, suc, ◌+◌, ◌≤◌, Bool, true, false, ℤ, ◌+ℤ◌, ◌*ℤ◌, ◌≤ℤ◌, Some, List, [], ◌∷◌, length, ap, ap₂, ◌∙◌, sym, refl}
+use Rattle.dam_bound.proofs.Common.{arith, int_max, int_min, ints, int_max_is, int_min_is, BlockTerms, most_blocks, joint_welfare, line_value, Line, Block}
+use Rattle.dam_bound.proofs.Common.{ProblemState, over_accepted, net_volume_of_block, net_volume, selection_welfare, class_orders, least_net_in, most_net_in}
+use Rattle.dam_bound.proofs.Common.{day_value, over_gains, line_in, IsByLines, class_places, over_places, at_places, Pricing}
+use Rattle.std.proofs.Common.{pos}
+use Rattle.dam_bound.specs.Prices.{IsClassLine, priced_gain}
+use Rattle.dam_bound.proofs.Accepted.{over_accepted-plus, over_accepted-zero}
 use Rattle.dam_bound.proofs.ByClass.{joint_of, whole_of, has_whole}
-use Rattle.dam_bound.proofs.ClassPlaces.{over_most, over_plus, is_place}
+use Rattle.dam_bound.proofs.ClassPlaces.{times_plus, over_most, over_plus, is_place}
 use Rattle.dam_bound.proofs.Worth.{worth}
 
 -- ---- the net volumes that selections make
@@ -58,6 +47,14 @@ gains_are zero f (b ∷ bs) sel l = absurd (omega (arith, l))
 gains_are (suc n) f (b ∷ bs) [] l = refl
 gains_are (suc n) f (b ∷ bs) (true ∷ sel) l = ap (λ (z : ℤ). f b.order +ℤ z) (gains_are n f bs sel (omega (arith, l)))
 gains_are (suc n) f (b ∷ bs) (false ∷ sel) l = gains_are n f bs sel (omega (arith, l))
+
+over_accepted-times : (p : ℤ) (f : BlockTerms → ℤ) (bs : List Block) (sel : List Bool)
+    → p *ℤ over_accepted f bs sel ≡ over_accepted (λ o. p *ℤ f o) bs sel
+over_accepted-times p f [] sel = omega (arith, ints)
+over_accepted-times p f (b ∷ bs) [] = omega (arith, ints)
+over_accepted-times p f (b ∷ bs) (true ∷ sel) =
+    times_plus p (f b.order) (over_accepted f bs sel) ∙ ap (λ (z : ℤ). p *ℤ f b.order +ℤ z) (over_accepted-times p f bs sel)
+over_accepted-times p f (b ∷ bs) (false ∷ sel) = over_accepted-times p f bs sel
 
 priced_parts : (p : ℕ → ℤ) (places : List ℕ) (bs : List Block) (sel : List Bool)
     → over_accepted (λ o. over_places (λ c. p c *ℤ net_volume_of_block (c + 1) o) places) bs sel

@@ -1,36 +1,21 @@
--- The surplus of a block at the prices of the day, class by class.
-use Rattle.std.proofs.Common.{◌≡◌, ℕ, zero, suc, ◌+◌, ◌-◌, ◌*◌, ◌<◌, ◌≤◌, ◌==◌, ◌||◌, ◌&&◌, cond, Bool, true, false, ℤ, pos, neg_ℤ, ◌+ℤ◌, ◌*ℤ◌, ◌≤ℤ◌, Option, Some, None}
-use Rattle.std.proofs.Common.{List, [], ◌∷◌, length, get_or, ap, ap₂, ◌∙◌, sym, subst, refl, inl, inr, arith}
-use Rattle.std.specs.List.{slice_get}
+-- The joint price of a class, and the surplus of a block's family.
+use Rattle.dam_bound.proofs.Common.{◌≡◌, ℕ, zero, suc, ◌+◌, ◌-◌, ◌*◌, ◌<◌, ◌≤◌, ◌==◌, ◌&&◌, cond, Bool, true, false, ℤ, ◌≤ℤ◌, Option, Some, None, List, [], ◌∷◌}
+use Rattle.dam_bound.proofs.Common.{length, get_or, ap, ap₂, ◌∙◌, sym, subst, refl, inl, inr, arith, slice_get, ints, to_z-of_z, cases_eq, nat_tests}
+use Rattle.dam_bound.proofs.Common.{get_or_from_slice_get, last_period, greatest_price, Step, Block, ProblemState, IsWithin, accepts, over_accepted, net_volume}
+use Rattle.dam_bound.proofs.Common.{descends, accepted_descendants, ArePrices, surplus_of, family_surplus, members, class_orders}
+use Rattle.std.proofs.Common.{◌||◌, pos}
 use Rattle.std.specs.Option.{option_map, unwrap_or}
-use Rattle.std.proofs.lemmas.Int.{ints, to_z-of_z}
 use mir.Syntax.{w32}
 use mir.Val.{to_z, of_z}
-use Rattle.std.proofs.lemmas.Bool.{cases_eq}
-use Rattle.std.proofs.lemmas.Bool.Decides.{nat_tests}
 use Rattle.std.proofs.lemmas.List.Quantifiers.{position-Some}
-use Rattle.std.proofs.lemmas.Option.{get_or_from_slice_get}
-use Rattle.dam_book.specs.Terms.{BlockTerms}
-use Rattle.dam_book.specs.Limits.{last_period}
-use Rattle.dam_hour.specs.Limits.{greatest_price}
-use Rattle.dam_hour.specs.Best.{signed}
 use Rattle.dam_hour.specs.Price.{AreEnds, price_between}
-use Rattle.dam_hour.specs.declared.step.Step.{Step}
 use Rattle.dam_curve.specs.Line.{IsJointPrice}
-use Rattle.dam_blocks.specs.declared.problem.Block.{Block}
-use Rattle.dam_blocks.specs.Problem.{ProblemState}
-use Rattle.dam_blocks.specs.Magnitude.{IsWithin}
-use Rattle.dam_blocks.specs.Selection.{accepts, over_accepted, net_volume_of_block, value_in, net_volume}
-use Rattle.dam_blocks.specs.Family.{names, parent_among, parent_place, leads_to, descends, accepted_descendants}
-use Rattle.dam_blocks.specs.Eligible.{ArePrices, surplus_from, surplus_of, family_surplus}
-use Rattle.dam_blocks.proofs.Sums.{surplus_split}
-use Rattle.dam_bound.specs.Classes.{first_of_class, members}
-use Rattle.dam_bound.specs.ClassCurves.{class_orders, day_value}
-use Rattle.dam_bound.specs.Sums.{over_periods, class_places, over_places}
-use Rattle.dam_bound.proofs.ClassPlaces.{over_same, by_class, class_times, periods_plus, turned}
-use Rattle.dam_bound.proofs.Classing.{over_class, class_net, class_volume, class_here, class_elsewhere, same_class}
+use Rattle.dam_blocks.specs.Family.{names, parent_among, parent_place, leads_to}
+use Rattle.dam_bound.specs.Classes.{first_of_class}
+use Rattle.dam_bound.proofs.Classing.{over_class, class_net, class_here, class_elsewhere}
 use Rattle.dam_bound.proofs.PeriodPrices.{AreEndsUnique}
 use Rattle.dam_bound.proofs.Members.{no_members}
+use Rattle.dam_bound.proofs.PricesByClass.{price_in, class_price}
 
 -- ---- the joint price of a class
 -- these are the prices from a place on
@@ -71,14 +56,7 @@ joint_price_from law p blocks sel c i (ss ∷ hours) (x ∷ prices) price are ea
           ∙ sym (class_elsewhere p blocks c i (length hours) e))
     ]
 
--- the price of a period of the day
-abbrev pub price_of : List ℤ → ℕ → ℤ
-price_of prices t = get_or prices (t - 1) (pos 0)
-
-abbrev pub class_price : ProblemState → List ℤ → ℕ → ℤ
-class_price problem prices c = over_class (price_of prices) problem.blocks c 0 (length problem.hours)
-
-all_prices : (prices : List ℤ) → ArePricesFrom (price_of prices) 0 prices
+all_prices : (prices : List ℤ) → ArePricesFrom (price_in prices) 0 prices
 all_prices prices k x at =
     let place : suc (0 + k) - 1 ≡ k = omega arith in
     ap (λ (n : ℕ). get_or prices n (pos 0)) place ∙ get_or_from_slice_get prices k x (pos 0) at
@@ -88,57 +66,8 @@ pub joint_price_is : AreEndsUnique → (problem : ProblemState) (sel : List Bool
     → IsJointPrice (class_orders problem c) (net_volume problem.blocks sel (c + 1)) price → price ≡ class_price problem prices c
 joint_price_is law problem sel c prices price are is =
     let number : c + 1 ≡ suc c = omega arith in
-    joint_price_from law (price_of prices) problem.blocks sel c 0 problem.hours prices price are (all_prices prices)
+    joint_price_from law (price_in prices) problem.blocks sel c 0 problem.hours prices price are (all_prices prices)
     (subst (λ (n : ℕ). IsJointPrice (class_orders problem c) (net_volume problem.blocks sel n) price) number is)
-
--- ---- the surplus of a block
-surplus_periods : (p : ℕ → ℤ) (i : ℕ) (prices : List ℤ) (o : BlockTerms) → ArePricesFrom p i prices
-    → surplus_from (suc i) prices o ≡ over_periods (λ t. value_in t o +ℤ p t *ℤ net_volume_of_block t o) (suc i) (length prices)
-surplus_periods p i [] o each = refl
-surplus_periods p i (x ∷ prices) o each =
-    let here = prices_here p i x prices each in
-    let split = surplus_split (suc i) x o in
-    let own = ap (λ (z : ℤ). z *ℤ net_volume_of_block (suc i) o) here in
-    let rest = surplus_periods p (suc i) prices o (prices_rest p i x prices each) in
-    omega (arith, ints, split, own, rest)
-
-as_long : (blocks : List Block) (sel : List Bool) (t : ℕ) (hours : List (List Step)) (prices : List ℤ) → ArePrices blocks sel t hours prices
-    → length prices ≡ length hours
-as_long blocks sel t [] [] are = refl
-as_long blocks sel t [] (x ∷ prices) are = absurd are
-as_long blocks sel t (ss ∷ hours) [] are = absurd are
-as_long blocks sel t (ss ∷ hours) (x ∷ prices) are = ap suc (as_long blocks sel (suc t) hours prices are.1)
-
--- in a class the block has the same net volume everywhere
-in_class : (p : ℕ → ℤ) (blocks : List Block) (c n k : ℕ) (b : Block) → slice_get blocks k ≡ Some b
-    → over_class (λ t. p t *ℤ net_volume_of_block t b.order) blocks c 0 n ≡ over_class p blocks c 0 n *ℤ net_volume_of_block (c + 1) b.order
-in_class p blocks c n k b at =
-    let z = net_volume_of_block (c + 1) b.order in
-    let number : suc c ≡ c + 1 = omega arith in
-    same_class (λ t. p t *ℤ net_volume_of_block t b.order) (λ t. z *ℤ p t) blocks c 0 n (λ i l m first.
-    (let same = ap (λ (q : ℕ). neg_ℤ (signed b.order.side (pos q))) (class_volume blocks i c k b first at)
-    ∙ ap (λ (t : ℕ). net_volume_of_block t b.order) number in
-    ap (λ (y : ℤ). p (suc i) *ℤ y) same ∙ turned (p (suc i)) z))
-    ∙ class_times p z blocks c 0 n ∙ turned z (over_class p blocks c 0 n)
-
--- the surplus of a block at the prices of these classes
-abbrev pub surplus_over : ProblemState → List ℤ → List ℕ → BlockTerms → ℤ
-surplus_over problem prices places o =
-    day_value problem o +ℤ over_places (λ c. class_price problem prices c *ℤ net_volume_of_block (c + 1) o) places
-
-pub surplus_is : (problem : ProblemState) (sel : List Bool) (prices : List ℤ) (k : ℕ) (b : Block)
-    → ArePrices problem.blocks sel 1 problem.hours prices → slice_get problem.blocks k ≡ Some b
-    → surplus_over problem prices (class_places problem) b.order ≡ surplus_of prices b.order
-surplus_is problem sel prices k b are at =
-    let o = b.order in let n = length problem.hours in let p = price_of prices in
-    let periods = surplus_periods p 0 prices o (all_prices prices) in
-    let long = ap (over_periods (λ t. value_in t o +ℤ p t *ℤ net_volume_of_block t o) 1) (as_long problem.blocks sel 1 problem.hours prices are) in
-    let parts = periods_plus (λ t. value_in t o) (λ t. p t *ℤ net_volume_of_block t o) 1 n in
-    let classes = by_class (λ t. p t *ℤ net_volume_of_block t o) problem.blocks n in
-    let each = over_same (λ c. over_class (λ t. p t *ℤ net_volume_of_block t o) problem.blocks c 0 n)
-    (λ c. class_price problem prices c *ℤ net_volume_of_block (c + 1) o) (class_places problem)
-    (λ j c there. in_class p problem.blocks c n k b at) in
-    omega (arith, ints, periods, long, parts, classes, each)
 
 pub price_fits : (x : ℤ) → IsWithin (last_period * greatest_price) x → to_z w32 (of_z w32 x) ≡ x
 price_fits x small = let low = small.at_least in let high = small.at_most in to_z-of_z w32 x (omega (arith, ints, low, high))

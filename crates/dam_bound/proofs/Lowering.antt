@@ -1,28 +1,17 @@
 -- The welfare of a selection, from a bound that is lowered class by class.
-use Rattle.std.proofs.Common.{◌≡◌, ℕ, zero, suc, ◌+◌, ◌-◌, ◌*◌, ◌<◌, ◌≤◌, cond, Bool, true, false, ℤ, pos, ◌+ℤ◌, ◌-ℤ◌, ◌*ℤ◌, ◌≤ℤ◌, Some, None, List, []}
-use Rattle.std.proofs.Common.{◌∷◌, length, drop, take, get_or, ap, ap₂, ◌∙◌, sym, subst, refl, inl, inr, arith}
-use Rattle.std.specs.List.{slice_get}
-use Rattle.std.proofs.lemmas.Int.{ints, to_z-of_z}
-use Rattle.std.proofs.lemmas.Bool.{cases_eq}
-use Rattle.std.proofs.lemmas.List.{drop_all, take_all}
-use Rattle.std.proofs.lemmas.Option.{slice_get_within}
+use Rattle.dam_bound.proofs.Common.{◌≡◌, ℕ, zero, suc, ◌+◌, ◌-◌, ◌*◌, ◌<◌, ◌≤◌, cond, Bool, true, false, ℤ, ◌+ℤ◌, ◌-ℤ◌, ◌*ℤ◌, ◌≤ℤ◌, Some, None, List, [], ◌∷◌}
+use Rattle.dam_bound.proofs.Common.{length, drop, take, get_or, ap, ap₂, ◌∙◌, sym, subst, refl, inl, inr, arith, slice_get, ints, to_z-of_z, cases_eq, drop_all}
+use Rattle.dam_bound.proofs.Common.{take_all, slice_get_within, SFits, most_blocks, last_period, greatest_volume, greatest_value, greatest_price, joint_welfare}
+use Rattle.dam_bound.proofs.Common.{line_value, Line, Block, ProblemState, AreBlocks, IsWithin, accepts, over_accepted, net_volume_of_block, net_volume}
+use Rattle.dam_bound.proofs.Common.{selection_welfare, class_orders, day_value, least_net_in, most_net_in, over_gains, line_in, IsByLines, class_places}
+use Rattle.dam_bound.proofs.Common.{over_places, at_places, Pricing, weighted_sum}
+use Rattle.std.proofs.Common.{pos}
 use mir.Syntax.{w32, w64}
-use mir.Val.{to_z, of_z, SFits}
-use Rattle.dam_book.specs.Limits.{most_blocks, last_period, greatest_volume}
-use Rattle.dam_hour.specs.Limits.{greatest_net, greatest_value, greatest_price}
-use Rattle.dam_curve.specs.Curve.{joint_welfare, greatest_joint_welfare}
-use Rattle.dam_curve.specs.Line.{line_value, IsSmallLine}
-use Rattle.dam_curve.specs.declared.line.Line.{Line}
-use Rattle.dam_blocks.specs.declared.problem.Block.{Block}
-use Rattle.dam_blocks.specs.Problem.{ProblemState, AreBlocks}
-use Rattle.dam_blocks.specs.Magnitude.{IsWithin}
-use Rattle.dam_blocks.specs.Selection.{accepts, over_accepted, net_volume_of_block, net_volume}
-use Rattle.dam_blocks.specs.Eligible.{selection_welfare}
-use Rattle.dam_bound.specs.ClassCurves.{class_orders, day_value, least_net_in, most_net_in}
-use Rattle.dam_bound.specs.Prices.{over_gains, line_in, IsByLines}
-use Rattle.dam_bound.specs.Sums.{class_places, over_places, at_places}
-use Rattle.dam_bound.specs.declared.pricing.Pricing.{Pricing}
-use Rattle.dam_bound.specs.inside.BlockNumbers.{AreCounts, weighted_sum, greatest_line_value}
+use mir.Val.{to_z, of_z}
+use Rattle.dam_hour.specs.Limits.{greatest_net}
+use Rattle.dam_curve.specs.Curve.{greatest_joint_welfare}
+use Rattle.dam_curve.specs.Line.{IsSmallLine}
+use Rattle.dam_bound.specs.inside.BlockNumbers.{AreCounts, greatest_line_value}
 use Rattle.dam_bound.proofs.AtPlaces.{value_small, net_small}
 use Rattle.dam_bound.proofs.ByClass.{joint_of, whole_of, has_whole, from_classes}
 use Rattle.dam_bound.proofs.ClassPlaces.{over_most, over_within, over_from, over_next, take_get, is_place, few_places, few_taken}

@@ -1,28 +1,18 @@
 -- The making of the classes: their net volumes, their curves over the hourly orders, and the list of them.
-use Rattle.std.proofs.Common.{◌≡◌, ◌≢◌, ℕ, zero, suc, ◌+◌, ◌-◌, ◌*◌, ◌<◌, ◌≤◌, ◌==◌, cond, Bool, true, false, ℤ, pos, neg_ℤ, ◌+ℤ◌, ◌≤ℤ◌, Some, List, []}
-use Rattle.std.proofs.Common.{◌∷◌, ◌++◌, length, map, drop, take, slice_set, ap, ap₂, ◌∙◌, sym, subst, refl, arith}
-use Rattle.std.specs.List.{slice_get}
-use Rattle.std.specs.Int.{int_max, int_min}
-use Rattle.std.proofs.lemmas.Int.{ints, int_max_is, int_min_is, to_z-of_z}
+use Rattle.dam_bound.proofs.Common.{◌≡◌, ◌≢◌, ℕ, zero, suc, ◌+◌, ◌-◌, ◌*◌, ◌<◌, ◌≤◌, ◌==◌, cond, Bool, true, false, ℤ, neg_ℤ, ◌+ℤ◌, ◌≤ℤ◌, Some, List, [], ◌∷◌}
+use Rattle.dam_bound.proofs.Common.{◌++◌, length, map, drop, take, slice_set, ap, ap₂, ◌∙◌, sym, subst, refl, arith, slice_get, int_max, int_min, ints}
+use Rattle.dam_bound.proofs.Common.{int_max_is, int_min_is, to_z-of_z, nat_tests, take_all, BlockTerms, most_blocks, last_period, greatest_volume, Step}
+use Rattle.dam_bound.proofs.Common.{CurvesState, Block, ProblemState, AreBlocks, IsWithin, net_volume_of_block, members, class_orders, least_net_in}
+use Rattle.dam_bound.proofs.Common.{most_net_in, IsClassIn, at_places, over_periods, Class, AreNumbersWithin, negative_sum}
+use Rattle.std.proofs.Common.{pos}
 use mir.Syntax.{w32, w64}
 use mir.Val.{to_z, of_z}
-use Rattle.std.proofs.lemmas.Bool.Decides.{nat_tests}
-use Rattle.std.proofs.lemmas.List.{take_all}
-use Rattle.dam_book.specs.Terms.{BlockTerms}
-use Rattle.dam_book.specs.Limits.{most_blocks, last_period, greatest_volume}
-use Rattle.dam_hour.specs.declared.step.Step.{Step}
-use Rattle.dam_curve.specs.Curve.{IsCurve, CurvesState, IsCurveAt}
-use Rattle.dam_curve.specs.Curve.{Keeps}
+use Rattle.dam_curve.specs.Curve.{IsCurve, IsCurveAt, Keeps}
 use Rattle.dam_curve.specs.declared.segment.Segment.{Segment}
-use Rattle.dam_blocks.specs.declared.problem.Block.{Block}
-use Rattle.dam_blocks.specs.Problem.{ProblemState, AreBlocks}
-use Rattle.dam_blocks.specs.Magnitude.{IsWithin}
-use Rattle.dam_blocks.specs.Selection.{net_volume_of_block}
-use Rattle.dam_bound.specs.Classes.{first_of_class, members}
-use Rattle.dam_bound.specs.ClassCurves.{class_orders, least_net_in, most_net_in, IsClassIn, AreClasses}
-use Rattle.dam_bound.specs.Sums.{firsts_from, at_places, over_periods}
-use Rattle.dam_bound.specs.declared.class_curves.Class.{Class}
-use Rattle.dam_bound.specs.inside.BlockNumbers.{AreNumbersWithin, negative_sum, positive_sum}
+use Rattle.dam_bound.specs.Classes.{first_of_class}
+use Rattle.dam_bound.specs.ClassCurves.{AreClasses}
+use Rattle.dam_bound.specs.Sums.{firsts_from}
+use Rattle.dam_bound.specs.inside.BlockNumbers.{positive_sum}
 use Rattle.dam_bound.proofs.AtPlaces.{at_next, all_within, net_small, order_at}
 use Rattle.dam_bound.proofs.ClassPlaces.{place_more, place_none}
 use Rattle.dam_bound.proofs.Levelling.{drop_at}

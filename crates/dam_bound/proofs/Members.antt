@@ -1,17 +1,10 @@
 -- The blocks that descend from one, place by place, and the sum of their gains.
-use Rattle.std.proofs.Common.{◌≡◌, ℕ, zero, suc, ◌+◌, ◌<◌, ℤ, pos, ◌+ℤ◌, Bool, true, false, Option, Some, List, [], ◌∷◌, length, ◌&&◌, nat_lt, None, IsTrue}
-use Rattle.std.proofs.Common.{drop, get_or, option_map, unwrap_or, ap, ◌∙◌, sym, refl, arith}
-use Rattle.std.specs.List.{slice_get}
-use Rattle.std.proofs.lemmas.Int.{ints}
-use Rattle.std.proofs.lemmas.Bool.Decides.{nat_tests}
-use Rattle.std.proofs.lemmas.Option.{slice_get_read}
-use Rattle.dam_book.specs.Terms.{BlockTerms}
-use Rattle.dam_book.specs.Limits.{most_blocks}
-use Rattle.dam_blocks.specs.declared.problem.Block.{Block}
-use Rattle.dam_blocks.specs.Selection.{accepts, over_accepted, Meets}
-use Rattle.dam_blocks.specs.Family.{descends}
-use Rattle.dam_blocks.specs.Eligible.{surplus_of, surplus_at}
-use Rattle.dam_bound.specs.inside.Families.{IsFamily, AreFamilies}
+use Rattle.dam_bound.proofs.Common.{◌≡◌, ℕ, zero, suc, ◌+◌, ◌<◌, ℤ, ◌+ℤ◌, Bool, true, false, Option, Some, List, [], ◌∷◌, length, ◌&&◌, None, drop, get_or, ap}
+use Rattle.dam_bound.proofs.Common.{◌∙◌, sym, refl, arith, slice_get, ints, nat_tests, slice_get_read, BlockTerms, most_blocks, Block, accepts, over_accepted}
+use Rattle.dam_bound.proofs.Common.{descends, surplus_of, surplus_at, IsFamily}
+use Rattle.std.proofs.Common.{pos, nat_lt, IsTrue, option_map, unwrap_or}
+use Rattle.dam_blocks.specs.Selection.{Meets}
+use Rattle.dam_bound.specs.inside.Families.{AreFamilies}
 use Rattle.dam_bound.proofs.Accepted.{if_accepted}
 
 -- ---- the descendants among the first places

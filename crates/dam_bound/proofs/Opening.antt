@@ -1,47 +1,31 @@
 -- The selections that are open, by a decision on one place more.
-use Rattle.std.proofs.Common.{◌≡◌, ◌≢◌, ℕ, zero, suc, ◌<◌, inl, inr, ℤ, pos, ◌+ℤ◌, ◌≤ℤ◌, Bool, true, false, ◌==◌, ◌||◌, List, [], ◌∷◌}
-use Rattle.std.proofs.Common.{length, slice_set, slice_index_or, ◌∙◌, ap, sym, subst, refl, arith}
-use Rattle.std.proofs.lemmas.Int.{ints, clamps}
-use Rattle.std.proofs.lemmas.Bool.{cases_eq, eqb-true}
-use Rattle.std.proofs.lemmas.Bool.Decides.{nat_tests}
-use Rattle.std.proofs.lemmas.List.{length-set, get_or-set_same, get_or-set_other}
-use Rattle.dam_book.specs.Limits.{most_blocks}
-use Rattle.dam_blocks.specs.Selection.{accepts}
-use Rattle.dam_bound.specs.Prices.{over_gains, over_open}
+use Rattle.dam_bound.proofs.Common.{◌≡◌, ◌≢◌, ℕ, zero, suc, ◌<◌, inl, inr, ℤ, ◌+ℤ◌, ◌≤ℤ◌, Bool, true, false, ◌==◌, List, [], ◌∷◌, length, slice_set}
+use Rattle.dam_bound.proofs.Common.{slice_index_or, ◌∙◌, ap, sym, subst, refl, arith, ints, cases_eq, length-set, get_or-set_same, get_or-set_other}
+use Rattle.dam_bound.proofs.Common.{most_blocks, accepts, over_gains, over_open}
+use Rattle.std.proofs.Common.{pos}
+use Rattle.std.proofs.lemmas.Int.{clamps}
+use Rattle.std.proofs.lemmas.Bool.{eqb-false, ne_eqb, or_from, or_parts}
 use Rattle.dam_bound.specs.Open.{is_among, IsOpen, AreFree}
 
-or_false : (a b : Bool) → (a || b) ≡ false → (a ≡ false) × (b ≡ false)
-or_false true b e = absurd (cc)
-or_false false b e = (refl, e)
-
-unlike : (m n : ℕ) → (m == n) ≡ false → m ≢ n
-unlike m n e f = grind (arith, nat_tests, e, f)
-
-differ : (m n : ℕ) → m ≢ n → (m == n) ≡ false
-differ m n ne = elim (m == n) as (λ b. (m == n) ≡ b → b ≡ false) [
-  | true ↦ λ e. absurd (ne (eqb-true m n e))
-  | false ↦ λ e. refl
-] refl
-
 -- a place apart from the first one is not among the places
-pub not_among : (place other : ℕ) (left : List ℕ) → place ≢ other → is_among place left ≡ false → is_among place (other ∷ left) ≡ false
-not_among place other left ne e = ap (λ (b : Bool). b || is_among place left) (differ place other ne) ∙ e
+not_among : (place other : ℕ) (left : List ℕ) → place ≢ other → is_among place left ≡ false → is_among place (other ∷ left) ≡ false
+not_among place other left ne e = or_from (place == other) (is_among place left) (ne_eqb place other ne) e
 
-pub among_rest : (place other : ℕ) (left : List ℕ) → is_among place (other ∷ left) ≡ false → (place ≢ other) × (is_among place left ≡ false)
+among_rest : (place other : ℕ) (left : List ℕ) → is_among place (other ∷ left) ≡ false → (place ≢ other) × (is_among place left ≡ false)
 among_rest place other left e =
-    let both = or_false (place == other) (is_among place left) e in
-    (unlike place other both.0, both.1)
+    let both = or_parts (place == other) (is_among place left) e in
+    (eqb-false place other both.0, both.1)
 
 -- ---- what a selection accepts with one place more
 
-pub accepts_here : (accepted : List Bool) (place : ℕ) → place < length accepted → accepts (slice_set accepted place true) place ≡ true
+accepts_here : (accepted : List Bool) (place : ℕ) → place < length accepted → accepts (slice_set accepted place true) place ≡ true
 accepts_here accepted place inside = get_or-set_same accepted place true false inside
 
-pub accepts_there : (accepted : List Bool) (place other : ℕ) → other ≢ place → accepts (slice_set accepted place true) other ≡ accepts accepted other
+accepts_there : (accepted : List Bool) (place other : ℕ) → other ≢ place → accepts (slice_set accepted place true) other ≡ accepts accepted other
 accepts_there accepted place other ne = get_or-set_other accepted place other true false ne
 
 -- the places that are left are free after a decision on another
-pub still_free : (accepted : List Bool) (place : ℕ) (left : List ℕ) → is_among place left ≡ false → AreFree accepted left
+still_free : (accepted : List Bool) (place : ℕ) (left : List ℕ) → is_among place left ≡ false → AreFree accepted left
     → AreFree (slice_set accepted place true) left
 still_free accepted place [] e free = tt
 still_free accepted place (other ∷ left) e free =
@@ -50,7 +34,7 @@ still_free accepted place (other ∷ left) e free =
 
 -- ---- an open selection that accepts the first place, and one that rejects it
 
-pub open_accepted : (accepted : List Bool) (place : ℕ) (left : List ℕ) (selection : List Bool) → length accepted ≡ most_blocks → place < most_blocks
+open_accepted : (accepted : List Bool) (place : ℕ) (left : List ℕ) (selection : List Bool) → length accepted ≡ most_blocks → place < most_blocks
     → IsOpen accepted (place ∷ left) selection → accepts selection place ≡ true → IsOpen (slice_set accepted place true) left selection
 open_accepted accepted place left selection long few is e = record {
   as_long = is.as_long;
@@ -61,7 +45,7 @@ open_accepted accepted place left selection long few is e = record {
   ];
 }
 
-pub open_rejected : (accepted : List Bool) (place : ℕ) (left : List ℕ) (selection : List Bool) → accepts accepted place ≡ false
+open_rejected : (accepted : List Bool) (place : ℕ) (left : List ℕ) (selection : List Bool) → accepts accepted place ≡ false
     → IsOpen accepted (place ∷ left) selection → accepts selection place ≡ false → IsOpen accepted left selection
 open_rejected accepted place left selection free is e = record {
   as_long = is.as_long;
@@ -69,21 +53,6 @@ open_rejected accepted place left selection free is e = record {
     | inl same ↦ subst (λ (k : ℕ). accepts selection k ≡ accepts accepted k) (sym same) (e ∙ sym free)
     | inr ne ↦ is.agrees other (not_among other place left ne apart)
   ];
-}
-
--- the same the other way round
-pub accepted_open : (accepted : List Bool) (place : ℕ) (left : List ℕ) (selection : List Bool) → IsOpen (slice_set accepted place true) left selection
-    → IsOpen accepted (place ∷ left) selection
-accepted_open accepted place left selection is = record {
-  as_long = is.as_long;
-  agrees = λ other apart. (let rest = among_rest other place left apart in is.agrees other rest.1 ∙ accepts_there accepted place other rest.0);
-}
-
-pub rejected_open : (accepted : List Bool) (place : ℕ) (left : List ℕ) (selection : List Bool) → IsOpen accepted left selection
-    → IsOpen accepted (place ∷ left) selection
-rejected_open accepted place left selection is = record {
-  as_long = is.as_long;
-  agrees = λ other apart. (let rest = among_rest other place left apart in is.agrees other rest.1);
 }
 
 -- ---- the gains that a selection adds up

@@ -1,15 +1,11 @@
 -- The prices of the periods of a day: the ends of each are unique, and there are prices if every period balances.
-use Rattle.std.proofs.Common.{◌≡◌, ℕ, suc, ℤ, ◌+ℤ◌, Bool, Option, Some, None, List, []}
-use Rattle.std.proofs.Common.{◌∷◌, refl}
+use Rattle.dam_bound.proofs.Common.{◌≡◌, ℕ, suc, ℤ, ◌+ℤ◌, Bool, Option, Some, None, List, [], ◌∷◌, refl, Step, welfare_of, greatest_welfare, AreInRange}
+use Rattle.dam_bound.proofs.Common.{IsExecution, Block, net_volume, accepted_value, ArePrices, period_welfare, welfare_from}
 use Rattle.std.specs.Option.{option_map}
-use Rattle.dam_hour.specs.declared.step.Step.{Step}
 use Rattle.dam_hour.specs.Price.{AreEnds, price_between}
-use Rattle.dam_hour.specs.Best.{welfare_of, greatest_welfare}
-use Rattle.dam_hour.specs.Execution.{AreInRange, IsExecution, Balances, IsWithinOffers}
-use Rattle.dam_blocks.specs.declared.problem.Block.{Block}
+use Rattle.dam_hour.specs.Execution.{Balances, IsWithinOffers}
 use Rattle.dam_blocks.specs.Problem.{AreHoursInRange}
-use Rattle.dam_blocks.specs.Selection.{net_volume, accepted_value}
-use Rattle.dam_blocks.specs.Eligible.{ArePrices, added, period_welfare, welfare_from}
+use Rattle.dam_blocks.specs.Eligible.{added}
 
 -- the law of dam_hour on two pairs of ends
 abbrev pub AreEndsUnique : Type 0

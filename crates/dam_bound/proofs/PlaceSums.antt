@@ -1,19 +1,11 @@
 -- Numbers of the blocks at their places, and sums of them.
-use Rattle.std.proofs.Common.{◌≡◌, ℕ, zero, suc, ◌+◌, ◌*◌, ◌<◌, ◌≤◌, ℤ, pos, negsuc, ◌+ℤ◌, ◌*ℤ◌, ◌≤ℤ◌, Bool, true, false, Some, List, [], ◌∷◌, length}
-use Rattle.std.proofs.Common.{drop, get_or, ap, ap₂, ◌∙◌, sym, subst, refl, arith}
-use Rattle.std.specs.List.{slice_get}
-use Rattle.std.specs.Int.{int_max}
-use Rattle.std.proofs.lemmas.Int.{ints, to_z-of_z, int_max_is}
+use Rattle.dam_bound.proofs.Common.{◌≡◌, ℕ, zero, suc, ◌+◌, ◌*◌, ◌<◌, ◌≤◌, ℤ, ◌+ℤ◌, ◌*ℤ◌, ◌≤ℤ◌, Bool, true, false, Some, List, [], ◌∷◌, length, drop, get_or}
+use Rattle.dam_bound.proofs.Common.{ap, ap₂, ◌∙◌, sym, subst, refl, arith, slice_get, int_max, ints, to_z-of_z, int_max_is, SFits, drop_all, greatest_volume}
+use Rattle.dam_bound.proofs.Common.{most_blocks, last_period, greatest_price, greatest_value, IsWithin, weighted_sum, accepts, over_gains, over_open}
+use Rattle.std.proofs.Common.{pos, negsuc}
 use mir.Syntax.{w32, w64}
-use mir.Val.{to_z, of_z, SFits}
+use mir.Val.{to_z, of_z}
 use Rattle.std.proofs.lemmas.Nat.{mul-le}
-use Rattle.std.proofs.lemmas.List.{drop_all}
-use Rattle.dam_book.specs.Limits.{greatest_volume, most_blocks, last_period}
-use Rattle.dam_hour.specs.Limits.{greatest_price, greatest_value}
-use Rattle.dam_blocks.specs.Magnitude.{IsWithin}
-use Rattle.dam_bound.specs.inside.BlockNumbers.{weighted_sum}
-use Rattle.dam_blocks.specs.Selection.{accepts}
-use Rattle.dam_bound.specs.Prices.{over_gains, over_open}
 use Rattle.dam_bound.proofs.Accepted.{if_accepted}
 use Rattle.dam_bound.proofs.Levelling.{drop_at}
 

@@ -1,24 +1,12 @@
 -- The surplus of a block at the prices of a selection, class by class.
-use Rattle.std.proofs.Common.{◌≡◌, ℕ, zero, suc, ◌+◌, ◌-◌, ◌<◌, ◌==◌, cond, Bool, true, false, ℤ, pos, neg_ℤ, ◌+ℤ◌, ◌-ℤ◌, ◌*ℤ◌, Some, List, []}
-use Rattle.std.proofs.Common.{◌∷◌, length, get_or, ap, ap₂, ◌∙◌, sym, subst, refl, inl, inr, arith}
-use Rattle.std.specs.List.{slice_get}
-use Rattle.std.proofs.lemmas.Int.{ints}
-use Rattle.std.proofs.lemmas.Bool.{cases_eq}
-use Rattle.std.proofs.lemmas.Bool.Decides.{nat_tests}
-use Rattle.dam_book.specs.Terms.{BlockTerms}
-use Rattle.dam_book.specs.declared.order.Side.{Side}
-use Rattle.dam_book.specs.declared.order.Side.TheVariants.{Buy, Sell}
-use Rattle.dam_hour.specs.Best.{signed}
-use Rattle.dam_hour.specs.declared.step.Step.{Step}
-use Rattle.dam_hour.proofs.Numbers.{minus_times}
+use Rattle.dam_bound.proofs.Common.{◌≡◌, ℕ, zero, suc, ◌+◌, ◌-◌, ◌*◌, ◌<◌, ◌==◌, cond, Bool, true, false, ℤ, neg_ℤ, ◌+ℤ◌, ◌-ℤ◌, ◌*ℤ◌, Some, List, [], ◌∷◌}
+use Rattle.dam_bound.proofs.Common.{length, get_or, ap, ap₂, ◌∙◌, sym, subst, refl, inl, inr, arith, slice_get, ints, cases_eq, nat_tests, up, down, BlockTerms}
+use Rattle.dam_bound.proofs.Common.{Side, Buy, Sell, signed, Step, Block, ProblemState, volume_in, net_volume_of_block, value_in, net_volume, ArePrices}
+use Rattle.dam_bound.proofs.Common.{surplus_of, members, class_orders, day_value, over_periods, class_places, over_places}
+use Rattle.std.proofs.Common.{pos}
 use Rattle.dam_curve.specs.JointPrice.{IsJointPrice}
-use Rattle.dam_blocks.specs.declared.problem.Block.{Block}
-use Rattle.dam_blocks.specs.Problem.{ProblemState}
-use Rattle.dam_blocks.specs.Selection.{volume_in, net_volume_of_block, value_in, net_volume}
-use Rattle.dam_blocks.specs.Eligible.{IsClearingPrice, ArePrices, surplus_from, surplus_of}
-use Rattle.dam_bound.specs.Classes.{first_of_class, members}
-use Rattle.dam_bound.specs.ClassCurves.{class_orders, day_value}
-use Rattle.dam_bound.specs.Sums.{over_periods, class_places, over_places}
+use Rattle.dam_blocks.specs.Eligible.{IsClearingPrice, surplus_from}
+use Rattle.dam_bound.specs.Classes.{first_of_class}
 use Rattle.dam_bound.proofs.ClassPlaces.{times_plus, turned, over_same, by_class, periods_plus, class_times}
 use Rattle.dam_bound.proofs.Classing.{over_class, class_net, class_volume, same_class}
 
@@ -101,6 +89,12 @@ joint_from f blocks sel c i (ss ∷ hours) each =
     ]
 
 -- ---- the surplus of a block
+minus_times : (a b : ℤ) (x : ℕ) → (a -ℤ b) *ℤ pos x +ℤ b *ℤ pos x ≡ a *ℤ pos x
+minus_times a b x =
+    let e : up (a -ℤ b) + down a + up b ≡ down (a -ℤ b) + up a + down b = omega (arith, ints) in
+    let m = ap (λ (n : ℕ). n * x) e in
+    omega (arith, ints, m)
+
 times_net : (price p : ℤ) (side : Side) (v : ℕ)
     → signed side ((price -ℤ p) *ℤ pos v) ≡ signed side (price *ℤ pos v) +ℤ p *ℤ neg_ℤ (signed side (pos v))
 times_net price p Buy v =

@@ -1,21 +1,14 @@
 -- The blocks as steps are in range, and no more than the blocks; and how large a relaxed welfare is.
-use Rattle.std.proofs.Common.{◌≡◌, ℕ, suc, ◌+◌, ◌*◌, ◌≤◌, ◌==◌, cond, ℤ, pos, Bool, true, false, Some, List, [], ◌∷◌, ◌++◌, length, drop}
-use Rattle.std.proofs.Common.{length-append, ap, ◌∙◌, refl, arith}
-use Rattle.std.proofs.lemmas.Int.{ints}
-use Rattle.std.proofs.lemmas.Bool.Decides.{nat_tests}
+use Rattle.dam_bound.proofs.Common.{◌≡◌, ℕ, suc, ◌+◌, ◌*◌, ◌≤◌, ◌==◌, cond, ℤ, Bool, true, false, Some, List, [], ◌∷◌, ◌++◌, length, drop, ap, ◌∙◌, refl, arith}
+use Rattle.dam_bound.proofs.Common.{ints, nat_tests, Step, AreInRange, last_period, greatest_volume, most_blocks, greatest_value, welfare_of, greatest_welfare}
+use Rattle.dam_bound.proofs.Common.{Block, ProblemState, AreBlocks, volume_in, net_volume, accepted_value, period_welfare, welfare_from, IsWithin, step_of}
+use Rattle.dam_bound.proofs.Common.{as_steps, relaxed_hours}
+use Rattle.std.proofs.Common.{pos, length-append}
 use Rattle.dam_book.specs.Book.{is_day}
 use Rattle.dam_book.specs.Volumes.{Pair, ArePairs}
-use Rattle.dam_hour.specs.declared.step.Step.{Step}
-use Rattle.dam_hour.specs.Execution.{AreInRange}
-use Rattle.dam_book.specs.Limits.{last_period, greatest_volume, most_blocks}
-use Rattle.dam_hour.specs.Limits.{greatest_value}
-use Rattle.dam_hour.specs.Best.{welfare_of, greatest_welfare}
-use Rattle.dam_blocks.specs.declared.problem.Block.{Block}
-use Rattle.dam_blocks.specs.Problem.{ProblemState, hourly_orders, AreHoursInRange, AreBlocks, IsProblem}
-use Rattle.dam_blocks.specs.Selection.{volume_in, net_volume, accepted_value}
-use Rattle.dam_blocks.specs.Eligible.{period_welfare, welfare_from}
-use Rattle.dam_blocks.specs.Magnitude.{IsWithin, greatest_selection_welfare}
-use Rattle.dam_bound.specs.Relaxed.{step_of, as_steps, relaxed_hours, relaxed_welfare}
+use Rattle.dam_blocks.specs.Problem.{hourly_orders, AreHoursInRange, IsProblem}
+use Rattle.dam_blocks.specs.Magnitude.{greatest_selection_welfare}
+use Rattle.dam_bound.specs.Relaxed.{relaxed_welfare}
 use Rattle.dam_bound.proofs.Standing.{stand}
 use Rattle.dam_bound.proofs.Covering.{Laws, added_some, raised_some}
 

@@ -1,35 +1,22 @@
 -- Two blocks at prices that lie in the ranges of their classes.
-use Rattle.std.proofs.Common.{◌≡◌, ℕ, suc, ◌+◌, ◌*◌, ◌<◌, ◌≤◌, ◌&&◌, Bool, true, false, ℤ, pos, negsuc, ◌+ℤ◌, ◌-ℤ◌, ◌*ℤ◌, ◌≤ℤ◌, ◌<ℤ◌, Option, Some, None, List, length, take, get_or, ap, ap₂, ◌∙◌, sym, subst, refl, arith}
+use Rattle.dam_bound.proofs.Common.{◌≡◌, ℕ, suc, ◌+◌, ◌*◌, ◌<◌, ◌≤◌, ◌&&◌, Bool, true, false, ℤ, ◌+ℤ◌, ◌-ℤ◌, ◌*ℤ◌, ◌≤ℤ◌, Option, Some, None, List, length, take}
+use Rattle.dam_bound.proofs.Common.{get_or, ap, ap₂, ◌∙◌, sym, subst, refl, arith, int_max, slice_get, ints, to_z-of_z, int_max_is, take_all, up, down, SFits}
+use Rattle.dam_bound.proofs.Common.{BlockTerms, greatest_volume, last_period, most_blocks, greatest_price, greatest_value, CurvesState, Block, ProblemState}
+use Rattle.dam_bound.proofs.Common.{IsWithin, accepts, net_volume_of_block, descends, accepted_descendants, surplus_of, surplus_at, family_surplus}
+use Rattle.dam_bound.proofs.Common.{class_orders, least_net_in, most_net_in, day_value, AreClassCurves, class_places, over_places, at_places, Class, IsFamily}
+use Rattle.dam_bound.proofs.Common.{AreNumbersWithin}
+use Rattle.std.proofs.Common.{pos, negsuc, ◌<ℤ◌}
 use Rattle.std.specs.Prelude.{int_lt}
-use Rattle.std.specs.Int.{int_max}
-use Rattle.std.specs.List.{slice_get}
 use Rattle.std.specs.Option.{is_some}
-use Rattle.std.proofs.lemmas.Int.{ints, to_z-of_z, int_max_is}
 use Rattle.std.proofs.lemmas.Bool.{and_right}
-use Rattle.std.proofs.lemmas.List.{take_all}
 use Rattle.std.proofs.Math.Nat.{mul-le-mul_left}
-use borrow.Author.Differences.{up, down}
 use mir.Syntax.{w32, w64}
-use mir.Val.{to_z, of_z, SFits}
-use Rattle.dam_book.specs.Terms.{BlockTerms}
-use Rattle.dam_book.specs.Limits.{greatest_volume, last_period, most_blocks}
-use Rattle.dam_hour.specs.Limits.{greatest_price, greatest_value}
-use Rattle.dam_curve.specs.Curve.{CurvesState}
+use mir.Val.{to_z, of_z}
 use Rattle.dam_curve.specs.JointPrice.{IsJointPrice}
 use Rattle.dam_curve.specs.PriceRange.{ArePricesIn, IsSmallRange}
 use Rattle.dam_curve.specs.declared.price_range.PriceRange.{PriceRange}
-use Rattle.dam_blocks.specs.declared.problem.Block.{Block}
-use Rattle.dam_blocks.specs.Problem.{ProblemState}
-use Rattle.dam_blocks.specs.Magnitude.{IsWithin}
-use Rattle.dam_blocks.specs.Selection.{accepts, net_volume_of_block}
-use Rattle.dam_blocks.specs.Family.{descends, accepted_descendants}
-use Rattle.dam_blocks.specs.Eligible.{surplus_of, surplus_at, family_surplus, IsEligible}
-use Rattle.dam_bound.specs.ClassCurves.{class_orders, least_net_in, most_net_in, day_value, AreClassCurves}
-use Rattle.dam_bound.specs.Sums.{class_places, over_places, at_places}
-use Rattle.dam_bound.specs.declared.class_curves.Class.{Class}
+use Rattle.dam_blocks.specs.Eligible.{IsEligible}
 use Rattle.dam_bound.specs.declared.rivals.Weights.{Weights}
-use Rattle.dam_bound.specs.inside.Families.{IsFamily}
-use Rattle.dam_bound.specs.inside.BlockNumbers.{AreNumbersWithin}
 use Rattle.dam_bound.specs.inside.Rivals.{AreVolumes, weigh, IsMost}
 use Rattle.dam_bound.proofs.AtPlaces.{at_block, all_within, order_at, value_small}
 use Rattle.dam_bound.proofs.ClassPlaces.{times_plus, over_same, over_plus, over_times, over_next}

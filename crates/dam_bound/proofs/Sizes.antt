@@ -1,13 +1,9 @@
 -- How large a sum over the accepted blocks is, and a sum as the code has it.
-use Rattle.std.proofs.Common.{◌≡◌, ◌+ℤ◌, ap, ap₂, ◌∙◌, sym, subst, ℕ, ◌*◌, ℤ, Bool, true, false, List, [], ◌∷◌, length, arith}
-use Rattle.std.proofs.lemmas.Int.{ints, to_z-of_z}
+use Rattle.dam_bound.proofs.Common.{◌≡◌, ◌+ℤ◌, ap, ap₂, ◌∙◌, sym, subst, ℕ, ◌*◌, ℤ, Bool, true, false, List, [], ◌∷◌, length, arith, ints, to_z-of_z, SFits}
+use Rattle.dam_bound.proofs.Common.{BlockTerms, Block, AreBlocks, over_accepted, IsWithin}
 use mir.Syntax.{w64}
-use mir.Val.{to_z, of_z, SFits}
-use Rattle.dam_book.specs.Terms.{BlockTerms, IsBlockOrder}
-use Rattle.dam_blocks.specs.declared.problem.Block.{Block}
-use Rattle.dam_blocks.specs.Problem.{AreBlocks}
-use Rattle.dam_blocks.specs.Selection.{over_accepted}
-use Rattle.dam_blocks.specs.Magnitude.{IsWithin}
+use mir.Val.{to_z, of_z}
+use Rattle.dam_book.specs.Terms.{IsBlockOrder}
 
 pub over_within : (f : BlockTerms → ℤ) (most periods : ℕ) → ((o : BlockTerms) → IsBlockOrder o → IsWithin most (f o))
     → (bs : List Block) (sel : List Bool) → AreBlocks periods bs

@@ -1,17 +1,9 @@
 -- Blocks as steps: an execution in which each block stands as it is decided.
-use Rattle.std.proofs.Common.{◌≡◌, ℕ, ◌==◌, cond, ℤ, pos, neg_ℤ, ◌+ℤ◌, ◌*ℤ◌, Bool, true, false, List, [], ◌∷◌, length, drop, ap, ◌∙◌, refl}
-use Rattle.std.proofs.Common.{arith}
-use Rattle.std.proofs.lemmas.Int.{ints}
-use Rattle.std.proofs.lemmas.Bool.Decides.{nat_tests}
-use Rattle.dam_book.specs.Terms.{BlockTerms}
-use Rattle.dam_book.specs.declared.order.Side.{Side}
-use Rattle.dam_book.specs.declared.order.Side.TheVariants.{Buy, Sell}
-use Rattle.dam_hour.specs.declared.step.Step.{Step}
-use Rattle.dam_hour.specs.Execution.{IsExecution, executed_volume, volume_on}
-use Rattle.dam_hour.specs.Best.{signed, welfare_of}
-use Rattle.dam_blocks.specs.declared.problem.Block.{Block}
-use Rattle.dam_blocks.specs.Selection.{over_accepted, volume_in, net_volume_of_block, value_in, net_volume, accepted_value}
-use Rattle.dam_bound.specs.Relaxed.{step_of, as_steps}
+use Rattle.dam_bound.proofs.Common.{◌≡◌, ℕ, ◌==◌, cond, ℤ, neg_ℤ, ◌+ℤ◌, ◌*ℤ◌, Bool, true, false, List, [], ◌∷◌, length, drop, ap, ◌∙◌, refl, arith, ints}
+use Rattle.dam_bound.proofs.Common.{nat_tests, BlockTerms, Side, Buy, Sell, Step, IsExecution, signed, welfare_of, Block, over_accepted, volume_in}
+use Rattle.dam_bound.proofs.Common.{net_volume_of_block, value_in, net_volume, accepted_value, step_of, as_steps}
+use Rattle.std.proofs.Common.{pos}
+use Rattle.dam_hour.specs.Execution.{executed_volume, volume_on}
 
 pub over_accepted-nil : (f : BlockTerms → ℤ) (bs : List Block) → over_accepted f bs [] ≡ pos 0
 over_accepted-nil f [] = refl

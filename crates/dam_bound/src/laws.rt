@@ -3,10 +3,10 @@
 //! A caller that needs one of them in a proof calls the function, at no cost.
 
 ghost use Rattle.std.specs.Prelude.{◌≡◌, ◌<◌, ◌≤◌, ◌≤ℤ◌, ◌+ℤ◌, ◌⊎◌, ℕ, ℤ, true, false, Some, None};
-ghost use Rattle.std.specs.Prelude.{List, [], ◌∷◌, ◌++◌, Bool, length};
+ghost use Rattle.std.specs.Prelude.{pos, List, [], ◌∷◌, ◌++◌, Bool, length, slice_set, slice_index_or};
 ghost use Rattle.dam_book.specs.Limits.{most_blocks};
 ghost use Rattle.dam_blocks.specs.Problem.{ProblemState, IsProblem};
-ghost use Rattle.dam_blocks.specs.Selection.{padded, IsAdmissible};
+ghost use Rattle.dam_blocks.specs.Selection.{accepts, padded, IsAdmissible};
 ghost use Rattle.dam_blocks.specs.Eligible.{selection_welfare, ArePrices};
 ghost use Rattle.dam_blocks.specs.Magnitude.{IsWithin, greatest_selection_welfare};
 ghost use Rattle.dam_bound.specs.Prefix.{IsCompletion};
@@ -86,4 +86,12 @@ pub fn pricing_bounds_open_selections()
         → IsPricing problem pricing → length accepted ≡ most_blocks → AreFree accepted left
         → IsOpen accepted left selection → selection_welfare problem selection ≡ Some w
         → w ≤ℤ bound_of pricing accepted left }
+{}
+
+/// The gains of a selection that accepts one place more are greater by the gain of that place.
+pub fn gains_add_up()
+    ensures { (gains : List ℤ) (selection : List Bool) (place : ℕ) → place < length gains
+        → place < length selection → accepts selection place ≡ false
+        → over_gains gains (slice_set selection place true)
+        ≡ over_gains gains selection +ℤ slice_index_or gains place (pos 0) }
 {}

@@ -26,8 +26,8 @@ pub(crate) fn copy_to_buffer(text: &[u8], buffer: &mut [u8]) -> usize
     text.len()
 }
 
-/// The answer of a text, or of a fault, whose line needs no memory.
-pub(crate) fn write_answer(made: Result<Vec<u8>, RunFault>, buffer: &mut [u8]) -> DamAnswer
+/// The answer of a text, or of a fault, whose line needs no memory, with its text in the buffer.
+pub(crate) fn copy_answer(made: Result<Vec<u8>, RunFault>, buffer: &mut [u8]) -> DamAnswer
     ensures { MatchResult made
         (λ text. (result.status ≡ 0)
         × HoldsText buffer.old buffer.new result.length text.items)

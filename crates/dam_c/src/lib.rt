@@ -18,7 +18,7 @@ ghost use Rattle.dam_engines.specs.Clear.{AreResultsWithin, IsClearFault, terms_
 ghost use Rattle.dam_c.specs.Answer.{IsReturned};
 
 pub use answer::DamAnswer;
-use answer::write_answer;
+use answer::copy_answer;
 use dam_book::Seed;
 use dam_engines::{clear_journal_alone, replies_of};
 use secret::seed_from_secret;
@@ -30,7 +30,7 @@ pub extern "C" fn dam_replay(alloc: Global, text: &[u8], buffer: &mut [u8]) -> D
     ensures { IsReturned (IsMadeFrom AreReplies text.now) (IsTextFault text.now)
         result buffer.old buffer.new }
 {
-    write_answer(replies_of(alloc, Seed::fixed(), text), buffer)
+    copy_answer(replies_of(alloc, Seed::fixed(), text), buffer)
 }
 
 /// The same, but the book hashes names with a seed that is drawn from the caller's secret, at least 16 random bytes.
@@ -44,7 +44,7 @@ pub extern "C" fn dam_replay_seeded(
     ensures { IsReturned (IsMadeFrom AreReplies text.now) (IsTextFault text.now)
         result buffer.old buffer.new }
 {
-    write_answer(replies_of(alloc, seed_from_secret(secret), text), buffer)
+    copy_answer(replies_of(alloc, seed_from_secret(secret), text), buffer)
 }
 
 /// The output of `dam clear` for the text. The search visits at most `nodes` nodes. Before the nodes, a first selection
@@ -56,7 +56,7 @@ pub extern "C" fn dam_clear(alloc: Global, text: &[u8], nodes: u32, buffer: &mut
         (IsRunFault (IsClearFault (terms_alone nodes)) text.now)
         result buffer.old buffer.new }
 {
-    write_answer(
+    copy_answer(
         clear_journal_alone(alloc, Seed::fixed(), text, nodes),
         buffer,
     )
@@ -75,7 +75,7 @@ pub extern "C" fn dam_clear_seeded(
         (IsRunFault (IsClearFault (terms_alone nodes)) text.now)
         result buffer.old buffer.new }
 {
-    write_answer(
+    copy_answer(
         clear_journal_alone(alloc, seed_from_secret(secret), text, nodes),
         buffer,
     )

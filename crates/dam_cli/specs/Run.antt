@@ -32,8 +32,8 @@ pub record RunsAsked {R W : Type 0} (words : List (List ℕ)) (reader_old reader
   pub status_is : status ≡ run_status done
 
 -- how the program ends that is started with these words: as the run of the job that they ask for, or if they ask for none or memory
--- runs out before, with the devices as they were
+-- runs out before, with their answer and the reader as it was
 abbrev pub EndsAsAsked : {R W : Type 0} → List (List ℕ) → SourceState R → SourceState R → SinkState W → SinkState W → ℕ → Type 0
 EndsAsAsked words reader_old reader_new writer_old writer_new status =
     RunsAsked words reader_old reader_new writer_old writer_new status
-    ⊎ (IsUnasked words status × (reader_new ≡ reader_old) × (writer_new ≡ writer_old))
+    ⊎ (IsUnasked words writer_old writer_new status × (reader_new ≡ reader_old))

@@ -8,42 +8,38 @@ mod advice;
 mod progress;
 mod run;
 
-ghost use Rattle.std.specs.Prelude.{◌≡◌, false, map, IfErr, IfOk};
+ghost use Rattle.std.specs.Prelude.{◌≡◌, false, map, IfErr, IfOk, OnOk};
 ghost use Rattle.std.specs.Process.{exit_status};
 ghost use Rattle.std.specs.String.{string_bytes};
 ghost use Rattle.dam_engines.specs.Fault.{fault_status};
 ghost use Rattle.dam_line.specs.Line.{AsksFor};
 ghost use Rattle.dam_cli.specs.Run.{EndsAsAsked};
-ghost use Rattle.dam_cli.specs.Status.{IsLineStatus, IsNoHelp, IsUnasked, run_status};
+ghost use Rattle.dam_cli.specs.Status.{IsAnswered, IsHelp, IsUnasked, run_status, words_status};
 
 use advice::{asks_version, command_and_file, quote_of, rule_of};
 use dam_book::Seed;
+use dam_device::{WordsFault, print_refusal, read_program_words};
 use dam_engines::{RunFault, Sink, Source, fixed_fault_line, status, write_text};
 use dam_line::{Job, LineFault, read_job};
 use progress::Progress;
 use run::run_job;
-use std::alloc::Global;
-use std::env;
-use std::io::{ErrorKind, IsTerminal, Read, Write};
+use std::io::{IsTerminal, Read, Write};
 use std::process::ExitCode;
 use std::sync::Wait;
 use std::thread::Threads;
 use std::time::Clock;
 
-/// The status of a command line that is refused.
-const REFUSED_STATUS: u8 = 2;
-
 fn main(rt: HostRuntime) -> ExitCode {
     let words = match read_program_words(&rt) {
         Ok(words) => words,
-        Err(fault) => return print_help_or_refusal(&rt, &fault, &[]),
+        Err(fault) => return print_words_fault(&rt, fault),
     };
     let (mut input, mut output) = (Source::new(rt.stdin()), Sink::new(rt.stdout()));
     run_words(&rt, &rt, words.as_slice(), &mut input, &mut output)
 }
 
 /// Runs the job that the words ask for, under its plan, from the reader to the writer, and returns the exit status. If they ask for
-/// none, prints the help or the refusal, and neither device is called. The handle starts threads and reads the clock.
+/// none, writes the help or prints the refusal, and the reader isn't called. The handle starts threads and reads the clock.
 fn run_words<H: Threads + Wait + Sync + Eprint + Clock, R: Read, W: Write>(
     rt: &HostRuntime,
     handle: &H,
@@ -56,7 +52,7 @@ fn run_words<H: Threads + Wait + Sync + Eprint + Clock, R: Read, W: Write>(
     ensures { EndsAsAsked (map string_bytes words.now) reader.old reader.new writer.old writer.new
         (exit_status result) }
 {
-    let job = match read_job_or_print(rt, words) {
+    let job = match read_job_or_answer(rt, words, writer) {
         Ok(job) => job,
         Err(status) => return status,
     };
@@ -84,43 +80,31 @@ fn print_end<R: Wait + Eprint + Clock>(
     }
 }
 
-/// The job that the words ask for. If they ask for none, prints the help or the refusal; the error is then the exit status.
-fn read_job_or_print(rt: &HostRuntime, words: &[String]) -> Result<Job, ExitCode>
+/// The job that the words ask for. If they ask for none, answers them; the error is then the exit status.
+fn read_job_or_answer<W: Write>(
+    rt: &HostRuntime,
+    words: &[String],
+    writer: &mut Sink<W>,
+) -> Result<Job, ExitCode>
+    requires { writer.old.failed ≡ false }
     ensures job { IfOk result (AsksFor (map string_bytes words.now)) }
-    ensures ended { IfErr result (λ status.
-        IsUnasked (map string_bytes words.now) (exit_status status)) }
+    ensures uncalled { OnOk result (writer.new ≡ writer.old) }
+    ensures ended { IfErr result (λ status. IsUnasked (map string_bytes words.now)
+        writer.old writer.new (exit_status status)) }
 {
     match read_job(rt.alloc(), words) {
         Ok(job) => Ok(job),
-        Err(fault) => Err(print_help_or_refusal(rt, &fault, words)),
+        Err(fault) => Err(answer_line_fault(rt, &fault, words, writer)),
     }
 }
 
-/// The program's words, without its name.
-fn read_program_words(rt: &HostRuntime) -> Result<Vec<String>, LineFault>
-    ensures { IfErr result IsNoHelp }
+/// Prints why the program's words aren't read, and gives the exit status.
+fn print_words_fault(rt: &HostRuntime, fault: WordsFault) -> ExitCode
+    ensures { exit_status result ≡ words_status fault }
 {
-    let alloc = rt.alloc();
-    let mut words = match env::args(rt) {
-        Ok(words) => words,
-        Err(error) if error.kind() == ErrorKind::OutOfMemory => return Err(LineFault::Memory),
-        Err(_) => return Err(not_utf8_fault(alloc)),
-    };
-    // the first word is the program's name
-    let _program = words.next();
-    let Ok(words) = words.collect::<Vec<String>>(alloc) else {
-        return Err(LineFault::Memory);
-    };
-    Ok(words)
-}
-
-/// The fault of words that aren't UTF-8.
-fn not_utf8_fault(alloc: Global) -> LineFault
-    ensures { IsNoHelp result }
-{
-    match String::from_str(alloc, "error: a word isn't UTF-8\n") {
-        Ok(text) => LineFault::Refused { help: false, text },
-        Err(_) => LineFault::Memory,
+    match fault {
+        WordsFault::NotUtf8 => print_refusal(rt, "error: a word isn't UTF-8\n"),
+        WordsFault::Memory => print_fault(rt, &RunFault::Memory),
     }
 }
 
@@ -147,28 +131,42 @@ fn print_fault(rt: &HostRuntime, fault: &RunFault) -> ExitCode
     ExitCode::from(status(fault))
 }
 
-/// Answers words that ask for no job: prints the help if they ask for it, or why they are refused. Returns the exit status.
-fn print_help_or_refusal(rt: &HostRuntime, fault: &LineFault, words: &[String]) -> ExitCode
-    ensures { IsLineStatus fault.now (exit_status result) }
+/// Answers words that ask for no job: writes the help if they ask for it, or prints why they are refused. Returns the exit
+/// status.
+fn answer_line_fault<W: Write>(
+    rt: &HostRuntime,
+    fault: &LineFault,
+    words: &[String],
+    writer: &mut Sink<W>,
+) -> ExitCode
+    requires { writer.old.failed ≡ false }
+    ensures { IsAnswered fault.now writer.old writer.new (exit_status result) }
 {
     match fault {
-        LineFault::Refused { help: true, text } => {
-            match write_text(&mut Sink::new(rt.stdout()), text.as_bytes()) {
-                Ok(()) => ExitCode::SUCCESS,
-                Err(fault) => print_fault(rt, &fault),
-            }
+        LineFault::Refused { help: true, text } => write_help(rt, text.as_str(), writer),
+        LineFault::Refused { help: false, text } => {
+            let status = print_refusal(rt, text.as_str());
+            print_refusal_hint(rt, words);
+            status
         }
-        LineFault::Refused { help: false, text } => print_refusal(rt, text.as_str(), words),
         LineFault::Memory => print_fault(rt, &RunFault::Memory),
     }
 }
 
-/// Prints why the words are refused. At a terminal a last line may follow: if the words ask for the version, the
-/// command that prints it; otherwise, if one of them may be a journal's file, how it is read.
-fn print_refusal(rt: &HostRuntime, text: &str, words: &[String]) -> ExitCode
-    ensures { exit_status result ≡ 2 }
+/// Writes the help, and gives the exit status.
+fn write_help<W: Write>(rt: &HostRuntime, help: &str, writer: &mut Sink<W>) -> ExitCode
+    requires { writer.old.failed ≡ false }
+    ensures { IsHelp help.now writer.old writer.new (exit_status result) }
 {
-    let _ = eprint!(rt; "command line\n{text}");
+    match write_text(writer, help.as_bytes()) {
+        Ok(()) => ExitCode::SUCCESS,
+        Err(fault) => print_fault(rt, &fault),
+    }
+}
+
+/// At a terminal, prints a line for refused words: if they ask for the version, the command that prints it; otherwise, if
+/// one of them may be a journal's file, how it is read.
+fn print_refusal_hint(rt: &HostRuntime, words: &[String]) {
     if rt.stderr().is_terminal() {
         if asks_version(words) {
             let _ = eprintln!(rt;
@@ -181,5 +179,4 @@ fn print_refusal(rt: &HostRuntime, text: &str, words: &[String]) -> ExitCode
             );
         }
     }
-    ExitCode::from(REFUSED_STATUS)
 }

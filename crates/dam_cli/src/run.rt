@@ -5,7 +5,7 @@ ghost use Rattle.dam_engines.specs.Device.{AreDevicesAfter, most_asked};
 ghost use Rattle.dam_cli.specs.Run.{EndsAs};
 
 use dam_book::Seed;
-use dam_engines::{RunFault, Sink, Source, Watch, run_clear, run_day, run_replay};
+use dam_engines::{DayPlan, RunFault, Sink, Source, Watch, run_clear, run_day, run_replay};
 use dam_line::Job;
 use dam_search::FreeTurn;
 use std::alloc::Global;
@@ -35,6 +35,14 @@ pub fn run_job<H: Threads + Wait + Sync, R: Read, W: Write, T: Watch + Sync>(
     match job {
         Job::Replay => run_replay(alloc, seed, reader, writer),
         Job::Clear(plan) => run_clear(rt, alloc, seed, reader, writer, plan, watch),
-        Job::Day(plan) => run_day(rt, alloc, seed, reader, writer, plan, watch, &FreeTurn),
+        Job::Day(search) => {
+            let entrance = &FreeTurn;
+            let plan = DayPlan {
+                search,
+                watch,
+                entrance,
+            };
+            run_day(rt, alloc, seed, reader, writer, &plan)
+        }
     }
 }

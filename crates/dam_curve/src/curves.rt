@@ -19,7 +19,7 @@ use std::alloc::{AllocError, Allocator, Global};
 use std::marker::Model;
 
 /// The greatest number of hints that a curve has for each of its segments, besides one for the whole curve.
-const HINTS: usize = 8;
+const HINTS_PER_SEGMENT: usize = 8;
 
 /// The hints of a curve. A wrong hint only costs time (`segment_place_near`).
 #[derive(Clone, Copy)]
@@ -72,11 +72,11 @@ fn narrow(number: usize) -> Result<u32, AllocError>
 }
 
 /// The bits by which net volumes are shifted to find a hint, so that a curve over this range of them has at most
-/// `HINTS` hints for each of its segments, and one more.
+/// `HINTS_PER_SEGMENT` hints for each of its segments, and one more.
 fn shift_of(range: u32, segments: usize) -> u32
     ensures { result ≤ 31 }
 {
-    let enough = segments.saturating_mul(HINTS);
+    let enough = segments.saturating_mul(HINTS_PER_SEGMENT);
     let mut shift = 0;
     while shift < 31 && (range >> shift) as usize > enough {
         shift += 1;

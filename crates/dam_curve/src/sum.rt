@@ -88,7 +88,7 @@ impl<A: Allocator> CurveSum<A> {
         laws::balances_within_offers();
         laws::price_is_between_ends();
         fill_period_segments(&mut self.own, supply.steps())?;
-        add_segments(&self.own, &self.segments, &mut self.next)?;
+        fill_joint_segments(&self.own, &self.segments, &mut self.next)?;
         mem::swap(&mut self.segments, &mut self.next);
         Ok(())
     }
@@ -205,8 +205,8 @@ fn place_past(segments: &[Segment], place: usize, net: i32) -> usize
     }
 }
 
-/// Writes the segments of the sum of two curves.
-fn add_segments<A: Allocator>(
+/// Replaces the segments of `sum` by those of the sum of two curves.
+fn fill_joint_segments<A: Allocator>(
     a: &[Segment],
     b: &[Segment],
     sum: &mut Vec<Segment, A>,
@@ -237,18 +237,18 @@ fn add_segments<A: Allocator>(
     if a.is_empty() || b.is_empty() {
         return Ok(());
     }
-    let mut at = a[0].most.min(b[0].most);
-    if a[a.len() - 1].most > at || b[b.len() - 1].most > at {
+    let mut net = a[0].most.min(b[0].most);
+    if a[a.len() - 1].most > net || b[b.len() - 1].most > net {
         return Ok(());
     }
-    let mut left = segment_place_at(a, at);
-    let mut right = segment_place_at(b, at);
-    while left + 1 < a.len() && right + 1 < b.len() {
-        sum.push(joint_segment(a[left], b[right], at))?;
-        at = a[left + 1].most.max(b[right + 1].most);
-        left = place_past(a, left, at);
-        right = place_past(b, right, at);
+    let mut place_in_a = segment_place_at(a, net);
+    let mut place_in_b = segment_place_at(b, net);
+    while place_in_a + 1 < a.len() && place_in_b + 1 < b.len() {
+        sum.push(joint_segment(a[place_in_a], b[place_in_b], net))?;
+        net = a[place_in_a + 1].most.max(b[place_in_b + 1].most);
+        place_in_a = place_past(a, place_in_a, net);
+        place_in_b = place_past(b, place_in_b, net);
     }
-    sum.push(joint_segment(a[left], b[right], at))?;
+    sum.push(joint_segment(a[place_in_a], b[place_in_b], net))?;
     Ok(())
 }

@@ -7,7 +7,7 @@ use Rattle.dam_store.specs.FileLines.{HaveNoNewline, StandsForEither, has_byte, 
 use Rattle.dam_store.specs.Store.{IsSafe, disk_of, held_lines}
 use Rattle.dam_store.specs.declared.fault.StoreFault.{StoreFault}
 use Rattle.dam_store.specs.declared.store.Store.{Store}
-use Rattle.dam_desk.specs.DeskJournal.{Journal, State, AreLines, OpensTo, ReadsBack, desk_journal_text, next}
+use Rattle.dam_desk.specs.DeskJournal.{JournalContent, DeskState, AreLines, OpensTo, ReadsBack, desk_journal_text, next}
 use Rattle.dam_desk.specs.Desk.{DeskHasAnswered, Finishes, IsDesk, IsEnding, LinesAreAnswered, MayLeave, OpensAfter, Served, end_answer}
 use Rattle.dam_desk.specs.Faults.{IsWritingFault, SaysCount, fault_after, of_store}
 use Rattle.dam_desk.specs.declared.desk.Desk.{Desk}
@@ -25,26 +25,26 @@ after_count : (before part printed written : ℕ) → printed ≡ before → wri
 after_count before part printed written one other small =
     omega (arith, one, other, small)
 
-pub store_says : (count : ℕ) (fault : StoreFault) → SaysCount count (of_store fault)
-store_says count fault = by_store (λ why told. SaysCount count told) tt (λ why other. tt) fault
+pub store_counted : (count : ℕ) (fault : StoreFault) → SaysCount count (of_store fault)
+store_counted count fault = by_store (λ why told. SaysCount count told) tt (λ why other. tt) fault
 
 -- the fault of a part says how much of the whole was taken
-pub says_after : (before part printed : ℕ) (fault : DeskFault) → (before < 2 ^ 64 → printed ≡ before) → SaysCount part fault
+pub counted_after : (before part printed : ℕ) (fault : DeskFault) → (before < 2 ^ 64 → printed ≡ before) → SaysCount part fault
     → SaysCount (before + part) (fault_after printed fault)
-says_after before part printed (Write written) so_far says =
-    λ small. after_count before part printed written (so_far (omega arith)) (says (omega arith)) small
-says_after before part printed (File why) so_far says = tt
-says_after before part printed OwnOutput so_far says = tt
-says_after before part printed (Stores why) so_far says = tt
-says_after before part printed (NotAJournal why) so_far says = tt
-says_after before part printed Respelled so_far says = tt
-says_after before part printed Read so_far says = tt
-says_after before part printed Memory so_far says = tt
+counted_after before part printed (Write written) so_far counted =
+    λ small. after_count before part printed written (so_far (omega arith)) (counted (omega arith)) small
+counted_after before part printed (File why) so_far counted = tt
+counted_after before part printed OwnOutput so_far counted = tt
+counted_after before part printed (Stores why) so_far counted = tt
+counted_after before part printed (NotAJournal why) so_far counted = tt
+counted_after before part printed Respelled so_far counted = tt
+counted_after before part printed Read so_far counted = tt
+counted_after before part printed Memory so_far counted = tt
 
 -- nothing was taken
-pub served_none : (state : State) (given first : List ℕ) (why : DeskFault) (old : Option (List ℕ)) (outcomes : List ℕ → Type 0)
+pub served_none : (state : DeskState) (given first : List ℕ) (why : DeskFault) (old : Option (List ℕ)) (outcomes : List ℕ → Type 0)
     → SaysCount 0 why → ((file : List ℕ) → outcomes file → OpensTo state.journal file) → Served state given first why old old outcomes
-served_none state given first why old outcomes said opens = record {
+served_none state given first why old outcomes counted opens = record {
   safe = [];
   others = [];
   lines = record { rest = given; split = refl; whole = tt };
@@ -59,15 +59,15 @@ served_none state given first why old outcomes said opens = record {
   ends = inl refl;
   count = 0;
   written = Appends-nil old;
-  said = said;
+  counted = counted;
   crash = λ file may. inl (opens file may);
 }
 
 -- the lines were read, and their records may be in the file
-pub served_pending : (intake : Intake) (state : State) (given : List ℕ) (why : DeskFault) (old : Option (List ℕ)) (outcomes : List ℕ → Type 0)
+pub served_pending : (intake : Intake) (state : DeskState) (given : List ℕ) (why : DeskFault) (old : Option (List ℕ)) (outcomes : List ℕ → Type 0)
     → SaysCount 0 why → (read : HasRead intake state given []) → ((file : List ℕ) → outcomes file → OpensTo state.journal file ⊎ OpensTo read.last.journal file)
     → Served state given [] why old old outcomes
-served_pending intake state given why old outcomes said read opens = record {
+served_pending intake state given why old outcomes counted read opens = record {
   safe = [];
   others = read.lines;
   lines = record { rest = read.begun ++ []; split = read.split; whole = read.whole };
@@ -86,15 +86,15 @@ served_pending intake state given why old outcomes said read opens = record {
   ends = inl refl;
   count = 0;
   written = Appends-nil old;
-  said = said;
+  counted = counted;
   crash = opens;
 }
 
 -- their records are safe, and some of the answers were written
-pub served_written : (intake : Intake) (state : State) (given : List ℕ) (why : DeskFault) (old new : Option (List ℕ)) (outcomes : List ℕ → Type 0)
+pub served_written : (intake : Intake) (state : DeskState) (given : List ℕ) (why : DeskFault) (old new : Option (List ℕ)) (outcomes : List ℕ → Type 0)
     (count : ℕ) → SaysCount count why → (read : HasRead intake state given []) → Appends old new (take count intake.answers.items)
     → ((file : List ℕ) → outcomes file → OpensTo read.last.journal file) → Served state given [] why old new outcomes
-served_written intake state given why old new outcomes count said read written opens = record {
+served_written intake state given why old new outcomes count counted read written opens = record {
   safe = read.lines;
   others = [];
   lines = record {
@@ -113,7 +113,7 @@ served_written intake state given why old new outcomes count said read written o
   ends = inl refl;
   count = count;
   written = subst (Appends old new) (ap (take count) (sym (append-nil intake.answers.items))) written;
-  said = said;
+  counted = counted;
   crash = λ file may. inl (opens file may);
 }
 
@@ -139,7 +139,7 @@ lines_both given bytes lines more begun rest first then = record {
 }
 
 -- all lines that end in the bytes were read
-pub opens_after : (intake : Intake) (state : State) (given file : List ℕ) → (read : HasRead intake state given [])
+pub opens_after : (intake : Intake) (state : DeskState) (given file : List ℕ) → (read : HasRead intake state given [])
     → OpensTo read.last.journal file → OpensAfter state given file
 opens_after intake state given file read opens = record {
   lines = read.lines;
@@ -155,13 +155,13 @@ opens_after intake state given file read opens = record {
   opens = opens;
 }
 
-pub opens_batch : (intake : Intake) (state : State) (given file : List ℕ) → (read : HasRead intake state given [])
+pub opens_batch : (intake : Intake) (state : DeskState) (given file : List ℕ) → (read : HasRead intake state given [])
     → OpensTo state.journal file ⊎ OpensTo read.last.journal file → OpensTo state.journal file ⊎ OpensAfter state given file
 opens_batch intake state given file read (inl before) = inl before
 opens_batch intake state given file read (inr after) = inr (opens_after intake state given file read after)
 
 -- all lines that came in are answered
-pub answered_so_far : {D : Type 0} {g : Ghosts D} (desk : Desk D g) (state : State) (given first : List ℕ) (old new : Option (List ℕ))
+pub answered_so_far : {D : Type 0} {g : Ghosts D} (desk : Desk D g) (state : DeskState) (given first : List ℕ) (old new : Option (List ℕ))
     → DeskHasAnswered desk state given first old new → LinesAreAnswered state given first old new (MayLeave desk)
 answered_so_far desk state given first old new taken = record {
   lines = taken.lines;
@@ -175,7 +175,7 @@ answered_so_far desk state given first old new taken = record {
 }
 
 -- before any line
-pub takes_start : {D : Type 0} {g : Ghosts D} (desk : Desk D g) (state : State) (begun first : List ℕ) (old new : Option (List ℕ))
+pub takes_start : {D : Type 0} {g : Ghosts D} (desk : Desk D g) (state : DeskState) (begun first : List ℕ) (old new : Option (List ℕ))
     → IsDesk desk state begun → ((file : List ℕ) → MayLeave desk file → OpensTo state.journal file) → Appends old new first
     → DeskHasAnswered desk state (begun ++ []) first old new
 takes_start desk state begun first old new is opens written = record {
@@ -191,7 +191,7 @@ takes_start desk state begun first old new is opens written = record {
 }
 
 -- the next bytes
-pub takes_more : {D : Type 0} {g : Ghosts D} (desk later : Desk D g) (state : State) (given bytes first : List ℕ) (old mid new : Option (List ℕ))
+pub takes_more : {D : Type 0} {g : Ghosts D} (desk later : Desk D g) (state : DeskState) (given bytes first : List ℕ) (old mid new : Option (List ℕ))
     → (taken : DeskHasAnswered desk state given first old mid) → DeskHasAnswered later taken.last (taken.begun ++ bytes) [] mid new
     → DeskHasAnswered later state (given ++ bytes) first old new
 takes_more desk later state given bytes first old mid new taken then = record {
@@ -208,12 +208,12 @@ takes_more desk later state given bytes first old mid new taken then = record {
 }
 
 -- the same, and this is how many bytes were written of the first text and the answers, if 64 bits hold that
-pub record TakesAll {D : Type 0} {g : Ghosts D} (desk : Desk D g) (state : State) (given first : List ℕ) (printed : ℕ)
+pub record TakesAll {D : Type 0} {g : Ghosts D} (desk : Desk D g) (state : DeskState) (given first : List ℕ) (printed : ℕ)
     (old new : Option (List ℕ)) : Type 0 where
   pub takes : DeskHasAnswered desk state given first old new
   pub count : length (first ++ takes.answers) < 2 ^ 64 → printed ≡ length (first ++ takes.answers)
 
-pub all_start : {D : Type 0} {g : Ghosts D} (desk : Desk D g) (state : State) (begun first : List ℕ) (printed : ℕ) (old new : Option (List ℕ))
+pub all_start : {D : Type 0} {g : Ghosts D} (desk : Desk D g) (state : DeskState) (begun first : List ℕ) (printed : ℕ) (old new : Option (List ℕ))
     → IsDesk desk state begun → ((file : List ℕ) → MayLeave desk file → OpensTo state.journal file) → Appends old new first
     → printed ≡ length first → TakesAll desk state (begun ++ []) first printed old new
 unfolding takes_start
@@ -222,7 +222,7 @@ all_start desk state begun first printed old new is opens written same = record 
   count = λ small. same ∙ ap length (sym (append-nil first));
 }
 
-pub all_more : {D : Type 0} {g : Ghosts D} (desk later : Desk D g) (state : State) (given bytes first : List ℕ) (printed count next : ℕ)
+pub all_more : {D : Type 0} {g : Ghosts D} (desk later : Desk D g) (state : DeskState) (given bytes first : List ℕ) (printed count next : ℕ)
     (old mid new : Option (List ℕ)) → (taken : TakesAll desk state given first printed old mid)
     → (then : DeskHasAnswered later taken.takes.last (taken.takes.begun ++ bytes) [] mid new) → count ≡ length then.answers
     → next ≡ min (printed + count) (2 ^ 64 - 1) → TakesAll later state (given ++ bytes) first next old new
@@ -237,7 +237,7 @@ all_more desk later state given bytes first printed count next old mid new taken
       sum ∙ after_count (length front) (length then.answers) printed count (taken.count (omega (arith, fits))) same fits ∙ sym split;
 }
 
-ending_more : (given bytes : List ℕ) (lines more : List (List ℕ)) (begun : List ℕ) (state : State) (text : List ℕ) → AreLines given lines begun
+ending_more : (given bytes : List ℕ) (lines more : List (List ℕ)) (begun : List ℕ) (state : DeskState) (text : List ℕ) → AreLines given lines begun
     → IsEnding (begun ++ bytes) more state text → IsEnding (given ++ bytes) (lines ++ more) state text
 ending_more given bytes lines more begun state text first (inl none) = inl none
 ending_more given bytes lines more begun state text first (inr end) =
@@ -252,7 +252,7 @@ whole_more given bytes lines safe others begun rest first (inr all) =
     (lines_both given bytes lines (safe ++ others) begun rest first all))
 
 -- the next bytes, in which a fault ended the desk
-pub served_more : {D : Type 0} {g : Ghosts D} (desk : Desk D g) (state : State) (given bytes first : List ℕ) (old mid new : Option (List ℕ))
+pub served_more : {D : Type 0} {g : Ghosts D} (desk : Desk D g) (state : DeskState) (given bytes first : List ℕ) (old mid new : Option (List ℕ))
     (outcomes : List ℕ → Type 0) (why : DeskFault) (printed : ℕ) → (taken : DeskHasAnswered desk state given first old mid)
     → (length (first ++ taken.answers) < 2 ^ 64 → printed ≡ length (first ++ taken.answers))
     → Served taken.last (taken.begun ++ bytes) [] why mid new outcomes
@@ -285,16 +285,16 @@ served_more desk state given bytes first old mid new outcomes why printed taken 
           ∙ ap (take (length front + then.count)) (append_assoc first taken.answers back
           ∙ ap (λ (t : List ℕ). first ++ t) (sym (append_assoc taken.answers then.answers then.ending))))
           (Appends-trans old mid new front (take then.count back) taken.written then.written);
-      said = says_after (length front) then.count printed why so_far then.said;
+      counted = counted_after (length front) then.count printed why so_far then.counted;
       crash = then.crash;
     }
 
 -- a fault of the input, or of the line in which it ended
-pub served_so_far : {D : Type 0} {g : Ghosts D} (desk : Desk D g) (state : State) (given first : List ℕ) (old mid new : Option (List ℕ))
+pub served_so_far : {D : Type 0} {g : Ghosts D} (desk : Desk D g) (state : DeskState) (given first : List ℕ) (old mid new : Option (List ℕ))
     (why : DeskFault) (count : ℕ) → (taken : DeskHasAnswered desk state given first old mid) → SaysCount (length (first ++ taken.answers) + count) why
     → (ending : List ℕ) → IsEnding given taken.lines taken.last ending → Appends mid new (take count ending)
     → Served state given first why old new (MayLeave desk)
-served_so_far desk state given first old mid new why count taken said ending ends written =
+served_so_far desk state given first old mid new why count taken counted ending ends written =
     let front = first ++ taken.answers in
     record {
       safe = taken.lines;
@@ -317,15 +317,15 @@ served_so_far desk state given first old mid new why count taken said ending end
       written = subst (Appends old new)
           (sym (take_past front ending count) ∙ ap (take (length front + count)) (append_assoc first taken.answers ending))
           (Appends-trans old mid new front (take count ending) taken.written written);
-      said = said;
+      counted = counted;
       crash = λ file may. inl (taken.safe file may);
     }
 
 -- a fault of the writer at the first text
-pub served_first : {D : Type 0} {g : Ghosts D} (desk : Desk D g) (state : State) (begun first : List ℕ) (why : DeskFault) (old new : Option (List ℕ))
+pub served_first : {D : Type 0} {g : Ghosts D} (desk : Desk D g) (state : DeskState) (begun first : List ℕ) (why : DeskFault) (old new : Option (List ℕ))
     (count : ℕ) → SaysCount count why → ((file : List ℕ) → MayLeave desk file → OpensTo state.journal file) → Appends old new (take count first)
     → Served state (begun ++ []) first why old new (MayLeave desk)
-served_first desk state begun first why old new count said opens written = record {
+served_first desk state begun first why old new count counted opens written = record {
   safe = [];
   others = [];
   lines = record { rest = begun ++ []; split = refl; whole = tt };
@@ -340,12 +340,12 @@ served_first desk state begun first why old new count said opens written = recor
   ends = inl refl;
   count = count;
   written = subst (Appends old new) (ap (take count) (sym (append-nil first))) written;
-  said = said;
+  counted = counted;
   crash = λ file may. inl (opens file may);
 }
 
 -- the end of the input
-pub finishes : {D : Type 0} {g : Ghosts D} (desk : Desk D g) (state : State) (given first : List ℕ) (old mid new : Option (List ℕ))
+pub finishes : {D : Type 0} {g : Ghosts D} (desk : Desk D g) (state : DeskState) (given first : List ℕ) (old mid new : Option (List ℕ))
     → (taken : DeskHasAnswered desk state given first old mid) → Appends mid new (end_answer (next taken.last.answered) taken.begun)
     → Finishes state given first old new (MayLeave desk)
 finishes desk state given first old mid new taken written =
@@ -370,25 +370,25 @@ written_fault old new text fault is =
     fault is
 
 -- every file that a crash leaves stands for the store's lines, which are the journal's text
-pub opens_store : {D : Type 0} {g : Ghosts D} (store : Store D g) (journal : Option Journal) → ReadsBack journal
+pub opens_store : {D : Type 0} {g : Ghosts D} (store : Store D g) (journal : Option JournalContent) → ReadsBack journal
     → (IsTrue (g.is_clean (disk_of store)) → text_of (held_lines store) ≡ desk_journal_text journal)
     → (IsTrue (g.is_clean (disk_of store)) → IsSafe store) → (file : List ℕ)
     → IsTrue (g.is_clean (disk_of store)) × g.may_leave (disk_of store) file → OpensTo journal file
 opens_store store journal reads text safe file may = (held_lines store, (safe may.0).crash file may.1, text may.0, reads)
 
-opens_one : (lines batch : List (List ℕ)) (before after : Option Journal) (file : List ℕ) → ReadsBack before → ReadsBack after → text_of lines ≡ desk_journal_text before
+opens_one : (lines batch : List (List ℕ)) (before after : Option JournalContent) (file : List ℕ) → ReadsBack before → ReadsBack after → text_of lines ≡ desk_journal_text before
     → text_of (lines ++ batch) ≡ desk_journal_text after → StandsForEither lines batch file → OpensTo before file ⊎ OpensTo after file
 opens_one lines batch before after file reads also old new (inl stands) = inl (lines, stands, old, reads)
 opens_one lines batch before after file reads also old new (inr stands) = inr (lines ++ batch, stands, new, also)
 
 -- the text of the lines with those of a batch
-pub with_batch : (lines batch : List (List ℕ)) (entered : List ℕ) (before after : Option Journal) → text_of lines ≡ desk_journal_text before
+pub with_batch : (lines batch : List (List ℕ)) (entered : List ℕ) (before after : Option JournalContent) → text_of lines ≡ desk_journal_text before
     → text_of batch ≡ entered → desk_journal_text before ++ entered ≡ desk_journal_text after → text_of (lines ++ batch) ≡ desk_journal_text after
 with_batch lines batch entered before after old new is =
     text_more lines batch ∙ ap (λ (t : List ℕ). t ++ text_of batch) old ∙ ap (λ (t : List ℕ). desk_journal_text before ++ t) new ∙ is
 
 -- the store's lines are the old ones, and maybe those of the batch
-pub opens_either : {D : Type 0} {g : Ghosts D} (old new : Store D g) (batch : List (List ℕ)) (entered : List ℕ) (before after : Option Journal)
+pub opens_either : {D : Type 0} {g : Ghosts D} (old new : Store D g) (batch : List (List ℕ)) (entered : List ℕ) (before after : Option JournalContent)
     → ReadsBack before → ReadsBack after
     → g.is_clean (disk_of new) ≡ g.is_clean (disk_of old) → (IsTrue (g.is_clean (disk_of old)) → text_of (held_lines old) ≡ desk_journal_text before)
     → text_of batch ≡ entered → desk_journal_text before ++ entered ≡ desk_journal_text after
@@ -400,7 +400,7 @@ opens_either old new batch entered before after reads also same text is grown st
     (stands may.0 file may.1)
 
 -- the store's lines have grown by the batch
-pub store_grown : {D : Type 0} {g : Ghosts D} (old new : Store D g) (batch : List (List ℕ)) (entered : List ℕ) (before after : Option Journal)
+pub store_grown : {D : Type 0} {g : Ghosts D} (old new : Store D g) (batch : List (List ℕ)) (entered : List ℕ) (before after : Option JournalContent)
     → g.is_clean (disk_of new) ≡ g.is_clean (disk_of old) → (IsTrue (g.is_clean (disk_of old)) → text_of (held_lines old) ≡ desk_journal_text before)
     → text_of batch ≡ entered → desk_journal_text before ++ entered ≡ desk_journal_text after
     → (IsTrue (g.is_clean (disk_of new)) → held_lines new ≡ held_lines old ++ batch)

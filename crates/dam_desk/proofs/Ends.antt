@@ -1,5 +1,5 @@
 -- Why an open desk ends.
-use Rattle.std.proofs.Common.{◌≡◌, ◌⊎◌, inl, inr, ℕ, Bool, Result, Ok, Err, IfErr, IsErrAnd, true, false, refl, sym, subst}
+use Rattle.std.proofs.Common.{◌≡◌, ◌⊎◌, inl, inr, ℕ, Bool, Result, Ok, Err, IsErrAnd, true, false, refl, sym, subst}
 use Rattle.std.proofs.lemmas.Bool.{both_ways, cases_Bool}
 use Rattle.sqlite_disk.specs.Disk.{MoreFaults}
 use Rattle.dam_store.specs.Faults.{is_failed_write}
@@ -58,10 +58,10 @@ end_counts {is_clean} {was_clean} {before} {after} {was} {is} fault same first t
     (subst (λ (n : ℕ). IsEndFault is_clean n is fault) first (subst (λ (n : ℕ). IsEndFault is_clean before n fault) then ends))
 
 -- a result with this fault
-pub err_is : {X : Type 0} (r : Result X DeskFault) (P : DeskFault → Type 0) (fault : DeskFault) → IsErrAnd r (λ why. why ≡ fault) → P fault
-    → IfErr r P
-err_is (Ok x) P fault same p = tt
-err_is (Err why) P fault same p = subst P (sym same) p
+pub err_is : {X : Type 0} (r : Result X DeskFault) (P : Result X DeskFault → Type 0) (fault : DeskFault) → IsErrAnd r (λ why. why ≡ fault)
+    → P (Err fault) → P r
+err_is (Ok x) P fault same p = absurd same
+err_is {X} (Err why) P fault same p = subst (λ (told : DeskFault). P (Err told)) (sym same) p
 
 -- a fault of a longer text is of the same kind
 pub end_after : (is_clean : Bool) (before after printed : ℕ) (fault : DeskFault) → IsEndFault is_clean before after fault

@@ -10,14 +10,14 @@ use Rattle.dam_book.specs.declared.command.Entry.{Entry}
 use Rattle.dam_results.specs.Journal.{IsCommand, ReadsAs}
 use Rattle.dam_results.specs.Replies.{day_line, entry_line}
 use Rattle.dam_results.specs.Written.{journal_text, written}
-use Rattle.dam_desk.specs.DeskJournal.{Journal, State, AreAnswers, AreAnswersToEntered, ReadsBack, answer_to, day_of, enters, journal_after_line, next, desk_replies_text, state_after}
-use Rattle.dam_desk.specs.InputLines.{Says}
+use Rattle.dam_desk.specs.DeskJournal.{JournalContent, DeskState, AreAnswers, AreAnswersToEntered, ReadsBack, answer_to, day_of, enters, journal_after_line, next, desk_replies_text, state_after}
+use Rattle.dam_desk.specs.InputLines.{IsMeaning}
 use Rattle.dam_book.specs.Command.{is_journal_full}
-use Rattle.dam_desk.specs.declared.reading.Said.{Said}
-use Rattle.dam_desk.specs.declared.reading.Said.TheVariants.{Day as Days, Command as Commands, Fault}
+use Rattle.dam_desk.specs.declared.meaning.Meaning.{Meaning}
+use Rattle.dam_desk.specs.declared.meaning.Meaning.TheVariants.{Day as Days, Command as Commands, Fault}
 use Rattle.dam_desk.proofs.Texts.{all_snoc}
 
-abbrev with_one : Journal → Command → Journal
+abbrev with_one : JournalContent → Command → JournalContent
 with_one j command = record { periods = j.periods; commands = j.commands ++ command ∷ [] }
 
 abbrev EntriesGrow : Type 0
@@ -29,18 +29,18 @@ lines_snoc [] e = append-nil (entry_line e)
 lines_snoc (x ∷ es) e = ap (λ (t : List ℕ). entry_line x ++ t) (lines_snoc es e)
     ∙ sym (append_assoc (entry_line x) (flat_map entry_line es) (entry_line e))
 
-command_grows : EntriesGrow → (number : ℕ) (j : Journal) (command : Command) → is_journal_full (length j.commands) command ≡ false
+command_grows : EntriesGrow → (number : ℕ) (j : JournalContent) (command : Command) → is_journal_full (length j.commands) command ≡ false
     → desk_replies_text (journal_after_line (Some j) (Commands command)) ≡ desk_replies_text (Some j) ++ answer_to number (Some j) (Commands command)
 command_grows grow number j command room =
     let entry : Entry = record { number = length j.commands + 1; command = command; reply = reply_to (run j.periods j.commands) command } in
     let entries = entries_of j.periods j.commands in
-    ap (λ (o : Journal). desk_replies_text (Some o)) (cond-false (is_journal_full (length j.commands) command) j (with_one j command) room)
+    ap (λ (o : JournalContent). desk_replies_text (Some o)) (cond-false (is_journal_full (length j.commands) command) j (with_one j command) room)
     ∙ ap (λ (es : List Entry). day_line j.periods ++ flat_map entry_line es) (grow j.periods j.commands command)
     ∙ ap (λ (t : List ℕ). day_line j.periods ++ t) (lines_snoc entries entry)
     ∙ sym (append_assoc (day_line j.periods) (flat_map entry_line entries) (entry_line entry))
     ∙ ap (λ (t : List ℕ). desk_replies_text (Some j) ++ t) (sym (cond-false (is_journal_full (length j.commands) command) _ (entry_line entry) room))
 
-command_step : EntriesGrow → (number : ℕ) (j : Journal) (command : Command)
+command_step : EntriesGrow → (number : ℕ) (j : JournalContent) (command : Command)
     → (journal_after_line (Some j) (Commands command) ≡ Some j)
     ⊎ (desk_replies_text (journal_after_line (Some j) (Commands command)) ≡ desk_replies_text (Some j) ++ answer_to number (Some j) (Commands command))
 command_step grow number j command = elim (cases_Bool (is_journal_full (length j.commands) command)) [
@@ -48,9 +48,9 @@ command_step grow number j command = elim (cases_Bool (is_journal_full (length j
   | inr room ↦ inr (command_grows grow number j command room)
 ]
 
-pub replies_step : EntriesGrow → (number : ℕ) (journal : Option Journal) (said : Said)
-    → (journal_after_line journal said ≡ journal)
-    ⊎ (desk_replies_text (journal_after_line journal said) ≡ desk_replies_text journal ++ answer_to number journal said)
+pub replies_step : EntriesGrow → (number : ℕ) (journal : Option JournalContent) (meaning : Meaning)
+    → (journal_after_line journal meaning ≡ journal)
+    ⊎ (desk_replies_text (journal_after_line journal meaning) ≡ desk_replies_text journal ++ answer_to number journal meaning)
 replies_step grow number None (Days periods) = inr (append-nil (day_line periods))
 replies_step grow number None (Commands command) = inl refl
 replies_step grow number None (Fault fault) = inl refl
@@ -59,24 +59,24 @@ replies_step grow number (Some j) (Commands command) = command_step grow number 
 replies_step grow number (Some j) (Fault fault) = inl refl
 
 -- the answer, if it is a reply
-abbrev reply_of : ℕ → Option Journal → Said → List ℕ
-reply_of number journal said = if enters journal said then answer_to number journal said else []
+abbrev reply_of : ℕ → Option JournalContent → Meaning → List ℕ
+reply_of number journal meaning = if enters journal meaning then answer_to number journal meaning else []
 
-command_reply : EntriesGrow → (number : ℕ) (j : Journal) (command : Command)
+command_reply : EntriesGrow → (number : ℕ) (j : JournalContent) (command : Command)
     → desk_replies_text (journal_after_line (Some j) (Commands command)) ≡ desk_replies_text (Some j) ++ reply_of number (Some j) (Commands command)
 command_reply grow number j command =
     let full = is_journal_full (length j.commands) command in
     let answer = answer_to number (Some j) (Commands command) in
     elim (cases_Bool full) [
-      | inl is ↦ ap (λ (o : Journal). desk_replies_text (Some o)) (cond-true full j (with_one j command) is)
+      | inl is ↦ ap (λ (o : JournalContent). desk_replies_text (Some o)) (cond-true full j (with_one j command) is)
           ∙ sym (append-nil (desk_replies_text (Some j)))
           ∙ ap (λ (t : List ℕ). desk_replies_text (Some j) ++ t) (sym (cond-false (not full) answer [] (ap not is)))
       | inr room ↦ command_grows grow number j command room
           ∙ ap (λ (t : List ℕ). desk_replies_text (Some j) ++ t) (sym (cond-true (not full) answer [] (ap not room)))
     ]
 
-reply_step : EntriesGrow → (number : ℕ) (journal : Option Journal) (said : Said)
-    → desk_replies_text (journal_after_line journal said) ≡ desk_replies_text journal ++ reply_of number journal said
+reply_step : EntriesGrow → (number : ℕ) (journal : Option JournalContent) (meaning : Meaning)
+    → desk_replies_text (journal_after_line journal meaning) ≡ desk_replies_text journal ++ reply_of number journal meaning
 reply_step grow number None (Days periods) = append-nil (day_line periods)
 reply_step grow number None (Commands command) = refl
 reply_step grow number None (Fault fault) = refl
@@ -85,10 +85,10 @@ reply_step grow number (Some j) (Commands command) = command_reply grow number j
 reply_step grow number (Some j) (Fault fault) = sym (append-nil (desk_replies_text (Some j)))
 
 -- the replies among the answers make the journal's replies longer
-pub replies_run : EntriesGrow → (state : State) (lines : List (List ℕ)) (answers : List ℕ) (last : State) → AreAnswers state lines answers last
+pub replies_run : EntriesGrow → (state : DeskState) (lines : List (List ℕ)) (answers : List ℕ) (last : DeskState) → AreAnswers state lines answers last
     → (replies : List ℕ) × AreAnswersToEntered state lines replies × (desk_replies_text last.journal ≡ desk_replies_text state.journal ++ replies)
 replies_run grow state [] answers last run =
-    ([], refl, ap (λ (s : State). desk_replies_text s.journal) run.1 ∙ sym (append-nil (desk_replies_text state.journal)))
+    ([], refl, ap (λ (s : DeskState). desk_replies_text s.journal) run.1 ∙ sym (append-nil (desk_replies_text state.journal)))
 replies_run grow state (line ∷ lines) answers last run =
     let more = replies_run grow (state_after state run.0) lines run.2 last run.4 in
     let reply = reply_of (next state.answered) state.journal run.0 in (
@@ -128,31 +128,31 @@ room_for held (Amend who name price volumes) room = below held (leb-false (most_
 room_for held (Cancel who name) room = below held (leb-false (most_entries - 1) held room)
 room_for held Close room = let less : held < most_entries = leb-false most_entries held room in omega (arith, less)
 
-reads_command : EntriesAreOf → WrittenRead → (j : Journal) (command : Command) → ReadsBack (Some j) → IsCommand command
+reads_command : EntriesAreOf → WrittenRead → (j : JournalContent) (command : Command) → ReadsBack (Some j) → IsCommand command
     → ReadsBack (journal_after_line (Some j) (Commands command))
 reads_command of read j command reads valid = elim (cases_Bool (is_journal_full (length j.commands) command)) [
-  | inl full ↦ subst (λ (o : Journal). ReadsBack (Some o)) (sym (cond-true (is_journal_full (length j.commands) command) j (with_one j command) full)) reads
+  | inl full ↦ subst (λ (o : JournalContent). ReadsBack (Some o)) (sym (cond-true (is_journal_full (length j.commands) command) j (with_one j command) full)) reads
   | inr room ↦
       let few : length (j.commands ++ command ∷ []) ≤ most_entries =
       subst (λ (n : ℕ). n ≤ most_entries) (sym (length-append j.commands (command ∷ []))) (room_for (length j.commands) command room) in
-      subst (λ (o : Journal). ReadsBack (Some o)) (sym (cond-false (is_journal_full (length j.commands) command) j (with_one j command) room))
+      subst (λ (o : JournalContent). ReadsBack (Some o)) (sym (cond-false (is_journal_full (length j.commands) command) j (with_one j command) room))
       (reads_from of read j.periods (j.commands ++ command ∷ []) reads.records.day
       (all_snoc IsCommand j.commands command reads.records.valid valid) few)
 ]
 
-reads_step : EntriesAreOf → WrittenRead → (journal : Option Journal) (line : List ℕ) (said : Said) → ReadsBack journal
-    → Says (day_of journal) line said → ReadsBack (journal_after_line journal said)
-reads_step of read None line (Days periods) reads says =
+reads_step : EntriesAreOf → WrittenRead → (journal : Option JournalContent) (line : List ℕ) (meaning : Meaning) → ReadsBack journal
+    → IsMeaning (day_of journal) line meaning → ReadsBack (journal_after_line journal meaning)
+reads_step of read None line (Days periods) reads means =
     let none : 0 ≤ most_entries = omega arith in
-    reads_from of read periods [] says.1.records.day tt none
-reads_step of read None line (Commands command) reads says = tt
-reads_step of read None line (Fault fault) reads says = tt
-reads_step of read (Some j) line (Days periods) reads says = reads
-reads_step of read (Some j) line (Commands command) reads says = reads_command of read j command reads says.1.1.records.valid.0
-reads_step of read (Some j) line (Fault fault) reads says = reads
+    reads_from of read periods [] means.1.records.day tt none
+reads_step of read None line (Commands command) reads means = tt
+reads_step of read None line (Fault fault) reads means = tt
+reads_step of read (Some j) line (Days periods) reads means = reads
+reads_step of read (Some j) line (Commands command) reads means = reads_command of read j command reads means.1.1.records.valid.0
+reads_step of read (Some j) line (Fault fault) reads means = reads
 
-pub reads_run : EntriesAreOf → WrittenRead → (state : State) (lines : List (List ℕ)) (answers : List ℕ) (last : State) → ReadsBack state.journal
+pub reads_run : EntriesAreOf → WrittenRead → (state : DeskState) (lines : List (List ℕ)) (answers : List ℕ) (last : DeskState) → ReadsBack state.journal
     → AreAnswers state lines answers last → ReadsBack last.journal
-reads_run of read state [] answers last reads run = subst (λ (s : State). ReadsBack s.journal) (sym run.1) reads
+reads_run of read state [] answers last reads run = subst (λ (s : DeskState). ReadsBack s.journal) (sym run.1) reads
 reads_run of read state (line ∷ lines) answers last reads run =
     reads_run of read (state_after state run.0) lines run.2 last (reads_step of read state.journal line run.0 reads run.1) run.4

@@ -8,9 +8,10 @@ mod Runs
 mod Steps
 mod Growth
 mod Ends
+mod Stores
 mod Devices
 mod Room
 mod Desks
-mod Saying
+mod Meanings
 mod Opening
 mod Served

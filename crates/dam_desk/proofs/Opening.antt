@@ -10,17 +10,17 @@ use Rattle.dam_store.specs.declared.fault.StoreFault.{StoreFault}
 use Rattle.dam_store.specs.declared.fault.StoreFault.TheVariants as store
 use Rattle.dam_desk.specs.Desk.{IsOpened, IsUnopened}
 use Rattle.dam_desk.specs.Faults.{IsOpenFault, is_failed_call, is_failed_sync as desk_failed_sync, is_failed_write, is_read, is_write, of_store}
-use Rattle.dam_desk.specs.declared.desk_day.Day.{Day}
+use Rattle.dam_desk.specs.declared.desk_day.DeskDay.{DeskDay}
 use Rattle.dam_desk.specs.declared.desk.Desk.{Desk}
 use Rattle.dam_desk.specs.declared.fault.DeskFault.{DeskFault}
-use Rattle.dam_desk.specs.inside.Intake.{HasJournal, IsReopened}
+use Rattle.dam_desk.specs.inside.Intake.{HasJournal, IsReplayOf}
 use Rattle.dam_desk.proofs.Cases.{by_store}
 
 same_lines : (lines other : List (List ℕ)) (file : List ℕ) → StandsFor lines file → StandsFor other file → lines ≡ other
 same_lines lines other file a b = let is = sym a ∙ b in cc
 
-module _ {D : Type 0} {g : Ghosts D} (desk : Desk D g) (disk found : D) (text replies : List ℕ) (day : Option Day) where
-  pub opened : IsReopened text day replies → desk.intake.day ≡ day → desk.intake.line ≡ [] → desk.intake.answered ≡ 0
+module _ {D : Type 0} {g : Ghosts D} (desk : Desk D g) (disk found : D) (text replies : List ℕ) (day : Option DeskDay) where
+  pub opened : IsReplayOf text day replies → desk.intake.day ≡ day → desk.intake.line ≡ [] → desk.intake.answered ≡ 0
       → (IsTrue (g.is_clean (disk_of desk.store)) → IsTrue (g.is_clean found))
       → (IsTrue (g.is_clean found) → (lines : List (List ℕ)) × StandsFor lines (g.seen disk) × (text ≡ text_of lines))
       → g.seen found ≡ g.seen disk
@@ -32,7 +32,7 @@ module _ {D : Type 0} {g : Ghosts D} (desk : Desk D g) (disk found : D) (text re
     fresh = record {
       intake = record {
         answered = none;
-        day = subst (λ (d : Option Day). HasJournal d is.journal) (sym same_day) is.has;
+        day = subst (λ (d : Option DeskDay). HasJournal d is.journal) (sym same_day) is.has;
         line = same_line;
         unended = refl;
       };
@@ -132,7 +132,7 @@ unopened_early g old new why untouched more same refusal kinds = record {
 module _ {D : Type 0} (g : Ghosts D) (old mid : D) (text : List ℕ) (untouched : IsUntouched g old mid) (same : g.faults mid ≡ g.faults old)
     (read : IsTrue (g.is_clean mid) → (lines : List (List ℕ)) × StandsFor lines (g.seen old) × (text ≡ text_of lines)) where
   -- the end of the file wasn't repaired
-  pub unopened_late : (new : D) (why : StoreFault) (day : Option Day) (replies : List ℕ) → IsReopened text day replies
+  pub unopened_late : (new : D) (why : StoreFault) (day : Option DeskDay) (replies : List ℕ) → IsReplayOf text day replies
       → g.is_clean new ≡ g.is_clean mid → (is_failure why ≡ true → MoreFaults (g.faults mid) (g.faults new))
       → (store_failed_write why ≡ true) ⊎ ((why ≡ store.Memory) × (new ≡ mid))
       → (IsTrue (g.is_clean new) → (file : List ℕ) → g.may_leave new file → stands_for file ≡ stands_for (g.seen mid))

@@ -4,7 +4,7 @@ use Rattle.std.proofs.lemmas.List.{drop_at, take_rest}
 use Rattle.std.specs.List.{join_with_byte}
 use Rattle.dam_book.specs.declared.command.Command.{Command}
 use Rattle.dam_results.specs.Journal.{ReadsAs}
-use Rattle.dam_results.specs.Records.{day_row}
+use Rattle.dam_results.specs.Records.{record_of_day}
 use Rattle.dam_results.specs.declared.journal_reading.JournalFault.{JournalFault}
 use Rattle.dam_desk.specs.InputLines.{AreOfOne, IsSameFault, record_of, text_after}
 use Rattle.dam_desk.specs.declared.fault.InputLineFault.{InputLineFault}
@@ -17,7 +17,7 @@ alone day line text before is before_is =
 
 record_long : (periods before : ℕ) → before ≡ length (record_of (Some periods)) → before ≡ 0 → ⊥
 record_long periods before before_is none =
-    let long : length (record_of (Some periods)) ≡ length (join_with_byte 44 (day_row periods)) + 1 = length-append (join_with_byte 44 (day_row periods)) (10 ∷ []) in
+    let long : length (record_of (Some periods)) ≡ length (join_with_byte 44 (record_of_day periods)) + 1 = length-append (join_with_byte 44 (record_of_day periods)) (10 ∷ []) in
     omega (arith, long, before_is, none)
 
 -- with no day yet, a journal of a line that is no day has a command

@@ -1,12 +1,13 @@
 -- A run that was served, by the disk that it leaves.
-use Rattle.std.proofs.Common.{◌≡◌, ◌⊎◌, ◌++◌, List, ℕ, Option, Result, Ok, Err, IfErr, IfSome, IsTrue, inl, inr, sym, subst}
+use Rattle.std.proofs.Common.{◌≡◌, ◌++◌, List, ℕ, Option, Result, Ok, Err, IfErr, IfSome, IsTrue, MatchResult, inl, inr, sym, subst}
 use Rattle.sqlite_disk.specs.Disk.{Only}
 use Rattle.sqlite_disk.specs.declared.Disk.{Ghosts}
+use Rattle.std.proofs.lemmas.Result.{IfErr-weaker}
+use Rattle.dam_device.specs.Device.{SourceState, SinkState}
 use Rattle.dam_store.specs.Store.{disk_of}
 use Rattle.dam_desk.specs.Desk.{DeskHasAnswered, Finishes, IsLegalAndUnambiguous, IsServedToTheEnd, IsUnopened, LinesAreAnswered, MayLeave, Served, at_first}
-use Rattle.dam_desk.specs.Faults.{IsEndFault}
-use Rattle.dam_desk.specs.DeskRun.{EndsSafe, EndsUnopened}
-use Rattle.dam_desk.specs.DeskJournal.{Journal, State, AreAnswers, AreAnswersToEntered, ReadsBack, desk_replies_text}
+use Rattle.dam_desk.specs.DeskRun.{EndsUnopened, IsRun}
+use Rattle.dam_desk.specs.DeskJournal.{JournalContent, DeskState, AreAnswers, AreAnswersToEntered, ReadsBack, desk_replies_text}
 use Rattle.dam_desk.specs.declared.desk.Desk.{Desk}
 use Rattle.dam_desk.specs.declared.fault.DeskFault.{DeskFault}
 use Rattle.dam_desk.proofs.Desks.{answered_so_far}
@@ -15,7 +16,11 @@ pub err_both : {X Y : Type 0} (r : Result X Y) (P Q R : Y → Type 0) → ((y : 
 err_both (Ok x) P Q R then p q = tt
 err_both (Err y) P Q R then p q = then y p q
 
-module _ {D : Type 0} {g : Ghosts D} (desk : Desk D g) (disk : D) (same : disk ≡ disk_of desk.store) (journal : Option Journal) (first : List ℕ) (replies_are : first ≡ desk_replies_text journal) (given : List ℕ) (old new : Option (List ℕ)) where
+pub errors_of : {X Y : Type 0} (r : Result X Y) (P : X → Type 0) (Q : Y → Type 0) → MatchResult r P Q → IfErr r Q
+errors_of (Ok x) P Q is = tt
+errors_of (Err y) P Q is = is
+
+module _ {D : Type 0} {g : Ghosts D} (desk : Desk D g) (disk : D) (same : disk ≡ disk_of desk.store) (journal : Option JournalContent) (first : List ℕ) (replies_are : first ≡ desk_replies_text journal) (given : List ℕ) (old new : Option (List ℕ)) where
   abbrev pub Left : List ℕ → Type 0
   Left file = IsTrue (g.is_clean disk) × g.may_leave disk file
 
@@ -34,11 +39,11 @@ module _ {D : Type 0} {g : Ghosts D} (desk : Desk D g) (disk : D) (same : disk �
       moved (λ t outcomes. LinesAreAnswered (at_first journal) given t old new outcomes)
       (answered_so_far desk (at_first journal) given first old new taken)
 
-  pub is_served : ((state last : State) (lines : List (List ℕ)) (answers : List ℕ) → ReadsBack state.journal → AreAnswers state lines answers last
+  pub is_served : ((state last : DeskState) (lines : List (List ℕ)) (answers : List ℕ) → ReadsBack state.journal → AreAnswers state lines answers last
       → ReadsBack last.journal)
-      → ((state last : State) (lines : List (List ℕ)) (answers : List ℕ) → AreAnswers state lines answers last
+      → ((state last : DeskState) (lines : List (List ℕ)) (answers : List ℕ) → AreAnswers state lines answers last
       → (replies : List ℕ) × AreAnswersToEntered state lines replies × (desk_replies_text last.journal ≡ desk_replies_text state.journal ++ replies))
-      → ((j : Option Journal) → ReadsBack j → IfSome j IsLegalAndUnambiguous)
+      → ((j : Option JournalContent) → ReadsBack j → IfSome j IsLegalAndUnambiguous)
       → ReadsBack journal → Finishes (at_first journal) given first old new (MayLeave desk) → IsServedToTheEnd journal given old new Left
   is_served grow answer legal reads finishes =
       let all = moved (λ t outcomes. Finishes (at_first journal) given t old new outcomes) finishes in
@@ -51,16 +56,22 @@ module _ {D : Type 0} {g : Ghosts D} (desk : Desk D g) (disk : D) (same : disk �
         unambiguous = legal all.last.journal (grow (at_first journal) all.last all.lines all.answers reads all.answered);
       }
 
--- the end of a run on a disk that had these bytes, all synced, and for which no call had failed
-pub at_rest : {D : Type 0} {g : Ghosts D} (old new : D) (start : List ℕ) (why : DeskFault) (same : Type 0) (input left printed now : Option (List ℕ))
-    → g.seen old ≡ start → Only start (g.may_leave old) → g.faults old ≡ 0
-    → (IsUnopened g old new why × same)
-    ⊎ (IsEndFault (g.is_clean new) (g.faults old) (g.faults new) why × EndsSafe g (g.seen old) new why input left printed now)
-    → (EndsUnopened g start new why × same)
-    ⊎ (IsEndFault (g.is_clean new) 0 (g.faults new) why × EndsSafe g start new why input left printed now)
-at_rest {D} {g} old new start why same input left printed now seen synced none (inl unopened) =
-    inl (record { old = old; seen = seen; synced = synced; no_fault = none; unopened = unopened.0 }, unopened.1)
-at_rest {D} {g} old new start why same input left printed now seen synced none (inr end) = inr (
-  subst (λ (n : ℕ). IsEndFault (g.is_clean new) n (g.faults new) why) none end.0,
-  subst (λ (bytes : List ℕ). EndsSafe g bytes new why input left printed now) seen end.1,
-)
+-- the run on a disk that had these bytes, all synced, and for which no call had failed
+pub at_rest : {D R W : Type 0} {g : Ghosts D} (old new : D) (start : List ℕ) (reader_was reader : SourceState R) (writer_was writer : SinkState W)
+    (result : Result (Unit {0}) DeskFault) → g.seen old ≡ start → Only start (g.may_leave old) → g.faults old ≡ 0
+    → IsRun g (g.seen old) (g.faults old) (IsUnopened g old new) reader_was reader writer_was writer new result
+    → IsRun g start 0 (EndsUnopened g start new) reader_was reader writer_was writer new result
+at_rest {D} {R} {W} {g} old new start reader_was reader writer_was writer result seen synced none run =
+    let is = subst (λ (n : ℕ). IsRun g start n (IsUnopened g old new) reader_was reader writer_was writer new result) none
+    (subst (λ (bytes : List ℕ). IsRun g bytes (g.faults old) (IsUnopened g old new) reader_was reader writer_was writer new result) seen run) in
+    record {
+      served = is.served;
+      no_fault = is.no_fault;
+      answered = is.answered;
+      faulty = IfErr-weaker result _ _ (λ why end. elim end [
+        | inl unopened ↦ inl (record { old = old; seen = seen; synced = synced; no_fault = none; unopened = unopened.0 }, unopened.1)
+        | inr ended ↦ inr ended
+      ]) is.faulty;
+      usable = is.usable;
+      devices = is.devices;
+    }

@@ -6,12 +6,12 @@ use Rattle.std.proofs.lemmas.Slice.Eq.{slice_eq-Decides}
 use Rattle.std.specs.Cmp.Lexicographic.{pointwise}
 use Rattle.std.specs.List.{AllByRecursion, flat_map, join_with_byte}
 use Rattle.dam_book.specs.declared.command.Command.{Command}
-use Rattle.dam_results.specs.Records.{day_row, row_of}
+use Rattle.dam_results.specs.Records.{record_of_day, record_of_command}
 use Rattle.dam_results.specs.Written.{command_line, written}
 use Rattle.dam_store.specs.FileLines.{has_byte, text_of}
 use Rattle.dam_desk.specs.inside.Intake.{records_text}
 use Rattle.dam_desk.specs.inside.TextLines.{BeginsWith, is_ended}
-use Rattle.dam_desk.specs.declared.desk_day.Day.{Day}
+use Rattle.dam_desk.specs.declared.desk_day.DeskDay.{DeskDay}
 
 pub none_has : (bytes : List ℕ) → ((k : ℕ) → k < length bytes → (slice_index bytes k == 10) ≡ true → ⊥) → has_byte 10 bytes ≡ false
 none_has [] none = refl
@@ -88,10 +88,10 @@ ended_line line back = ap is_ended (append_assoc line (10 ∷ []) back) ∙ ende
 
 pub ended_commands : (commands : List Command) → is_ended (flat_map command_line commands) ≡ true
 ended_commands [] = refl
-ended_commands (c ∷ commands) = ended_line (join_with_byte 44 (row_of c)) (flat_map command_line commands) ∙ ended_commands commands
+ended_commands (c ∷ commands) = ended_line (join_with_byte 44 (record_of_command c)) (flat_map command_line commands) ∙ ended_commands commands
 
 pub ended_written : (periods : ℕ) (commands : List Command) → is_ended (written periods commands) ≡ true
-ended_written periods commands = ended_line (join_with_byte 44 (day_row periods)) (flat_map command_line commands) ∙ ended_commands commands
+ended_written periods commands = ended_line (join_with_byte 44 (record_of_day periods)) (flat_map command_line commands) ∙ ended_commands commands
 
 pub commands_more : (commands more : List Command)
     → flat_map command_line (commands ++ more) ≡ flat_map command_line commands ++ flat_map command_line more
@@ -100,7 +100,7 @@ commands_more (c ∷ commands) more =
     ap (λ (t : List ℕ). command_line c ++ t) (commands_more commands more)
     ∙ sym (append_assoc (command_line c) (flat_map command_line commands) (flat_map command_line more))
 
-pub ended_records : (day : Day) (begins : Bool) (commands : List Command) → is_ended (records_text (Some day) begins commands) ≡ true
+pub ended_records : (day : DeskDay) (begins : Bool) (commands : List Command) → is_ended (records_text (Some day) begins commands) ≡ true
 ended_records day true commands = ended_written day.periods commands
 ended_records day false commands = ended_commands commands
 

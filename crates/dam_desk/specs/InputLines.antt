@@ -1,17 +1,17 @@
--- What a line of the input says. It is read as a journal, after the record of the day if there is one.
+-- The meaning of a line of the input. It is read as a journal, after the record of the day if there is one.
 use Rattle.std.specs.Prelude.{◌≡◌, ◌⊎◌, ◌+◌, ◌-◌, ◌<◌, ◌≤◌, ℕ, List, [], ◌∷◌, ◌++◌, length, take, Option, None, Some}
 use Rattle.dam_book.specs.declared.command.Command.{Command}
 use Rattle.dam_results.specs.declared.journal_reading.JournalFault.{JournalFault}
 use Rattle.dam_results.specs.declared.journal_reading.JournalFault.TheVariants as journal
 use Rattle.dam_results.specs.Faults.{IsJournalFault}
 use Rattle.dam_results.specs.Journal.{ReadsAs}
-use Rattle.dam_results.specs.Records.{day_row}
-use Rattle.dam_results.specs.Written.{row_line}
+use Rattle.dam_results.specs.Records.{record_of_day}
+use Rattle.dam_results.specs.Written.{record_line}
 use Rattle.dam_desk.specs.Limits.{most_line}
 use Rattle.dam_desk.specs.declared.fault.InputLineFault.{InputLineFault}
 use Rattle.dam_desk.specs.declared.fault.InputLineFault.TheVariants as line
-use Rattle.dam_desk.specs.declared.reading.Said.{Said}
-use Rattle.dam_desk.specs.declared.reading.Said.TheVariants.{Day, Command as Commands, Fault}
+use Rattle.dam_desk.specs.declared.meaning.Meaning.{Meaning}
+use Rattle.dam_desk.specs.declared.meaning.Meaning.TheVariants.{Day, Command as Commands, Fault}
 
 -- as much of a line as a desk keeps of it: a longer one is known by that
 abbrev pub kept_bytes : List ℕ → List ℕ
@@ -20,7 +20,7 @@ kept_bytes text = take (most_line + 1) text
 -- the record of the day; nothing if there is none
 abbrev pub record_of : Option ℕ → List ℕ
 record_of None = []
-record_of (Some periods) = row_line (day_row periods)
+record_of (Some periods) = record_line (record_of_day periods)
 
 -- the text as which a line is read: after the record of the day
 abbrev pub text_after : Option ℕ → List ℕ → List ℕ
@@ -65,9 +65,9 @@ IsInputLineFault day text fault =
     × ((periods : ℕ) × (commands : List Command) × ReadsAs (text_after day text) periods commands
     × ¬ (AreOfOne day commands)))))
 
--- what the line says in a journal with this day, or with none yet
-abbrev pub Says : Option ℕ → List ℕ → Said → Type 0
-Says day text (Day periods) = IsDayLine text periods
-Says None text (Commands command) = ⊥
-Says (Some periods) text (Commands command) = IsCommandLine periods text command
-Says day text (Fault fault) = IsInputLineFault day text fault
+-- the meaning of the line in a journal with this day, or with none yet
+abbrev pub IsMeaning : Option ℕ → List ℕ → Meaning → Type 0
+IsMeaning day text (Day periods) = IsDayLine text periods
+IsMeaning None text (Commands command) = ⊥
+IsMeaning (Some periods) text (Commands command) = IsCommandLine periods text command
+IsMeaning day text (Fault fault) = IsInputLineFault day text fault

@@ -4,10 +4,6 @@ ghost use Rattle.std.specs.String.{string_bytes};
 ghost use Rattle.dam_desk.specs.CommandLine.{AskFor, is_option};
 ghost use Rattle.dam_desk.specs.declared.command_line.Job.{Job};
 
-use std::alloc::AllocError;
-use std::env;
-use std::io::ErrorKind;
-
 pub(crate) const USAGE: &str = "Usage: dam-desk FILE < COMMANDS
        dam-desk --journal FILE
 
@@ -27,18 +23,6 @@ pub(crate) enum Job<'a> {
     /// The journal in this file.
     Journal(&'a str),
     Help,
-}
-
-/// Reads the program's words, without its name. None: one of them isn't UTF-8.
-pub(crate) fn read_program_words(rt: &HostRuntime) -> Result<Option<Vec<String>>, AllocError> {
-    let mut words = match env::args(rt) {
-        Ok(words) => words,
-        Err(error) if error.kind() == ErrorKind::OutOfMemory => return Err(AllocError),
-        Err(_) => return Ok(None),
-    };
-    // the first word is the program's name
-    let _program = words.next();
-    Ok(Some(words.collect::<Vec<String>>(rt.alloc())?))
 }
 
 /// The job for which the words ask, if they ask for one.

@@ -3,19 +3,19 @@ ghost use Rattle.std.specs.Prelude.{◌≡◌, ◌⊎◌, ◌+◌, ◌≤◌, �
 ghost use Rattle.dam_book.specs.Book.{book_after, commands_of, empty_book, is_day, reply_to};
 ghost use Rattle.dam_book.specs.Limits.{most_entries};
 ghost use Rattle.dam_results.specs.Replies.{day_line, reply_line};
-ghost use Rattle.dam_results.specs.Records.{day_row};
-ghost use Rattle.dam_results.specs.Written.{row_line, written};
+ghost use Rattle.dam_results.specs.Records.{record_of_day};
+ghost use Rattle.dam_results.specs.Written.{record_line, written};
 ghost use Rattle.dam_book.specs.Command.{is_journal_full};
 
 use dam_book::{
     Book, Command, DayLength, PackedCommand, PackedEntry, Reply, Seed, is_journal_full,
 };
-use dam_results::{journal_text, replies_text, write_reply_line};
+use dam_results::{append_reply_line, journal_text, replies_text};
 use std::alloc::{AllocError, Global};
 
 /// The book of a day, and how many commands were entered.
 #[derive(Drop)]
-pub(crate) struct Day {
+pub(crate) struct DeskDay {
     alloc: Global,
     periods: DayLength,
     book: Book,
@@ -25,20 +25,24 @@ pub(crate) struct Day {
     /// The line of the day, which answers its record. `dam replay` prints it first.
     day_answer: Vec<u8>,
     ghost valid: { is_day periods ≡ true },
-    ghost day_record_is: { day_record.items ≡ row_line (day_row periods) },
+    ghost day_record_is: { day_record.items ≡ record_line (record_of_day periods) },
     ghost day_answer_is: { day_answer.items ≡ day_line periods },
 }
 
-impl Day {
+impl DeskDay {
     /// The day with an empty book.
-    pub(crate) fn begin(alloc: Global, seed: Seed, periods: DayLength) -> Result<Day, AllocError>
+    pub(crate) fn begin(
+        alloc: Global,
+        seed: Seed,
+        periods: DayLength,
+    ) -> Result<DeskDay, AllocError>
         ensures periods { IfOk result (λ day. day.periods ≡ periods) }
         ensures book { IfOk result (λ day. day.book ≡ empty_book periods) }
         ensures entered { IfOk result (λ day. day.entered ≡ 0) }
         ensures valid { OnOk result (is_day periods ≡ true) }
     {
         let _valid = periods.get(); // for the proof: the length of a day
-        Ok(Day {
+        Ok(DeskDay {
             alloc,
             periods,
             book: Book::for_day(alloc, periods, seed),
@@ -55,12 +59,12 @@ impl Day {
     }
 
     pub(crate) fn day_record(&self) -> &[u8]
-        ensures { result.now ≡ row_line (day_row self.now.periods) }
+        ensures { result.now ≡ record_line (record_of_day self.now.periods) }
     {
         self.day_record.as_slice()
     }
 
-    pub(crate) fn day_line(&self) -> &[u8]
+    pub(crate) fn day_answer(&self) -> &[u8]
         ensures { result.now ≡ day_line self.now.periods }
     {
         self.day_answer.as_slice()
@@ -98,7 +102,7 @@ impl Day {
     {
         let reply = self.book.apply(command)?;
         self.entered = number;
-        write_reply_line(replies, number, reply)?;
+        append_reply_line(replies, number, reply)?;
         Ok(reply)
     }
 

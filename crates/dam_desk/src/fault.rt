@@ -30,7 +30,7 @@ pub(crate) enum InputLineFault {
     CutShort,
 }
 
-/// Why a desk ends before its input does.
+/// Why a desk ends with a fault.
 #[derive(Debug, Drop, Error)]
 pub(crate) enum DeskFault {
     /// The file isn't opened or read.
@@ -52,8 +52,8 @@ pub(crate) enum DeskFault {
     #[error("device: read")]
     Read,
     /// Standard output failed after it had taken this many bytes of the run's text.
-    #[error("device: write after {0} bytes")]
-    Write(usize),
+    #[error("device: write after {written} bytes")]
+    Write { written: usize },
     /// Memory ran out. Each call that needs some may fail so, since no clause says how much there is.
     #[error("memory")]
     Memory,
@@ -65,8 +65,39 @@ impl DeskFault {
         ensures { result ≡ fault_after before self }
     {
         match self {
-            DeskFault::Write(written) => DeskFault::Write(before.saturating_add(written)),
+            DeskFault::Write { written } => DeskFault::Write {
+                written: before.saturating_add(written),
+            },
             fault => fault,
+        }
+    }
+
+    /// The status that the program ends with: 1 if the file is at fault, 4 if the machine is.
+    pub(crate) fn status(&self) -> u8
+        ensures { result ≡ fault_status self.now }
+    {
+        match self {
+            DeskFault::File(FileFault::NotAFile | FileFault::Database)
+            | DeskFault::OwnOutput
+            | DeskFault::NotAJournal(_)
+            | DeskFault::Respelled
+            | DeskFault::Store(StoreFault::NotAStore | StoreFault::TooLong | StoreFault::Full) => 1,
+            DeskFault::File(
+                FileFault::InUse
+                | FileFault::NoRandomBytes(_)
+                | FileFault::Io(_)
+                | FileFault::Memory,
+            )
+            | DeskFault::Store(
+                StoreFault::Memory
+                | StoreFault::Read(_)
+                | StoreFault::Write(_)
+                | StoreFault::Sync(_)
+                | StoreFault::Broken,
+            )
+            | DeskFault::Read
+            | DeskFault::Write { .. }
+            | DeskFault::Memory => 4,
         }
     }
 }
@@ -121,19 +152,5 @@ impl From<JournalFault> for DeskFault {
             JournalFault::Memory => DeskFault::Memory,
             _ => DeskFault::NotAJournal(fault),
         }
-    }
-}
-
-/// The status that the program ends with: 1 if the file is at fault, 4 if the machine is.
-pub(crate) fn status(fault: &DeskFault) -> u8
-    ensures { result ≡ fault_status fault.now }
-{
-    match fault {
-        DeskFault::File(FileFault::NotAFile | FileFault::Database)
-        | DeskFault::OwnOutput
-        | DeskFault::NotAJournal(_)
-        | DeskFault::Respelled
-        | DeskFault::Store(StoreFault::NotAStore | StoreFault::TooLong | StoreFault::Full) => 1,
-        _ => 4,
     }
 }

@@ -8,11 +8,11 @@ use std::marker::Model;
 
 /// The line that has begun: its bytes, or, of a longer one, the first `MOST_LINE + 1` of them.
 #[derive(Drop)]
-pub(crate) struct Line {
+pub(crate) struct InputLine {
     bytes: Vec<u8>,
 }
 
-impl Model for Line {
+impl Model for InputLine {
     ghost use Rattle.std.specs.Prelude.{List, ℕ, ◌≤◌, ◌+◌, length};
     ghost use Rattle.dam_desk.specs.Limits.{most_line};
 
@@ -23,11 +23,11 @@ impl Model for Line {
     ghost invariant = { λ line. length line.bytes.items ≤ most_line + 1 };
 }
 
-impl Line {
-    pub(crate) fn new(alloc: Global) -> Line
+impl InputLine {
+    pub(crate) fn new(alloc: Global) -> InputLine
         ensures { result ≡ [] }
     {
-        Line {
+        InputLine {
             bytes: Vec::new(alloc),
         }
     }

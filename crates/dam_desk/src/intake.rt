@@ -5,18 +5,18 @@ ghost use Rattle.dam_book.specs.Limits.{most_entries};
 ghost use Rattle.dam_results.specs.Written.{written};
 ghost use Rattle.dam_store.specs.FileLines.{has_byte, text_of};
 ghost use Rattle.dam_desk.specs.Answers.{fault_line};
-ghost use Rattle.dam_desk.specs.DeskJournal.{Journal, State, next};
-ghost use Rattle.dam_desk.specs.InputLines.{Says, kept_bytes};
-ghost use Rattle.dam_desk.specs.declared.reading.Said.TheVariants.{Day as Days, Command as Commands, Fault};
+ghost use Rattle.dam_desk.specs.DeskJournal.{JournalContent, DeskState, next};
+ghost use Rattle.dam_desk.specs.InputLines.{IsMeaning, kept_bytes};
+ghost use Rattle.dam_desk.specs.declared.meaning.Meaning.TheVariants.{Day as Days, Command as Commands, Fault};
 ghost use Rattle.dam_desk.specs.inside.DeskDay.{entered_of};
 ghost use Rattle.dam_desk.specs.inside.TextLines.{is_ended};
 
-use crate::desk_day::Day;
+use crate::desk_day::DeskDay;
 use crate::fault::InputLineFault;
 use crate::fault_line::append_fault_line;
-use crate::input_line::Line;
-use crate::reading::{Said, read_input_line};
-use crate::text_lines::first_line;
+use crate::input_line::InputLine;
+use crate::meaning::{Meaning, read_input_line};
+use crate::text_lines::split_first_line;
 use dam_book::laws::runs_grow;
 use dam_book::{Command, DayLength, PackedEntry, Seed};
 use dam_store::{Batch, BatchFault};
@@ -27,8 +27,8 @@ use std::alloc::{AllocError, Global};
 pub(crate) struct Intake {
     pub(crate) alloc: Global,
     seed: Seed,
-    day: Option<Day>,
-    pub(crate) line: Line,
+    day: Option<DeskDay>,
+    pub(crate) line: InputLine,
     /// The number of lines that were answered.
     pub(crate) answered: u64,
     /// Whether the day begins in this batch.
@@ -45,7 +45,7 @@ impl Intake {
     ghost use Rattle.dam_desk.specs.inside.Intake.{Answered, HasRead, IsAt, IsIn, TakesLine, entered_text, periods_of, records_text};
 
     /// An intake before its first line.
-    pub(crate) fn new(alloc: Global, seed: Seed, day: Option<Day>) -> Intake
+    pub(crate) fn new(alloc: Global, seed: Seed, day: Option<DeskDay>) -> Intake
         requires { entered_of day ≤ most_entries }
         ensures day { result.day ≡ day }
         ensures line { result.line ≡ [] }
@@ -55,7 +55,7 @@ impl Intake {
             alloc,
             seed,
             day,
-            line: Line::new(alloc),
+            line: InputLine::new(alloc),
             answered: 0,
             begins: false,
             entries: Vec::new(alloc),
@@ -65,7 +65,7 @@ impl Intake {
 
     /// Begins a batch: enters the records of the lines that end in the bytes, and makes the answers to these lines.
     pub(crate) fn enter_batch(&mut self, bytes: &[u8]) -> Result<(), AllocError>
-        ensures { (state : State) (begun : List ℕ) → IsIn self.old state begun
+        ensures { (state : DeskState) (begun : List ℕ) → IsIn self.old state begun
             → OnOk result (HasRead self.new state (begun ++ bytes.now) []) }
     {
         self.begins = false;
@@ -76,11 +76,11 @@ impl Intake {
 
     /// Enters the lines that end in the bytes, with the answers to them, and begins the next line with the rest.
     fn enter_lines(&mut self, bytes: &[u8]) -> Result<(), AllocError>
-        ensures { (state : State) (given : List ℕ) → HasRead self.old state given bytes.now
+        ensures { (state : DeskState) (given : List ℕ) → HasRead self.old state given bytes.now
             → OnOk result (HasRead self.new state given []) }
     {
         let mut rest = bytes;
-        while let Some((line, after)) = first_line(rest) {
+        while let Some((line, after)) = split_first_line(rest) {
             self.finish_line(line)?;
             rest = after;
         }
@@ -89,7 +89,7 @@ impl Intake {
 
     /// Answers the line that ends with these bytes.
     fn finish_line(&mut self, piece: &[u8]) -> Result<(), AllocError>
-        ensures { (state : State) (given after : List ℕ) → has_byte 10 piece.now ≡ false
+        ensures { (state : DeskState) (given after : List ℕ) → has_byte 10 piece.now ≡ false
             → HasRead self.old state given (piece.now ++ 10 ∷ after)
             → OnOk result (HasRead self.new state given after) }
     {
@@ -103,19 +103,19 @@ impl Intake {
     fn enter_line(&mut self) -> Result<(), AllocError>
         ensures line { self.new.line ≡ self.old.line }
         ensures answered { OnOk result (self.new.answered ≡ next self.old.answered) }
-        ensures step { (before : List ℕ) (journal : Option Journal) (text : List ℕ)
+        ensures step { (before : List ℕ) (journal : Option JournalContent) (text : List ℕ)
             → IsAt self.old before journal → self.old.line ≡ kept_bytes text
             → OnOk result (TakesLine self.old self.new before journal text) }
     {
         self.answered = self.answered.saturating_add(1);
-        let said = self.meaning_of_line()?;
-        self.enter_said(said)
+        let meaning = self.meaning_of_line()?;
+        self.enter_and_answer(meaning)
     }
 
     /// The meaning of the line that has come.
-    fn meaning_of_line(&self) -> Result<Said, AllocError>
+    fn meaning_of_line(&self) -> Result<Meaning, AllocError>
         ensures { (text : List ℕ) → self.now.line ≡ kept_bytes text
-            → IfOk result (Says (periods_of self.now.day) text) }
+            → IfOk result (IsMeaning (periods_of self.now.day) text) }
     {
         let day_record: &[u8] = match &self.day {
             Some(day) => day.day_record(),
@@ -125,16 +125,16 @@ impl Intake {
     }
 
     /// Enters the record, if the line that has come is one, and adds the answer to it.
-    fn enter_said(&mut self, said: Said) -> Result<(), AllocError>
+    fn enter_and_answer(&mut self, meaning: Meaning) -> Result<(), AllocError>
         ensures line { self.new.line ≡ self.old.line }
         ensures answered { self.new.answered ≡ self.old.answered }
-        ensures step { (before : List ℕ) (journal : Option Journal) → IsAt self.old before journal
-            → OnOk result (Answered self.old self.new before journal said) }
+        ensures step { (before : List ℕ) (journal : Option JournalContent) → IsAt self.old before journal
+            → OnOk result (Answered self.old self.new before journal meaning) }
     {
-        match said {
-            Said::Fault(fault) => self.append_fault(fault),
-            Said::Day(periods) => self.enter_day(periods),
-            Said::Command(command) => self.enter_command(&command.command()),
+        match meaning {
+            Meaning::Fault(fault) => self.append_fault(fault),
+            Meaning::Day(periods) => self.enter_day(periods),
+            Meaning::Command(command) => self.enter_command(&command.command()),
         }
     }
 
@@ -155,7 +155,7 @@ impl Intake {
     fn enter_day(&mut self, periods: DayLength) -> Result<(), AllocError>
         ensures line { self.new.line ≡ self.old.line }
         ensures answered { self.new.answered ≡ self.old.answered }
-        ensures step { (before : List ℕ) (journal : Option Journal) → IsAt self.old before journal
+        ensures step { (before : List ℕ) (journal : Option JournalContent) → IsAt self.old before journal
             → OnOk result (Answered self.old self.new before journal (Days periods)) }
     {
         let Some(day) = &self.day else {
@@ -164,7 +164,7 @@ impl Intake {
         if day.periods() != periods {
             return self.append_fault(InputLineFault::OtherDay);
         }
-        self.answers.extend_from_slice(day.day_line())
+        self.answers.extend_from_slice(day.day_answer())
     }
 
     /// Begins the day, and adds its line to the answers.
@@ -172,11 +172,11 @@ impl Intake {
         requires { self.old.day ≡ None }
         ensures line { self.new.line ≡ self.old.line }
         ensures answered { self.new.answered ≡ self.old.answered }
-        ensures step { (before : List ℕ) (journal : Option Journal) → IsAt self.old before journal
+        ensures step { (before : List ℕ) (journal : Option JournalContent) → IsAt self.old before journal
             → OnOk result (Answered self.old self.new before journal (Days periods)) }
     {
-        let day = Day::begin(self.alloc, self.seed, periods)?;
-        self.answers.extend_from_slice(day.day_line())?;
+        let day = DeskDay::begin(self.alloc, self.seed, periods)?;
+        self.answers.extend_from_slice(day.day_answer())?;
         self.begins = true;
         self.day = Some(day);
         Ok(())
@@ -186,7 +186,7 @@ impl Intake {
     fn enter_command(&mut self, command: &Command) -> Result<(), AllocError>
         ensures line { self.new.line ≡ self.old.line }
         ensures answered { self.new.answered ≡ self.old.answered }
-        ensures step { (before : List ℕ) (journal : Option Journal) → IsAt self.old before journal
+        ensures step { (before : List ℕ) (journal : Option JournalContent) → IsAt self.old before journal
             → OnOk result (Answered self.old self.new before journal (Commands command.now)) }
     {
         runs_grow();
@@ -214,7 +214,7 @@ impl Intake {
     }
 
     /// The records that the batch enters, of those of the day and its commands.
-    fn records_to_enter<'a>(&self, day: &Day, records: &'a [u8]) -> &'a [u8]
+    fn records_to_enter<'a>(&self, day: &DeskDay, records: &'a [u8]) -> &'a [u8]
         requires { records.now
             ≡ written day.now.periods (commands_of self.now.entries.items) }
         ensures { result.now
@@ -233,7 +233,7 @@ fn push_lines(batch: &mut Batch, text: &[u8]) -> Result<(), AllocError>
         → OnOk result (text_of batch.new ≡ text_of batch.old ++ text.now) }
 {
     let mut rest = text;
-    while let Some((line, after)) = first_line(rest) {
+    while let Some((line, after)) = split_first_line(rest) {
         push_line(batch, line)?;
         rest = after;
     }

@@ -1,11 +1,13 @@
 //! `dam-desk`, which keeps the journal of a day in a file, and answers each command once it is safe there.
 #![tactic(auto)]
 
-ghost use Rattle.std.specs.Prelude.{◌≡◌, ◌↔◌, ℕ, true, false, List, Option, Some, IfSome, OnOk};
+ghost use Rattle.std.specs.Prelude.{◌≡◌, ◌↔◌, ◌⊎◌, ℕ, true, false, List, Option, Some, IfErr, IfSome, OnOk};
 ghost use Rattle.std.specs.Io.KnownBytes.{Appends};
 ghost use Rattle.std.specs.Process.{exit_status};
-ghost use Rattle.dam_desk.specs.DeskJournal.{Journal, OpensTo, desk_journal_text};
-ghost use Rattle.dam_desk.specs.Faults.{fault_status};
+ghost use Rattle.dam_desk.specs.DeskJournal.{JournalContent, OpensTo, desk_journal_text};
+ghost use Rattle.std.specs.declared.io.Error.{Error};
+ghost use Rattle.dam_store.specs.Faults.{of_io};
+ghost use Rattle.dam_desk.specs.Faults.{IsFileFault, IsWritingFault, fault_status, is_write, of_file};
 
 mod command_line;
 mod desk;
@@ -16,21 +18,21 @@ mod input_line;
 mod intake;
 mod laws;
 mod limits;
-mod open;
+mod meaning;
+mod open_desk;
 mod output;
-mod reading;
-mod reopened;
-mod run;
+mod replay;
+mod run_desk;
 mod serve;
 mod stored_journal;
 mod text_lines;
 
-use command_line::{Job, USAGE, job_of, read_program_words};
+use command_line::{Job, USAGE, job_of};
 use dam_book::Seed;
-use dam_device::{Sink, Source};
-use fault::{DeskFault, status};
+use dam_device::{Sink, Source, WordsFault, print_refusal, read_program_words};
+use fault::DeskFault;
 use output::write_text;
-use run::serve_file;
+use run_desk::serve_file;
 use sqlite_std_file::Wary;
 use std::fs;
 use std::io::{Read, Write};
@@ -38,20 +40,17 @@ use std::os::unix::fs::MetadataExt;
 use std::process::ExitCode;
 use stored_journal::{open_to_read, read_file_bytes, stored_journal_text};
 
-/// The status of a command line that is refused.
-const REFUSED_STATUS: u8 = 2;
-
 fn main(rt: HostRuntime) -> ExitCode {
     let words = match read_program_words(&rt) {
-        Ok(Some(words)) => words,
-        Ok(None) => return print_refusal(&rt),
-        Err(fault) => return print_fault(&rt, &DeskFault::from(fault)),
+        Ok(words) => words,
+        Err(WordsFault::NotUtf8) => return print_refusal(&rt, USAGE),
+        Err(WordsFault::Memory) => return print_fault(&rt, &DeskFault::Memory),
     };
     let done = match job_of(words.as_slice()) {
         Some(Job::Serve(path)) => serve_standard(&rt, path),
         Some(Job::Journal(path)) => print_stored_journal(&rt, path),
         Some(Job::Help) => write_text(&mut Sink::new(rt.stdout()), USAGE.as_bytes()),
-        None => return print_refusal(&rt),
+        None => return print_refusal(&rt, USAGE),
     };
     match done {
         Ok(()) => ExitCode::SUCCESS,
@@ -66,13 +65,13 @@ fn serve_standard(rt: &HostRuntime, path: &str) -> Result<(), DeskFault> {
     }
     let (mut input, mut output) = (Source::new(rt.stdin()), Sink::new(rt.stdout()));
     let ended = serve_file(rt, path, Wary, &mut input, &mut output)?;
-    ended.done
+    ended.result
 }
 
 /// Whether standard output goes to the file at `path`: the answers would destroy the journal.
 fn is_own_output(rt: &HostRuntime, path: &str) -> bool {
-    match file_at(rt, "/dev/stdout") {
-        Some(output) => is_this_file(output, file_at(rt, path)),
+    match read_file_numbers(rt, "/dev/stdout") {
+        Some(output) => is_this_file(output, read_file_numbers(rt, path)),
         None => false,
     }
 }
@@ -85,7 +84,7 @@ struct FileNumbers {
 }
 
 /// The file at `path`; `None` if there is none, or only a pipe, a terminal or a folder.
-fn file_at(rt: &HostRuntime, path: &str) -> Option<FileNumbers> {
+fn read_file_numbers(rt: &HostRuntime, path: &str) -> Option<FileNumbers> {
     match fs::metadata(rt, path) {
         Ok(file) if file.is_file() => Some(FileNumbers {
             device: file.dev(),
@@ -115,11 +114,19 @@ fn print_journal<R: Read, W: Write>(
     writer: &mut Sink<W>,
 ) -> Result<(), DeskFault>
     requires { writer.old.failed ≡ false }
-    ensures printed { OnOk result ((bytes : List ℕ) × (journal : Option Journal)
+    ensures printed { OnOk result ((bytes : List ℕ) × (journal : Option JournalContent)
         × IfSome (R.remaining file.old) (λ left. bytes ≡ left)
         × OpensTo journal bytes
         × Appends writer.old.taken writer.new.taken (desk_journal_text journal)) }
     ensures cause { OnOk result (writer.new.failed ≡ false) }
+    ensures refused { IfErr result (λ fault. is_write fault ≡ false → (writer.new ≡ writer.old)
+        × (((error : Error) × (fault ≡ of_file (of_io error)))
+        ⊎ ((bytes : List ℕ) × IfSome (R.remaining file.old) (λ left. bytes ≡ left)
+        × IsFileFault bytes fault))) }
+    ensures unwritten { IfErr result (λ fault. is_write fault ≡ true → (bytes : List ℕ)
+        × (journal : Option JournalContent) × IfSome (R.remaining file.old) (λ left. bytes ≡ left)
+        × OpensTo journal bytes
+        × IsWritingFault writer.old.taken writer.new.taken (desk_journal_text journal) fault) }
 {
     let bytes = read_file_bytes(rt.alloc(), file)?;
     let text = stored_journal_text(rt.alloc(), Seed::drawn(rt), bytes.as_slice())?;
@@ -131,13 +138,5 @@ fn print_fault(rt: &HostRuntime, fault: &DeskFault) -> ExitCode
     ensures { exit_status result ≡ fault_status fault.now }
 {
     let _ = eprintln!(rt; "{fault}");
-    ExitCode::from(status(fault))
-}
-
-/// Prints the usage for a refused command line, and gives its status.
-fn print_refusal(rt: &HostRuntime) -> ExitCode
-    ensures { exit_status result ≡ 2 }
-{
-    let _ = eprint!(rt; "command line\n{USAGE}");
-    ExitCode::from(REFUSED_STATUS)
+    ExitCode::from(fault.status())
 }

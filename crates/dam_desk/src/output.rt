@@ -1,7 +1,7 @@
 //! Each text is flushed once, and a failed write says how many of its bytes were taken.
-ghost use Rattle.std.specs.Prelude.{◌≡◌, true, false, IfErr, OnOk, MatchResult};
+ghost use Rattle.std.specs.Prelude.{◌≡◌, false, IfErr, OnOk};
 ghost use Rattle.std.specs.Io.KnownBytes.{Appends};
-ghost use Rattle.dam_desk.specs.Device.{IsFlushed};
+ghost use Rattle.dam_desk.specs.Device.{IsWriterAfter};
 ghost use Rattle.dam_desk.specs.Faults.{IsWritingFault};
 
 use crate::fault::DeskFault;
@@ -14,16 +14,13 @@ pub(crate) fn write_text<W: Write>(writer: &mut Sink<W>, text: &[u8]) -> Result<
     ensures done { OnOk result (Appends writer.old.taken writer.new.taken text.now) }
     ensures fault { IfErr result
         (IsWritingFault writer.old.taken writer.new.taken text.now) }
-    ensures cause { MatchResult result
-        (λ _. writer.new.failed ≡ false)
-        (λ _. writer.new.failed ≡ true) }
-    ensures flushed { IsFlushed writer.old writer.new }
+    ensures writer { IsWriterAfter writer.old writer.new result }
 {
     if text.is_empty() {
         return Ok(());
     }
     match writer.write_text(text) {
         Ok(()) => Ok(()),
-        Err(WriteFailed { written }) => Err(DeskFault::Write(written)),
+        Err(WriteFailed { written }) => Err(DeskFault::Write { written }),
     }
 }

@@ -3,10 +3,10 @@ ghost use Rattle.std.specs.Prelude.{◌≡◌, Option, IfOk, IfErr, IfSome};
 ghost use Rattle.std.specs.declared.io.Error.{Error};
 ghost use Rattle.dam_store.specs.Faults.{of_io};
 ghost use Rattle.dam_desk.specs.Faults.{IsFileFault, of_file};
-ghost use Rattle.dam_desk.specs.DeskJournal.{Journal, OpensTo, desk_journal_text};
+ghost use Rattle.dam_desk.specs.DeskJournal.{JournalContent, OpensTo, desk_journal_text};
 
 use crate::fault::DeskFault;
-use crate::open::read_day_and_replies;
+use crate::replay::replay_stored_text;
 use dam_book::Seed;
 use dam_store::{FileFault, MOST_FILE_BYTES, StoreFault, text_of_file_bytes};
 use std::alloc::Global;
@@ -44,11 +44,11 @@ pub(crate) fn stored_journal_text(
     seed: Seed,
     file: &[u8],
 ) -> Result<Vec<u8>, DeskFault>
-    ensures text { IfOk result (λ text. (journal : Option Journal)
+    ensures text { IfOk result (λ text. (journal : Option JournalContent)
         × OpensTo journal file.now × (text.items ≡ desk_journal_text journal)) }
     ensures fault { IfErr result (IsFileFault file.now) }
 {
     let text = text_of_file_bytes(alloc, file)?;
-    let _journal = read_day_and_replies(alloc, seed, text.as_slice())?;
+    let _replay = replay_stored_text(alloc, seed, text.as_slice())?;
     Ok(text)
 }

@@ -55,7 +55,7 @@ impl<R: Read> CountedReader<R> {
     }
 }
 
-/// A writer, and how often it was asked to take bytes and to pass on the bytes that it holds back.
+/// A writer, and how often it was asked to take bytes and to flush.
 #[derive(Drop)]
 pub(crate) struct CountedWriter<W: Write> {
     inner: W,

@@ -156,7 +156,7 @@ impl<W: Write> Sink<W> {
         }
     }
 
-    /// One flush: the writer passes on the bytes that it holds back.
+    /// One flush: the writer passes on the bytes that it has buffered.
     pub fn flush(&mut self) -> Result<(), DeviceFailed>
         requires { self.old.failed ≡ false }
         ensures bytes { Keeps self.old.taken self.new.taken }

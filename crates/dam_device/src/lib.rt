@@ -3,7 +3,7 @@
 //! A [`Source`] and a [`Sink`] keep whether they failed, how often they were asked, and how often the writer was
 //! flushed, the last time after all that it took. So a contract can say, of any reader and writer, that each failure of
 //! a device is reported and no other, that a failed device is never asked again, and that a text is flushed.
-//! [`Sink::write_text`] writes a whole text.
+//! [`Sink::write_text`] writes a whole text. [`read_program_words`] reads the words of a command line.
 //!
 //! ```
 //! let mut writer = Sink::new(rt.stdout());
@@ -19,5 +19,7 @@
 
 mod counted;
 mod device;
+mod words;
 
 pub use device::{CHUNK, DeviceFailed, Sink, Source, WriteFailed};
+pub use words::{WordsFault, print_refusal, read_program_words};

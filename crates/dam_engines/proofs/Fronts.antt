@@ -103,7 +103,7 @@ made_fault-run IsFault text none (Write written) is = is
 
 -- the answer of the search of a closed book's problem is the answer for the book
 pub search_fault-book : (plan : PlanTerms) (book : BookState) (fault : SearchFault) → book.closed ≡ true
-    → IsSearched (problem_of book) (min plan.cut (length (problem_of book).blocks)) plan.nodes (Err fault)
+    → IsSearched (problem_of book) (min plan.cut (length (problem_of book).blocks)) plan.node_limit (Err fault)
     → IsBookFault plan book (search_fault_of fault)
 search_fault-book plan book MemoryOfSearch closed searched = tt
 search_fault-book plan book (IsFaulty piece) closed searched = absurd searched

@@ -18,7 +18,7 @@ nodes_within left few =
 pub nodes_of_problem : (problem : ProblemState) → IsProblem problem → node_count (length problem.blocks) ≤ most_nodes
 nodes_of_problem problem is = nodes_within (length problem.blocks) is.few_blocks
 
-pub not_cut_short : (plan : PlanTerms) (book : BookState) (piece visited : ℕ) → IsProblem (problem_of book) → most_nodes ≤ plan.nodes
+pub not_cut_short : (plan : PlanTerms) (book : BookState) (piece visited : ℕ) → IsProblem (problem_of book) → most_nodes ≤ plan.node_limit
     → ¬ (IsCutShort plan book piece visited)
 not_cut_short plan book piece visited is limit cut =
     let blocks = length (problem_of book).blocks in

@@ -13,7 +13,7 @@ use Rattle.dam_engines.specs.declared.fault.RunFault.TheVariants.{StillOpen, Unf
 -- the book is closed, and for the search of its problem by this plan, the limit on nodes may be too low for this piece
 pub record IsCutShort (plan : PlanTerms) (book : BookState) (piece visited : ℕ) : Type 0 where
   pub closed : book.closed ≡ true
-  pub unfinished : IsUnfinished (problem_of book) (min plan.cut (length (problem_of book).blocks)) plan.nodes piece visited
+  pub unfinished : IsUnfinished (problem_of book) (min plan.cut (length (problem_of book).blocks)) plan.node_limit piece visited
 
 -- the problem has a result, and the plan's limit on nodes is at least the number that each piece needs if the result's welfare is
 -- read from the start
@@ -21,7 +21,7 @@ pub record PlanHasNeeded (plan : PlanTerms) (problem : ProblemState) : Type 0 wh
   pub selection : List Bool
   pub welfare : ℕ
   pub best : IsResult problem selection (pos welfare)
-  pub needed : LimitHasNeeded problem (min plan.cut (length problem.blocks)) plan.nodes welfare
+  pub needed : LimitHasNeeded problem (min plan.cut (length problem.blocks)) plan.node_limit welfare
 
 -- the text is the results text of the book, and the plan's limit on nodes is at least the number needed to clear it; a lesser limit
 -- gives no results
@@ -34,7 +34,7 @@ AreResultsWithin plan periods commands text = IsClearedWithin plan (run periods 
 
 -- the terms of a search by one worker that cuts nothing; they are those of a plan only if a plan may have this limit on nodes
 abbrev pub terms_alone : ℕ → PlanTerms
-terms_alone nodes = record { workers = 1; cut = 0; nodes = nodes }
+terms_alone node_limit = record { workers = 1; cut = 0; node_limit = node_limit }
 
 -- how the clearing of a book can fail: it is open; if it is closed, its search didn't finish, if that can be; or memory ran out
 abbrev pub IsBookFault : PlanTerms → BookState → RunFault → Type 0

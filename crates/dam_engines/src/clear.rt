@@ -32,8 +32,7 @@ use std::thread::Threads;
 /// by its limit on nodes the search may end `Unfinished`. The book hashes names by the seed.
 ///
 /// Neither device may have failed before. The contract doesn't state the bytes of a reader or a writer that doesn't
-/// show them, nor the printed text if the reader doesn't: standard input and output show none. For every reader and
-/// writer it states whether a device failed, how often the reader was asked, and that the writer was flushed.
+/// show them, nor the printed text if the reader doesn't: standard input and output show none.
 pub fn run_clear<H: Threads + Sync, R: Read, W: Write, T: Watch + Sync>(
     rt: &H,
     alloc: Global,

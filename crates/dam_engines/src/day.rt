@@ -26,6 +26,16 @@ use std::io::{Read, Write};
 use std::sync::Wait;
 use std::thread::Threads;
 
+/// The plan of a day's search, with the callbacks of a run. They don't change its answers.
+#[derive(Drop)]
+pub struct DayPlan<'a, T: Watch, U: Turnstile> {
+    pub search: Plan,
+    /// It watches the search.
+    pub watch: &'a T,
+    /// The turnstile of the participants' threads, whose jobs are the participants, numbered from 0 by first occurrence.
+    pub entrance: &'a U,
+}
+
 /// Reads a journal without a close, has each of its participants enter its commands at one gate, in
 /// their order and on a thread of its own if one can be started, closes and clears the book, and
 /// writes the journal of that day, the line `results`, and the results.
@@ -33,9 +43,6 @@ use std::thread::Threads;
 /// Commands of two participants may come to the gate in either order, so two runs may write two texts; the results
 /// always belong to the journal that is written. The plan doesn't change the results, but by its limit on nodes the
 /// search may end `Unfinished`. The gate's book hashes names by the seed.
-///
-/// `watch` watches the search. `entrance` is the turnstile of the participants' threads, whose jobs are the participants,
-/// numbered from 0 by first occurrence.
 ///
 /// The whole text is made before its first byte is written. The rules of `run_clear` for readers, writers and inputs
 /// that are too long hold here too.
@@ -45,20 +52,19 @@ pub fn run_day<H: Threads + Wait + Sync, R: Read, W: Write, T: Watch + Sync, U: 
     seed: Seed,
     reader: &mut Source<R>,
     writer: &mut Sink<W>,
-    plan: Plan,
-    watch: &T,
-    entrance: &U,
+    plan: &DayPlan<'_, T, U>,
 ) -> Result<(), RunFault>
     requires reads { reader.old.failed ≡ false }
     requires writes { writer.old.failed ≡ false }
     ensures ends { IfSome reader.old.unread (λ given.
-        Ends (IsMadeFrom (IsDayText plan) given) (IsRunFault (IsCommandsFault plan) given)
-        writer.old.taken writer.new.taken (writer.new.asked - writer.old.asked) result) }
+        Ends (IsMadeFrom (IsDayText plan.now.search) given)
+        (IsRunFault (IsCommandsFault plan.now.search) given) writer.old.taken writer.new.taken
+        (writer.new.asked - writer.old.asked) result) }
     ensures devices { AreDevicesAfter reader.old reader.new writer.old writer.new result }
     ensures asked { reader.new.asked ≤ reader.old.asked + most_asked reader.old.unread }
 {
     let text = read_input(alloc, reader)?;
-    let day = run_day_of_text(rt, alloc, seed, text, plan, watch, entrance)?;
+    let day = run_day_of_text(rt, alloc, seed, text, plan)?;
     write_text(writer, day.as_slice())
 }
 
@@ -68,26 +74,15 @@ fn run_day_of_text<H: Threads + Wait + Sync, T: Watch + Sync, U: Turnstile + Syn
     alloc: Global,
     seed: Seed,
     text: Vec<u8>,
-    plan: Plan,
-    watch: &T,
-    entrance: &U,
+    plan: &DayPlan<'_, T, U>,
 ) -> Result<Vec<u8>, RunFault>
-    ensures done { IfOk result (λ day. IsMadeFrom (IsDayText plan) text.items day.items) }
-    ensures fault { IfErr result (IsRunFault (IsCommandsFault plan) text.items) }
+    ensures done { IfOk result (λ day. IsMadeFrom (IsDayText plan.now.search) text.items day.items) }
+    ensures fault { IfErr result (IsRunFault (IsCommandsFault plan.now.search) text.items) }
 {
     let journal = read_journal(alloc, text.as_slice())?;
     drop(text);
     let commands = journal.commands.as_slice();
-    run_day_of_commands(
-        rt,
-        alloc,
-        seed,
-        journal.periods,
-        commands,
-        plan,
-        watch,
-        entrance,
-    )
+    run_day_of_commands(rt, alloc, seed, journal.periods, commands, plan)
 }
 
 /// Runs a day of the commands at a gate, clears its book, and returns the text to print.
@@ -97,15 +92,14 @@ fn run_day_of_commands<H: Threads + Wait + Sync, T: Watch + Sync, U: Turnstile +
     seed: Seed,
     periods: DayLength,
     commands: &[PackedCommand],
-    plan: Plan,
-    watch: &T,
-    entrance: &U,
+    plan: &DayPlan<'_, T, U>,
 ) -> Result<Vec<u8>, RunFault>
-    ensures done { IfOk result (λ day. IsDayText plan periods commands.now day.items) }
-    ensures fault { IfErr result (IsCommandsFault plan periods commands.now) }
+    ensures done { IfOk result (λ day. IsDayText plan.now.search periods commands.now day.items) }
+    ensures fault { IfErr result (IsCommandsFault plan.now.search periods commands.now) }
 {
-    let settled = enter_and_settle(rt, alloc, seed, periods, commands, entrance)?;
-    clear_to_day_text(rt, alloc, settled.journal(), plan, &WatchOfCaller(watch))
+    let settled = enter_and_settle(rt, alloc, seed, periods, commands, plan.entrance)?;
+    let watch = WatchOfCaller(plan.watch);
+    clear_to_day_text(rt, alloc, settled.journal(), plan.search, &watch)
 }
 
 /// Runs a day of the commands at a gate. A command's place is counted from 0, a record's number

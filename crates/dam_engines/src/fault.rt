@@ -6,7 +6,7 @@ ghost use Rattle.dam_engines.specs.Fault.{fault_status};
 use dam_blocks::ProblemFault;
 use dam_gate::Mismatch;
 use dam_results::JournalFault;
-use dam_search::{Nodes, SearchFault};
+use dam_search::{NodeCount, SearchFault};
 use std::alloc::AllocError;
 use std::error::Error;
 
@@ -30,7 +30,7 @@ pub enum RunFault {
     Mismatch(Mismatch),
     /// The search visited as many nodes of this piece as the plan allows, and needed another. Each lesser piece is
     /// finished.
-    Unfinished { piece: u32, visited: Nodes },
+    Unfinished { piece: u32, visited: NodeCount },
     /// The answers of the search's workers lack this piece or repeat it. The search never answers so, and
     /// so no run does. Its line has the word `Collected`.
     AnswerMissingOrRepeated { piece: u32 },

@@ -6,7 +6,7 @@ use crate::fault::RunFault;
 use arrayvec::ArrayString;
 use dam_gate::Mismatch;
 use dam_results::JournalFault;
-use dam_search::Nodes;
+use dam_search::NodeCount;
 use itoa::Buffer;
 use std::alloc::{AllocError, Allocator};
 use std::fmt;
@@ -57,7 +57,7 @@ fn bad_field_text(at: usize, field: usize) -> ArrayString<ROOM>
 }
 
 /// The text of a search that didn't finish.
-fn unfinished_text(piece: u32, visited: Nodes) -> ArrayString<ROOM>
+fn unfinished_text(piece: u32, visited: NodeCount) -> ArrayString<ROOM>
     ensures text { result.bytes ≡ codes "unfinished: piece "
         ++ (decimal piece ++ (codes " after " ++ (decimal visited ++ codes " nodes"))) }
     ensures short { length result.bytes ≤ 80 }
@@ -132,7 +132,7 @@ pub(crate) fn fault_text(fault: &RunFault) -> ArrayString<ROOM>
         RunFault::StillOpen => text_of_words("input: StillOpen"),
         RunFault::Mismatch(why) => mismatch_text(why),
         RunFault::Unfinished { piece, visited } => unfinished_text(piece, visited),
-        // 'Collected' is the word of the published format for a fault of `collected`, which no search ends in.
+        // 'Collected' is the word of the published format for a fault of `result_of_answers`, which no search ends in.
         RunFault::AnswerMissingOrRepeated { piece } => text_with_number(
             "mismatch: Collected ",
             u64::from(piece),

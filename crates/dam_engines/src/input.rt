@@ -14,10 +14,7 @@ use std::io::Read;
 /// The most bytes that are read: one more than a journal may have, which shows that it has too many.
 pub(crate) const MOST_READ: usize = MOST_BYTES + 1;
 
-/// The reader's bytes, to their end or to the first `MOST_READ` of them.
-///
-/// The first failure of the reader ends it, and so does the first read of no bytes. No byte after the first `MOST_READ`
-/// is asked for.
+/// The reader's bytes, to the first read of no bytes or to the first `MOST_READ` of them.
 pub(crate) fn read_input<R: Read>(
     alloc: Global,
     reader: &mut Source<R>,

@@ -74,6 +74,6 @@ pub fn greatest_limit_cuts_no_search()
     ensures covers { (problem : ProblemState) → IsProblem problem
         → node_count (length problem.blocks) ≤ most_nodes }
     ensures whole { (plan : PlanTerms) (book : BookState) (piece visited : ℕ)
-        → IsProblem (problem_of book) → most_nodes ≤ plan.nodes
+        → IsProblem (problem_of book) → most_nodes ≤ plan.node_limit
         → ¬ (IsCutShort plan book piece visited) }
 {}

@@ -22,14 +22,10 @@
 //! ([`laws::cleared_text_is_one`]).
 //!
 //! A reader comes as a [`Source`] and a writer as a [`Sink`], which keep whether they failed, how often they were
-//! asked, and how often the writer was flushed, the last time after all that it took. So the contracts say, of any
-//! reader and writer, that an engine reports each failure of a device and no other, never asks a failed device again,
-//! flushes its text once, makes at most one read per byte that it may read (if the reader shows its bytes, at most one
-//! more than it has), and at most one write per byte of its text.
-//! Only tested is that the counts are of calls that are made (three calls of two lines), that a failure is recorded only
-//! if there was one, that a [`Watch`] is called, and that memory isn't said to have run out if it hasn't.
-//!
-//! The crate doesn't know the command line or terminals.
+//! asked, and how often the writer was flushed. So the contracts say, of any reader and writer, that an engine reports
+//! each failure of a device and no other, never asks a failed device again, flushes its text once, after its last byte,
+//! and asks no more often than there are bytes to read, with one read for the end, and bytes to write.
+//! Only tested is that the counts are of calls that are made, and that a [`Watch`] is called.
 #![tactic(auto)]
 
 mod alone;
@@ -46,7 +42,7 @@ mod watch;
 pub use alone::clear_journal_alone;
 pub use clear::run_clear;
 pub use dam_device::{Sink, Source};
-pub use day::run_day;
+pub use day::{DayPlan, run_day};
 pub use fault::{RunFault, status};
 pub use fixed_line::{fault_line, fixed_fault_line};
 pub use output::write_text;

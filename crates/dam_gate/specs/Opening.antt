@@ -1,5 +1,4 @@
--- What a gate's name stands for: its history, the length of its day, the number of its passes, and the count of its
--- entries.
+-- The gate that a name stands for.
 use Rattle.std.specs.Prelude.{ℕ}
 use Rattle.logbook.specs.Pages.{Book}
 

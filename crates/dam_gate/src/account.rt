@@ -9,8 +9,7 @@ use std::marker::Model;
 /// The record of a pass after its day: its holder, how many entries of the journal it had seen, and a receipt of each
 /// of its own commands that reached the book, in the order of its calls.
 ///
-/// A contract sees the holder, the number seen and the receipts. The receipts are of the holder's own commands; their
-/// numbers increase, and none is above the number seen.
+/// A contract sees the holder, the number seen and the receipts.
 #[derive(Debug, Drop)]
 pub struct Account {
     holder: Option<Participant>,

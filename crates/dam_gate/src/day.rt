@@ -10,11 +10,11 @@ ghost use Rattle.dam_gate.specs.Day.{AreTaken, IsDayFault, IsSettledDay, givers_
 ghost use Rattle.dam_gate.specs.inside.Entering.{AreGivers, IsUnsettled};
 
 use crate::account::Account;
-use crate::entering::enter_before_close;
+use crate::entering::{GateRefusal, enter_before_close};
 use crate::gate::Gate;
 use crate::givers::{check_command_count, find_givers};
 use crate::journal::Journal;
-use crate::opening::{Answered, GateName, Opening};
+use crate::opening::{Answered, DayStart, GateName, Opening};
 use crate::pass::Pass;
 use crate::settlement::{Mismatch, Settled, settle};
 use dam_book::{Command, DayLength, PackedCommand, Participant, Seed};
@@ -41,9 +41,7 @@ pub enum DayFault {
     /// The journal and the passes came out unsettled. By contract, this never happens.
     #[error("not settled: {0}")]
     NotSettled(Mismatch),
-    /// Memory ran out. A call or a pass that the day's gate refuses gives this fault too, since a day leaves no other cause
-    /// but `GateFault::Stopped`, which no test reaches: each command is its pass's to give and has room in the journal, and
-    /// there are as many passes and places as holders.
+    /// Memory ran out.
     #[error("out of memory")]
     Memory,
 }
@@ -64,6 +62,17 @@ impl From<AllocError> for DayFault {
     ghost from_gives = { λ _ fault. fault ≡ Memory };
 
     fn from(_error: AllocError) -> DayFault {
+        DayFault::Memory
+    }
+}
+
+impl From<GateRefusal> for DayFault {
+    ghost use Rattle.std.specs.Prelude.{◌≡◌};
+    ghost use Rattle.dam_gate.specs.declared.day.DayFault.TheVariants.{Memory};
+
+    ghost from_gives = { λ _ fault. fault ≡ Memory };
+
+    fn from(_refusal: GateRefusal) -> DayFault {
         DayFault::Memory
     }
 }
@@ -108,31 +117,30 @@ fn into_accounts_and_parts<J: GateName>(
 fn run_at_own_gate<J: GateName + Send + Sync, R: Threads + Wait + Sync, T: Turnstile + Sync>(
     rt: &R,
     alloc: Global,
-    opening: Opening,
-    periods: DayLength,
-    seed: Seed,
+    start: DayStart,
     turnstile: &T,
     participants: &[Participant],
     commands: &[PackedCommand],
 ) -> Result<SettledDay, DayFault>
-    requires name { opening ≡ J.opening }
-    requires day { opening.periods ≡ periods }
-    requires passes { opening.passes ≡ length participants.now + 1 }
+    requires name { start.opening ≡ J.opening }
+    requires passes { start.opening.passes ≡ length participants.now + 1 }
     requires givers { AreGivers participants.now commands.now }
     requires order { participants.now ≡ givers_of commands.now }
     requires few { length participants.now ≤ most_participants }
     requires taken { AreTaken commands.now }
-    ensures day { IfOk result (IsSettledDay periods commands.now) }
+    ensures day { IfOk result (IsSettledDay start.periods commands.now) }
     ensures err { IfErr result (λ fault. fault ≡ DayFault.Memory) }
 {
-    let gate = Gate::<J, &R>::for_day(rt, alloc, opening, periods, seed)?;
+    let gate = Gate::<J, &R>::for_day(rt, alloc, start)?;
     let passes = enter_before_close(rt, alloc, &gate, turnstile, participants, commands)?;
-    let Ok(mut operator) = gate.issue_operator_pass(rt) else {
-        return Err(DayFault::Memory);
+    let mut operator = match gate.issue_operator_pass(rt) {
+        Ok(operator) => operator,
+        Err(fault) => return Err(DayFault::from(GateRefusal::Pass(fault))),
     };
     learn_from_all(&mut operator, &passes);
-    let Ok(closed) = gate.close_into_locked(&mut operator) else {
-        return Err(DayFault::Memory);
+    let closed = match gate.close_into_locked(&mut operator) {
+        Ok(closed) => closed,
+        Err(fault) => return Err(DayFault::from(GateRefusal::Call(fault))),
     };
     let (accounts, mut parts) = into_accounts_and_parts(alloc, passes, operator)?;
     let journal = closed.into_audited_journal(&mut parts);
@@ -208,14 +216,10 @@ pub fn run_packed<R: Threads + Wait + Sync, T: Turnstile + Sync>(
 {
     let participants = find_givers(alloc, commands)?;
     let opening = Opening::with_passes(periods.get(), participants.len() as u8 + 1);
-    run_at_own_gate::<Brand, R, T>(
-        rt,
-        alloc,
+    let start = DayStart {
         opening,
         periods,
         seed,
-        turnstile,
-        &participants,
-        commands,
-    )
+    };
+    run_at_own_gate::<Brand, R, T>(rt, alloc, start, turnstile, &participants, commands)
 }

@@ -6,7 +6,7 @@ ghost use Rattle.dam_gate.specs.Pass.{Knowledge, IsKnowledge, holders, knowing_n
 ghost use Rattle.dam_gate.specs.inside.Entering.{AreApart, AreServed, Enters, HasAll, commands_at, places_of};
 
 use crate::command_places::{CommandPlaces, find_all_places, places_of};
-use crate::gate::Gate;
+use crate::gate::{Gate, GateFault, PassFault};
 use crate::limits::MOST_PARTICIPANTS;
 use crate::opening::GateName;
 use crate::pass::Pass;
@@ -16,9 +16,25 @@ use std::alloc::{AllocError, Global};
 use std::sync::Wait;
 use std::thread;
 use std::thread::Threads;
+use thiserror::Error;
 
-/// Enters the commands at these places in their order, up to the first that is refused. The fault of that call isn't
-/// kept: a day has only one for it, `DayFault::Memory`, which says why.
+/// Why a day's own gate doesn't take all commands and the close. To the day each is `DayFault::Memory`. It leaves no other
+/// cause but `GateFault::Stopped`, which no test reaches: each command is its pass's to give and has room in the journal,
+/// and there are as many passes and places as holders.
+#[derive(Clone, Copy, Debug, Error)]
+pub(crate) enum GateRefusal {
+    #[error(transparent)]
+    Pass(#[from] PassFault),
+    #[error(transparent)]
+    Call(#[from] GateFault),
+    /// A call of a participant was refused. Its fault stays with the thread.
+    #[error("a participant's call was refused")]
+    CallOfParticipant,
+    #[error(transparent)]
+    Memory(#[from(alloc)] AllocError),
+}
+
+/// Enters the commands at these places in their order, up to the first that is refused.
 fn enter_commands<J: GateName, H: Wait + Drop>(
     rt: &impl Wait,
     gate: &Gate<J, H>,
@@ -94,18 +110,16 @@ fn have_all_entered<J: GateName>(passes: &[Pass<J>], all_places: &[CommandPlaces
     true
 }
 
-/// A pass for the participant, with room for this number of receipts. The error is `DayFault::Memory`.
+/// A pass for the participant, with room for this number of receipts.
 fn issue_pass_with_room<J: GateName, H: Wait + Drop>(
     rt: &impl Wait,
     gate: &Gate<J, H>,
     who: &Participant,
     receipts: usize,
-) -> Result<Pass<J>, AllocError>
+) -> Result<Pass<J>, GateRefusal>
     ensures { IfOk result (λ pass. pass ≡ knowing_nothing (Some who.now)) }
 {
-    let Ok(mut pass) = gate.issue_pass(rt, who.copy()) else {
-        return Err(AllocError);
-    };
+    let mut pass = gate.issue_pass(rt, who.copy())?;
     pass.reserve_receipts(receipts)?;
     Ok(pass)
 }
@@ -117,7 +131,7 @@ fn issue_passes<J: GateName, H: Wait + Drop>(
     gate: &Gate<J, H>,
     participants: &[Participant],
     all_places: &[CommandPlaces],
-) -> Result<Vec<Pass<J>>, AllocError>
+) -> Result<Vec<Pass<J>>, GateRefusal>
     ensures { IfOk result (λ passes.
         passes.items ≡ map (λ who. knowing_nothing (Some who)) participants.now) }
 {
@@ -129,7 +143,7 @@ fn issue_passes<J: GateName, H: Wait + Drop>(
     Ok(passes)
 }
 
-/// The passes through which all commands were entered, one for each participant. The error is `DayFault::Memory`.
+/// The passes through which all commands were entered, one for each participant.
 pub(crate) fn enter_before_close<
     J: GateName + Send + Sync,
     R: Threads + Wait + Sync,
@@ -141,7 +155,7 @@ pub(crate) fn enter_before_close<
     turnstile: &T,
     participants: &[Participant],
     commands: &[PackedCommand],
-) -> Result<Vec<Pass<J>>, AllocError>
+) -> Result<Vec<Pass<J>>, GateRefusal>
     requires few { length participants.now ≤ most_participants }
     requires apart { AreApart participants.now }
     ensures ok { IfOk result (λ passes. AreServed commands.now participants.now
@@ -157,7 +171,7 @@ pub(crate) fn enter_before_close<
     gate.reserve_entries(rt, commands.len() + 1)?;
     enter_all(rt, gate, turnstile, &mut passes, commands, all_places);
     if !have_all_entered(&passes, all_places) {
-        return Err(AllocError);
+        return Err(GateRefusal::CallOfParticipant);
     }
     Ok(passes)
 }

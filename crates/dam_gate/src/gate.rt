@@ -11,7 +11,7 @@ ghost use Rattle.dam_gate.specs.inside.Locked.{entry_of};
 use crate::journal::Journal;
 use crate::keeper::{BeginFault, KeeperFault};
 use crate::locked::Locked;
-use crate::opening::{GateName, Opening};
+use crate::opening::{DayStart, GateName, Opening};
 use crate::pass::Pass;
 use crate::version::{NextShown, Shown};
 use dam_book::{Command, DayLength, Entry, PackedCommand, Participant, Reply, Seed};
@@ -37,7 +37,7 @@ pub enum GateFault {
     #[error("out of memory")]
     Memory,
     /// The gate has stopped: its history didn't take the entry, or the version after it wasn't shown. No clause rules this
-    /// out, but no test reaches it. A caller needn't tell it from other faults: only `Memory` is a reason to call again.
+    /// out or says how later calls end, and no test reaches it. Only `Memory` is a reason to call again.
     #[error("the gate has stopped")]
     Stopped,
 }
@@ -131,22 +131,20 @@ impl<J: GateName, R: Wait + Drop> Gate<J, R> {
         let Some(periods) = DayLength::new(opening.periods()) else {
             return Err(BeginFault::BadDay);
         };
-        Gate::for_day(rt, alloc, opening, periods, seed).map_err(|_| BeginFault::Memory)
+        let start = DayStart {
+            opening,
+            periods,
+            seed,
+        };
+        Gate::for_day(rt, alloc, start).map_err(|_| BeginFault::Memory)
     }
 
     /// The gate of `begin_seeded`, for callers who have the opening's day as a length. The error is out of memory.
-    pub(crate) fn for_day(
-        rt: R,
-        alloc: Global,
-        opening: Opening,
-        periods: DayLength,
-        seed: Seed,
-    ) -> Result<Gate<J, R>, AllocError>
-        requires name { opening ≡ J.opening }
-        requires day { opening.periods ≡ periods }
+    pub(crate) fn for_day(rt: R, alloc: Global, start: DayStart) -> Result<Gate<J, R>, AllocError>
+        requires { start.opening ≡ J.opening }
     {
         Ok(Gate {
-            locked: Mutex::new(Locked::for_day(rt, alloc, opening, periods, seed)?),
+            locked: Mutex::new(Locked::for_day(rt, alloc, start)?),
         })
     }
 

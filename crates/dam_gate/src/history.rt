@@ -72,6 +72,13 @@ pub(crate) struct History<J: GateName> {
     of: PhantomData<J>,
 }
 
+/// The two histories of a pass with which the history of its next call begins.
+#[derive(Drop)]
+pub(crate) struct KnownHistories<'a, J: GateName> {
+    pub(crate) seen: &'a History<J>,
+    pub(crate) learnt: &'a History<J>,
+}
+
 impl<J: GateName> Model for History<J> {
     ghost use Rattle.std.specs.Prelude.{◌≡◌, List, length};
     ghost use Rattle.dam_book.specs.declared.command.Entry.{Entry};
@@ -155,22 +162,21 @@ impl<J: GateName> EntryCounter<J> {
         }
     }
 
-    /// The history with the entry added, if the gate's history is just this one. Everything seen and learnt is a prefix
-    /// of it. `None` if the gate's history is another.
+    /// Adds the entry, if the gate's history is just this one; `None` if it is another.
     pub(crate) fn extend_history(
         &self,
         history: &History<J>,
-        seen_history: &History<J>,
-        learnt: &History<J>,
+        known: &KnownHistories<'_, J>,
         entry: &PackedEntry,
     ) -> Option<History<J>>
         requires few { length history.now < 2 ^ 31 }
         ensures added { IfSome result (λ after. after ≡ history.now ++ entry.now ∷ []) }
-        ensures seen { OnSome result (IsPrefix seen_history.now history.now) }
-        ensures learnt { OnSome result (IsPrefix learnt.now history.now) }
+        ensures seen { OnSome result (IsPrefix known.now.seen.now history.now) }
+        ensures learnt { OnSome result (IsPrefix known.now.learnt.now history.now) }
     {
         let mut all = history.entries.again();
-        all.learn(&seen_history.entries);
+        let (seen, learnt) = (known.seen, known.learnt);
+        all.learn(&seen.entries);
         all.learn(&learnt.entries);
         let mut offer: Offer<PackedEntry, u64, CountRule, Nothing> = all.plain::<
             Nothing,

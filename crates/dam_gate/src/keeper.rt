@@ -59,8 +59,7 @@ pub enum BeginFault {
 /// The book of one day and the journal of the commands that reached it, to which commands are added one by one.
 ///
 /// A contract sees the journal, as its entries and the book, and the number of further entries for which there is room.
-/// The entries are always a legal history, and their commands make the book from the empty book. Others may share the
-/// book: a step replaces it.
+/// Others may share the book: a step replaces it.
 #[derive(Debug, Drop)]
 pub struct Keeper<A: Allocator = Global> {
     books: Books<A>,
@@ -166,10 +165,7 @@ impl<A: Allocator + Copy> Keeper<A> {
 
     /// Prepares the command's step for `append`: it takes all memory of the step, which is the room in the journal, and a
     /// book for the step's result, if the command changes the book. The entry takes over the command, which is decided
-    /// once, for the reply, for the book after it and for the book before.
-    ///
-    /// The journal and the book stay as they are, and the room in the journal doesn't shrink. So a step that was prepared
-    /// for this journal still is.
+    /// once, for the reply, for the book after it and for the book before. A step that was prepared before still is.
     pub fn prepare(&mut self, command: PackedCommand<A>) -> Result<PreparedStep<A>, KeeperFault>
         ensures prepared { IfOk result (IsPreparedFor self.new command) }
         ensures journal { self.new.journal ≡ self.old.journal }
@@ -232,8 +228,6 @@ impl<A: Allocator + Copy> Keeper<A> {
     }
 
     /// Journals the command with the book's reply to it, even if the book refuses it.
-    ///
-    /// All memory is taken before anything changes.
     pub fn apply(&mut self, command: Command) -> Result<Entry, KeeperFault>
         ensures entry { IfOk result (λ entry. entry ≡ next_entry self.old.journal command) }
         ensures step { OnOk result (self.new.journal ≡ journal_after self.old.journal command) }

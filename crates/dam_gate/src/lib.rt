@@ -22,22 +22,12 @@
 //!
 //! - a journal and a [`Settled`]: their entries with the book that these make
 //! - a [`Keeper`]: its journal and the room in it
-//! - a [`Pass`]: its account (its holder, the number of entries that it has seen, and its receipts), the history that
-//!   it has seen, the longest that it has learnt of, and the one that its last call made
-//!
-//! Two passes have seen one history ([`laws::one_history`]).
+//! - a [`Pass`]: its account, the history that it has seen, the longest that it has learnt of, and that of its last call
 //!
 //! About the state under the lock, contracts state only facts of any gate that hold whenever the lock is free: the
 //! journal is a legal one of the day of the gate's name, the passes' receipts together count its entries, and the slot
-//! that is shown has the journal's version in it. So only tests show that
-//!
-//! - a gate begins without an entry, and gives nine passes
-//! - a call journals at this gate and just once, or, if it is refused, not at all
-//! - a look finds the version that is shown
-//! - calls are refused and looks are `None` only if they should be, and `Memory` comes only if memory ran out
-//! - `finish` returns the journal of these calls
-//!
-//! The crate doesn't know texts, clearing prices, or the search for the best selection.
+//! that is shown has the journal's version in it. So only tests show that a gate begins without an entry, that a call
+//! journals at this gate just once, or not at all if it is refused, and that `finish` returns the journal of these calls.
 #![tactic(auto)]
 
 mod account;

@@ -11,14 +11,14 @@ ghost use Rattle.dam_gate.specs.inside.Shown.{IsAtMostNext, IsNext, IsNoteOf, na
 ghost use Rattle.left_right.specs.Handles.{pending, published};
 
 use crate::gate::{GateFault, PassFault};
-use crate::history::{EntryCounter, History};
+use crate::history::{EntryCounter, History, KnownHistories};
 use crate::journal::Journal;
 use crate::keeper::Keeper;
 use crate::limits::MOST_PASSES;
-use crate::opening::{Answered, GateName, NamedOpening, Opening};
+use crate::opening::{Answered, DayStart, GateName, NamedOpening};
 use crate::pass::{FIRST_RECEIPTS, Pass};
 use crate::version::{NextShown, Shown, Slot, Version, filled_slot};
-use dam_book::{Book, DayLength, PackedCommand, PackedEntry, Participant, Reply, Seed};
+use dam_book::{Book, PackedCommand, PackedEntry, Participant, Reply};
 use left_right::{Absorb, WriteHandle};
 use once_cell::race::{Note as CellNote, OnceBox};
 use std::alloc::{AllocError, Global};
@@ -28,9 +28,7 @@ use std::sync::{Arc, Wait};
 
 /// The state under the lock: the keeper, and the parts that publish its versions.
 ///
-/// A contract sees the journal, and how many passes were given. Whenever the lock is free, the history of the name `J`
-/// that it has is exactly the journal's entries, the day is the name's day, the slot that is shown has the journal's
-/// version in it, and the passes' calls were answered with as many entries as there are.
+/// A contract sees the journal, and how many passes were given. The invariant holds whenever the lock is free.
 #[derive(Drop)]
 pub(crate) struct Locked<J: GateName, R: Wait + Drop>
 where
@@ -154,38 +152,41 @@ fn release_earlier_version<J: GateName, R: Wait + Drop>(
     let _shown = writer.publish();
 }
 
-/// The history after the entry. Its version is then in the slot, as the note of the slot's cell shows, and the writer has
-/// published the slots that waited. `None` if the gate has stopped: the history goes on in another way, the slot was full,
-/// or the writer didn't publish.
-///
-/// The next version takes the place of the present one in its box, because no memory may be refused once the history
-/// has gone on.
+/// The memory of the version after a step, all taken before the history goes on: the book, the slot in which looks find
+/// the version, and its box, in which the present version is until then.
+#[derive(Drop)]
+struct NextVersion<J: GateName> {
+    book: Arc<Book, Global>,
+    slot: Slot<J>,
+    version: Box<Version<J>>,
+}
+
+/// Adds the entry to the history, puts its version into the slot, and publishes. `None` if the gate has stopped: the
+/// history goes on in another way, the slot was full, or the writer didn't publish.
 fn extend_history_and_show<J: GateName, R: Wait + Drop>(
     entry_counter: &EntryCounter<J>,
     history: &History<J>,
-    seen_history: &History<J>,
-    learnt: &History<J>,
+    known: &KnownHistories<'_, J>,
     entry: &PackedEntry,
-    book: Arc<Book, Global>,
-    slot: &Slot<J>,
-    mut version: Box<Version<J>>,
+    next: NextVersion<J>,
     writer: &mut WriteHandle<Shown<J>, NextShown<J>, R>,
 ) -> Option<(History<J>, CellNote<Version<J>>)>
     requires journal { IsJournal
-        (record { entries = history.now ++ entry.now ∷ []; book = arc_value book }) }
-    requires day { (arc_value book).periods ≡ J.opening.periods }
+        (record { entries = history.now ++ entry.now ∷ []; book = arc_value next.book }) }
+    requires day { (arc_value next.book).periods ≡ J.opening.periods }
     ensures history { IfSome result (λ r. r.0 ≡ history.now ++ entry.now ∷ []) }
-    ensures shown { IfSome result (λ r. IsNoteOf (slot_name slot.now)
-        (record { entries = history.now ++ entry.now ∷ []; book = arc_value book }) r.1) }
-    ensures seen { OnSome result (IsPrefix seen_history.now history.now) }
-    ensures learnt { OnSome result (IsPrefix learnt.now history.now) }
+    ensures shown { IfSome result (λ r. IsNoteOf (slot_name next.slot)
+        (record { entries = history.now ++ entry.now ∷ []; book = arc_value next.book }) r.1) }
+    ensures seen { OnSome result (IsPrefix known.now.seen.now history.now) }
+    ensures learnt { OnSome result (IsPrefix known.now.learnt.now history.now) }
     ensures published { OnSome result (slot_name (published writer.new).slot
         ≡ name_after (slot_name (published writer.old).slot) (pending writer.old)) }
     ensures waiting { OnSome result (pending writer.new ≡ []) }
     ensures unpublished { IfNone result (published writer.new ≡ published writer.old) }
     ensures still_waiting { IfNone result (pending writer.new ≡ pending writer.old) }
 {
-    let Some(after) = entry_counter.extend_history(history, seen_history, learnt, entry) else {
+    let (book, slot, mut version) = (next.book, next.slot, next.version);
+    let Some(after) = entry_counter.extend_history(history, known, entry) else {
         return None;
     };
     *version = Version::new(book, after.copy());
@@ -201,18 +202,12 @@ fn extend_history_and_show<J: GateName, R: Wait + Drop>(
 
 impl<J: GateName, R: Wait + Drop> Locked<J, R> {
     /// A day without entries, whose first version is shown.
-    pub(crate) fn for_day(
-        rt: R,
-        alloc: Global,
-        opening: Opening,
-        periods: DayLength,
-        seed: Seed,
-    ) -> Result<Locked<J, R>, AllocError>
-        requires name { opening ≡ J.opening }
-        requires day { opening.periods ≡ periods }
+    pub(crate) fn for_day(rt: R, alloc: Global, start: DayStart) -> Result<Locked<J, R>, AllocError>
+        requires { start.opening ≡ J.opening }
         ensures { IfOk result (λ locked.
-            locked ≡ record { journal = empty_journal opening.periods; passes = 0 }) }
+            locked ≡ record { journal = empty_journal start.opening.periods; passes = 0 }) }
     {
+        let (opening, periods, seed) = (start.opening, start.periods, start.seed);
         let keeper = Keeper::for_day(alloc, periods, seed)?;
         let most_passes = opening.passes();
         let NamedOpening {
@@ -304,8 +299,7 @@ impl<J: GateName, R: Wait + Drop> Locked<J, R> {
     /// caller's part counts the entry.
     pub(crate) fn journal_and_publish(
         &mut self,
-        seen_history: &History<J>,
-        learnt: &History<J>,
+        known: &KnownHistories<'_, J>,
         part: &mut LedgerPart<Answered<J>>,
         command: PackedCommand,
     ) -> Result<((u32, Reply), History<J>), GateFault>
@@ -318,8 +312,8 @@ impl<J: GateName, R: Wait + Drop> Locked<J, R> {
         ensures journal { OnOk result
             (self.new.journal ≡ journal_after self.old.journal command) }
         ensures passes { self.new.passes ≡ self.old.passes }
-        ensures seen { OnOk result (IsPrefix seen_history.now self.old.journal.entries) }
-        ensures learnt { OnOk result (IsPrefix learnt.now self.old.journal.entries) }
+        ensures seen { OnOk result (IsPrefix known.now.seen.now self.old.journal.entries) }
+        ensures learnt { OnOk result (IsPrefix known.now.learnt.now self.old.journal.entries) }
         ensures parts { part.new.parts ≡ part.old.parts }
         ensures counted { OnOk result (part.new.amount ≡ part.old.amount + 1) }
         ensures uncounted { OnErr result (part.new.amount ≡ part.old.amount) }
@@ -336,12 +330,13 @@ impl<J: GateName, R: Wait + Drop> Locked<J, R> {
         let Some((after, shown_note)) = extend_history_and_show(
             &self.entry_counter,
             &self.history,
-            seen_history,
-            learnt,
+            known,
             entry,
-            book,
-            &slot,
-            version,
+            NextVersion {
+                book,
+                slot,
+                version,
+            },
             &mut self.writer,
         ) else {
             return Err(GateFault::Stopped);

@@ -6,7 +6,7 @@ ghost use Rattle.dam_gate.specs.inside.History.{count_of};
 
 use crate::history::{CountRule, EntryCounter, History};
 use crate::limits::MOST_PASSES;
-use dam_book::PackedEntry;
+use dam_book::{DayLength, PackedEntry, Seed};
 use logbook::{Seen, Start, Word};
 use std::marker::{Brand, Model, PhantomData};
 use std::sync::ledger::{Blank as BlankLedger, Book as LedgerTotal, Ledger, Share as LedgerPart};
@@ -128,6 +128,15 @@ impl Opening {
             unissued_parts,
         }
     }
+}
+
+/// The start of a gate's day: its opening, with the length of the day, and the seed by which its book hashes names.
+#[derive(Drop)]
+pub(crate) struct DayStart {
+    pub(crate) opening: Opening,
+    pub(crate) periods: DayLength,
+    pub(crate) seed: Seed,
+    ghost same_day: { opening.periods ≡ periods },
 }
 
 /// An opening under its name: the word that counts the entries, the empty history, and the ledger of the entries with all

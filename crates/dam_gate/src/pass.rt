@@ -11,7 +11,7 @@ ghost use Rattle.dam_gate.specs.inside.Locked.{entry_of};
 
 use crate::account::Account;
 use crate::gate::GateFault;
-use crate::history::History;
+use crate::history::{History, KnownHistories};
 use crate::locked::Locked;
 use crate::opening::{Answered, GateName};
 use crate::version::{NextShown, Shown};
@@ -227,12 +227,11 @@ impl<J: GateName> Pass<J> {
         let _keeper = locked.keeper(); // for the proof: the invariant of a journal
         self.receipts.reserve(1)?;
         let received = command.clone()?;
-        let (answer, after) = locked.journal_and_publish(
-            &self.history,
-            &self.learnt,
-            &mut self.part,
-            command,
-        )?;
+        let known = KnownHistories {
+            seen: &self.history,
+            learnt: &self.learnt,
+        };
+        let (answer, after) = locked.journal_and_publish(&known, &mut self.part, command)?;
         self.receipts
             .push_reserved(PackedEntry::new(answer.0, received, answer.1));
         self.note = Some(Note {

@@ -1,11 +1,8 @@
 -- The answers of the parts of a clearing, from the totals at the least supporting price.
-use Rattle.std.proofs.Common.{◌≡◌, ℕ, ◌-◌, ℤ, pos, ◌+ℤ◌, ◌*ℤ◌, Some, None, List, take, ap, ◌∙◌, sym, subst}
-use Rattle.std.specs.List.{slice_get}
-use Rattle.dam_book.specs.declared.order.Side.TheVariants.{Buy, Sell}
-use Rattle.dam_hour.specs.declared.step.Step.{Step}
-use Rattle.dam_hour.specs.Execution.{IsWithinOffers, IsUnbalanced}
-use Rattle.dam_hour.specs.Best.{IsBest, AreBestTotals, greatest_welfare}
-use Rattle.dam_hour.specs.inside.Volumes.{margin_of, at_volume, better_volume, full_surplus, share, fill, total_on, AreTotals}
+use Rattle.dam_hour.proofs.Common.{◌≡◌, ℕ, ◌-◌, ℤ, pos, ◌+ℤ◌, ◌*ℤ◌, Some, None, List, take, ap, ◌∙◌, sym, subst, slice_get, Buy, Sell, Step, IsWithinOffers}
+use Rattle.dam_hour.proofs.Common.{IsUnbalanced, IsBest, AreBestTotals, margin_of, at_volume, better_volume, full_surplus, share, volumes_in_turn, total_on}
+use Rattle.dam_hour.proofs.Common.{AreTotals}
+use Rattle.dam_hour.specs.Best.{greatest_welfare}
 use Rattle.dam_hour.proofs.FilledExecution.{fill_place, execution_past}
 use Rattle.dam_hour.proofs.Totals.{best_at, left_at, best_is_best, best_bought, best_sold, best_welfare}
 use Rattle.dam_hour.proofs.VolumesInTurn.{fill_from_totals}
@@ -51,7 +48,7 @@ past_answer steps steps' net i e past xs best =
 -- the whole best execution
 pub execution_answer : (steps : List Step) (net p : ℤ) (bought sold buys sells : ℕ) (out : List ℕ)
     → AreTotals steps net p bought sold → buys ≡ bought - better_volume Buy p steps
-    → sells ≡ sold - better_volume Sell p steps → out ≡ fill p steps (λ side. total_on side buys sells)
+    → sells ≡ sold - better_volume Sell p steps → out ≡ volumes_in_turn p steps (λ side. total_on side buys sells)
     → IsBest steps net out
 execution_answer steps net p bought sold buys sells out t b s filled =
     subst (λ (xs : List ℕ). IsBest steps net xs) (sym (fill_from_totals p steps bought sold buys sells out b s filled))

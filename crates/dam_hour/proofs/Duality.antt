@@ -1,13 +1,7 @@
 -- Welfare by surplus: an execution that a price supports gains the most at that price, and no other one does.
-use Rattle.std.proofs.Common.{◌≡◌, ℕ, ◌+◌, ◌*◌, ℤ, pos, ◌+ℤ◌, ◌-ℤ◌, ◌*ℤ◌, ◌≤ℤ◌, List, [], ◌∷◌, refl, arith}
-use Rattle.std.proofs.lemmas.Int.{ints}
-use Rattle.dam_book.specs.declared.order.Side.{Side}
-use Rattle.dam_book.specs.declared.order.Side.TheVariants.{Buy, Sell}
-use Rattle.dam_hour.specs.declared.step.Step.{Step}
-use Rattle.dam_hour.specs.Execution.{IsExecution, executed_volume, volume_on, Balances}
-use Rattle.dam_hour.specs.Best.{signed, welfare_of, execution_surplus}
-use Rattle.dam_hour.specs.Price.{IsBetter, IsWorse, Supports}
-use Rattle.dam_hour.specs.inside.Volumes.{margin_of, above_zero, full_surplus}
+use Rattle.dam_hour.proofs.Common.{◌≡◌, ℕ, ◌+◌, ◌*◌, ℤ, pos, ◌+ℤ◌, ◌-ℤ◌, ◌*ℤ◌, ◌≤ℤ◌, List, [], ◌∷◌, refl, arith, ints, Side, Buy, Sell, Step, IsExecution}
+use Rattle.dam_hour.proofs.Common.{executed_volume, volume_on, Balances, signed, welfare_of, IsBetter, IsWorse, Supports, margin_of, above_zero, full_surplus}
+use Rattle.dam_hour.specs.Best.{execution_surplus}
 use Rattle.dam_hour.proofs.Numbers.{minus_times, plus_times, times_net, signed_times, full_or_none, at_most_full, full_where_better}
 use Rattle.dam_hour.proofs.Numbers.{none_where_worse, margin_better, margin_worse, better_margin, worse_margin}
 

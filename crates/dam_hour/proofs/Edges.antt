@@ -1,16 +1,10 @@
 -- The ends of the supporting prices, from where the best execution ends among the buys.
-use Rattle.std.proofs.Common.{◌≡◌, ℕ, zero, suc, ◌+◌, ◌<◌, ◌≤◌, ℤ, pos, negsuc, ◌+ℤ◌, ◌-ℤ◌, ◌≤ℤ◌, ◌<ℤ◌, List, [], ◌∷◌, inl, inr, subst}
-use Rattle.std.proofs.Common.{arith}
+use Rattle.dam_hour.proofs.Common.{◌≡◌, ℕ, zero, suc, ◌+◌, ◌<◌, ◌≤◌, ℤ, pos, negsuc, ◌+ℤ◌, ◌-ℤ◌, ◌≤ℤ◌, ◌<ℤ◌, List, [], ◌∷◌, inl, inr, subst, arith, ints}
+use Rattle.dam_hour.proofs.Common.{by_lt_z, IsPrice, lowest_price, highest_price, Side, Buy, Sell, Step, AreInRange, IsWithinOffers, offered_volume, volume_on}
+use Rattle.dam_hour.proofs.Common.{margin_of, if_better, if_at, IsHighEnough, IsLowEnough, IsLeastHighEnough, IsGreatestLowEnough, IsLimitOfSell}
 use Rattle.std.specs.Int.{int_min, int_max}
-use Rattle.std.proofs.lemmas.Int.{ints, clamps, by_lt_z}
-use Rattle.dam_book.specs.Price.{IsPrice}
-use Rattle.dam_book.specs.Limits.{lowest_price, highest_price}
-use Rattle.dam_book.specs.declared.order.Side.{Side}
-use Rattle.dam_book.specs.declared.order.Side.TheVariants.{Buy, Sell}
-use Rattle.dam_hour.specs.declared.step.Step.{Step}
-use Rattle.dam_hour.specs.Execution.{AreInRange, IsWithinOffers, offered_volume, volume_on}
-use Rattle.dam_hour.specs.inside.Volumes.{margin_of, if_better, if_at, IsHighEnough, IsLowEnough, IsLeastHighEnough, IsGreatestLowEnough}
-use Rattle.dam_hour.specs.inside.Edge.{not_worse_volume, IsEdge, IsLimitOfSell}
+use Rattle.std.proofs.lemmas.Int.{clamps}
+use Rattle.dam_hour.specs.inside.Edge.{not_worse_volume, IsEdge}
 use Rattle.dam_hour.proofs.Supporting.{better_volume_above, not_worse_above, highest_enough, lowest_enough}
 use Rattle.dam_hour.proofs.Positions.{not_worse_is_better}
 

@@ -1,15 +1,14 @@
 -- The greatest welfare over all executions is the best execution's.
-use Rattle.std.proofs.Common.{◌≡◌, ℕ, zero, suc, ◌≤◌, ℤ, pos, ◌+ℤ◌, ◌≤ℤ◌, Bool, true, false, cond, Some, None, List, [], ◌∷◌, ◌++◌, map}
-use Rattle.std.proofs.Common.{◌⊎◌, inl, inr, ap, ◌∙◌, sym, subst, refl, arith}
+use Rattle.dam_hour.proofs.Common.{◌≡◌, ℕ, zero, suc, ◌≤◌, ℤ, pos, ◌+ℤ◌, ◌≤ℤ◌, Bool, true, false, Some, None, List, [], ◌∷◌, ◌++◌, ◌⊎◌, inl, inr, ap, ◌∙◌, sym}
+use Rattle.dam_hour.proofs.Common.{subst, refl, arith, ints, by_lt_z, cases_lt, Buy, Sell, Step, IsExecution, executed_volume, Balances, IsUnbalanced, IsBest}
+use Rattle.dam_hour.proofs.Common.{welfare_of}
+use Rattle.std.proofs.Common.{cond, map}
 use Rattle.std.specs.List.{fold, filter, flat_map}
 use Rattle.std.specs.Int.{int_max}
-use Rattle.std.proofs.lemmas.Int.{ints, clamps, by_lt_z}
-use Rattle.std.proofs.lemmas.Bool.{cases_lt}
+use Rattle.std.proofs.lemmas.Int.{clamps}
 use Rattle.std.proofs.lemmas.Bool.Decides.{Decides-int_eq}
-use Rattle.dam_book.specs.declared.order.Side.TheVariants.{Buy, Sell}
-use Rattle.dam_hour.specs.declared.step.Step.{Step}
-use Rattle.dam_hour.specs.Execution.{IsExecution, executed_volume, Balances, IsBalanced, IsUnbalanced}
-use Rattle.dam_hour.specs.Best.{IsBest, welfare_of, up_to, executions, does_balance, greatest_of, greatest_welfare}
+use Rattle.dam_hour.specs.Execution.{IsBalanced}
+use Rattle.dam_hour.specs.Best.{up_to, executions, does_balance, greatest_of, greatest_welfare}
 
 -- x is an element of the list
 abbrev Among : {X : Type 0} → X → List X → Type 0

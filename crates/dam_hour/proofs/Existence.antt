@@ -1,17 +1,10 @@
 -- If the net volume is within the offers, there are a balanced execution, the ends and a best execution; there is only
 -- one pair of ends, and only one best execution.
-use Rattle.std.proofs.Common.{◌≡◌, ℕ, zero, suc, min, ◌-◌, ◌≤◌, ℤ, pos, negsuc, neg_ℤ, ◌+ℤ◌, ◌-ℤ◌, ◌≤ℤ◌, List, [], ◌∷◌, inl, inr, ap, ap₂}
-use Rattle.std.proofs.Common.{◌∙◌, sym, refl, arith}
-use Rattle.std.proofs.lemmas.Int.{ints, by_lt_z}
-use Rattle.dam_book.specs.Limits.{lowest_price, highest_price}
-use Rattle.dam_book.specs.declared.order.Side.{Side}
-use Rattle.dam_book.specs.declared.order.Side.TheVariants.{Buy, Sell}
-use Rattle.dam_hour.specs.Limits.{price_span}
-use Rattle.dam_hour.specs.declared.step.Step.{Step}
-use Rattle.dam_hour.specs.Execution.{AreInRange, IsExecution, IsWithinOffers, executed_volume, offered_volume, volume_on, IsBalanced}
-use Rattle.dam_hour.specs.Price.{AreEnds}
-use Rattle.dam_hour.specs.Best.{AtMostInOrder, IsBest, welfare_of}
-use Rattle.dam_hour.specs.inside.Volumes.{total_on, IsHighEnough, IsLowEnough, IsLeastHighEnough, IsGreatestLowEnough}
+use Rattle.dam_hour.proofs.Common.{◌≡◌, ℕ, zero, suc, min, ◌-◌, ◌≤◌, ℤ, pos, negsuc, neg_ℤ, ◌+ℤ◌, ◌-ℤ◌, ◌≤ℤ◌, List, [], ◌∷◌, inl, inr, ap, ap₂, ◌∙◌, sym, refl}
+use Rattle.dam_hour.proofs.Common.{arith, ints, by_lt_z, lowest_price, highest_price, Side, Buy, Sell, price_span, Step, AreInRange, IsExecution}
+use Rattle.dam_hour.proofs.Common.{IsWithinOffers, executed_volume, offered_volume, volume_on, AreEnds, AtMostInOrder, IsBest, welfare_of, total_on}
+use Rattle.dam_hour.proofs.Common.{IsHighEnough, IsLowEnough, IsLeastHighEnough, IsGreatestLowEnough}
+use Rattle.dam_hour.specs.Execution.{IsBalanced}
 use Rattle.dam_hour.proofs.FilledExecution.{fill_total_step}
 use Rattle.dam_hour.proofs.Totals.{totals_at, best_at, best_is_best}
 use Rattle.dam_hour.proofs.Supporting.{higher, lower, high_or_next_low, low_or_previous_high, highest_enough, lowest_enough, ends_from}

@@ -1,17 +1,8 @@
 -- One order at a supporting price and in the best execution.
-use Rattle.std.proofs.Common.{◌≡◌, ℕ, zero, suc, ◌+◌, ◌*◌, ◌<◌, ◌≤◌, ℤ, pos, ◌+ℤ◌, ◌-ℤ◌, ◌*ℤ◌, ◌≤ℤ◌, Some, List, [], ◌∷◌, inl, inr}
-use Rattle.std.proofs.Common.{ap, ap₂, ◌∙◌, sym, subst, refl, arith}
-use Rattle.std.specs.List.{slice_get}
-use Rattle.std.proofs.lemmas.Int.{ints}
-use Rattle.std.proofs.lemmas.Bool.{cases_lt}
-use Rattle.dam_book.specs.declared.order.Side.{Side}
-use Rattle.dam_book.specs.declared.order.Side.TheVariants.{Buy, Sell}
-use Rattle.dam_hour.specs.declared.step.Step.{Step}
-use Rattle.dam_hour.specs.Execution.{IsExecution, executed_volume, volume_on}
-use Rattle.dam_hour.specs.Best.{signed, welfare_of, AtMostInOrder, IsBest}
-use Rattle.dam_hour.specs.Price.{IsBetter, IsWorse, Supports, price_between}
+use Rattle.dam_hour.proofs.Common.{◌≡◌, ℕ, zero, suc, ◌+◌, ◌*◌, ◌<◌, ◌≤◌, ℤ, pos, ◌+ℤ◌, ◌-ℤ◌, ◌*ℤ◌, ◌≤ℤ◌, Some, List, [], ◌∷◌, inl, inr, ap, ap₂, ◌∙◌, sym}
+use Rattle.dam_hour.proofs.Common.{subst, refl, arith, slice_get, ints, cases_lt, Side, Buy, Sell, Step, IsExecution, executed_volume, volume_on, signed}
+use Rattle.dam_hour.proofs.Common.{welfare_of, AtMostInOrder, IsBest, IsBetter, IsWorse, Supports, price_between, margin_of, above_zero}
 use Rattle.dam_hour.specs.Market.{order_surplus, IsExecutedAt}
-use Rattle.dam_hour.specs.inside.Volumes.{margin_of, above_zero}
 use Rattle.dam_hour.proofs.Numbers.{signed_times, full_or_none, at_most_full, better_margin, worse_margin}
 use Rattle.dam_hour.proofs.Joining.{volume_at_most}
 use Rattle.dam_hour.proofs.Midpoint.{price_lies_between}

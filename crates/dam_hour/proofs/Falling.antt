@@ -1,10 +1,8 @@
 -- The prices fall as the net volume rises.
-use Rattle.std.proofs.Common.{◌≡◌, ℕ, suc, ◌+◌, ◌*◌, ◌≤◌, ◌<◌, nat_abs, ℤ, pos, ◌+ℤ◌, ◌-ℤ◌, ◌*ℤ◌, ◌≤ℤ◌, ◌<ℤ◌, List, ap, ap₂, subst, arith}
-use Rattle.std.proofs.lemmas.Int.{ints, by_lt_z}
-use borrow.Author.Differences.{up, down}
+use Rattle.dam_hour.proofs.Common.{◌≡◌, ℕ, suc, ◌+◌, ◌*◌, ◌≤◌, ◌<◌, ℤ, pos, ◌+ℤ◌, ◌-ℤ◌, ◌*ℤ◌, ◌≤ℤ◌, ◌<ℤ◌, List, ap, ap₂, subst, arith, ints, by_lt_z, up, down}
+use Rattle.dam_hour.proofs.Common.{Step, IsSupporting, AreEnds, price_between}
+use Rattle.std.proofs.Common.{nat_abs}
 use Rattle.std.proofs.Math.Nat.{mul-le-mul_left}
-use Rattle.dam_hour.specs.declared.step.Step.{Step}
-use Rattle.dam_hour.specs.Price.{IsSupporting, AreEnds, price_between}
 use Rattle.dam_hour.proofs.Duality.{welfare_balanced, surplus_greatest}
 use Rattle.dam_hour.proofs.Existence.{ends_unique}
 use Rattle.dam_hour.proofs.Midpoint.{price_lies_between}

@@ -1,16 +1,8 @@
 -- The execution that a price supports and that comes last in book order: the better steps have their whole volume, and
 -- the steps at the price are filled in book order.
-use Rattle.std.proofs.Common.{◌≡◌, ℕ, zero, suc, min, ◌+◌, ◌-◌, ◌<◌, ◌≤◌, ℤ, pos, negsuc, ◌<ℤ◌, List, [], ◌∷◌, Some, None, take, ap, ◌∙◌}
-use Rattle.std.proofs.Common.{refl, arith}
-use Rattle.std.specs.List.{slice_get}
-use Rattle.std.proofs.lemmas.Int.{ints}
-use Rattle.dam_book.specs.declared.order.Side.{Side}
-use Rattle.dam_book.specs.declared.order.Side.TheVariants.{Buy, Sell}
-use Rattle.dam_hour.specs.declared.step.Step.{Step}
-use Rattle.dam_hour.specs.Execution.{IsExecution, executed_volume, offered_volume, volume_on}
-use Rattle.dam_hour.specs.Best.{AtMostInOrder}
-use Rattle.dam_hour.specs.Price.{Supports}
-use Rattle.dam_hour.specs.inside.Volumes.{margin_of, if_better, if_at, better_volume, at_volume, share, fill}
+use Rattle.dam_hour.proofs.Common.{◌≡◌, ℕ, zero, suc, min, ◌+◌, ◌-◌, ◌<◌, ◌≤◌, ℤ, pos, negsuc, ◌<ℤ◌, List, [], ◌∷◌, Some, None, take, ap, ◌∙◌, refl, arith}
+use Rattle.dam_hour.proofs.Common.{slice_get, ints, Side, Buy, Sell, Step, IsExecution, executed_volume, offered_volume, volume_on, AtMostInOrder, Supports}
+use Rattle.dam_hour.proofs.Common.{margin_of, if_better, if_at, better_volume, at_volume, share, volumes_in_turn}
 use Rattle.dam_hour.proofs.Numbers.{margin_better, margin_worse, better_margin, worse_margin}
 
 -- the executed volume of one side at the price
@@ -80,7 +72,7 @@ share_fits (pos zero) q left = omega arith
 share_fits (pos (suc n)) q left = omega arith
 share_fits (negsuc n) q left = omega arith
 
-pub fill_fits : (p : ℤ) (ss : List Step) (left : Side → ℕ) → IsExecution ss (fill p ss left)
+pub fill_fits : (p : ℤ) (ss : List Step) (left : Side → ℕ) → IsExecution ss (volumes_in_turn p ss left)
 fill_fits p [] left = tt
 fill_fits p (s ∷ ss) left = (share_fits (margin_of s.side s.price p) s.qty (left s.side), fill_fits p ss _)
 
@@ -93,7 +85,7 @@ share_worse : (m : ℤ) (q left : ℕ) → m <ℤ pos 0 → share m q left ≡ 0
 share_worse (pos n) q left l = let no : 0 < 0 = omega (arith, ints) in omega (arith, no)
 share_worse (negsuc n) q left l = refl
 
-pub fill_supported : (p : ℤ) (ss : List Step) (left : Side → ℕ) → Supports p ss (fill p ss left)
+pub fill_supported : (p : ℤ) (ss : List Step) (left : Side → ℕ) → Supports p ss (volumes_in_turn p ss left)
 fill_supported p [] left = tt
 fill_supported p (s ∷ ss) left = (
   (λ b. share_better (margin_of s.side s.price p) s.qty (left s.side) (margin_better s.side s.price p b)),
@@ -117,12 +109,12 @@ fill_total_step Buy Sell m q a b e left h = omega arith
 fill_total_step Sell Buy m q a b e left h = omega arith
 
 pub fill_total : (side : Side) (p : ℤ) (ss : List Step) (left : Side → ℕ)
-    → executed_volume side ss (fill p ss left) ≡ better_volume side p ss + min (at_volume side p ss) (left side)
+    → executed_volume side ss (volumes_in_turn p ss left) ≡ better_volume side p ss + min (at_volume side p ss) (left side)
 fill_total side p [] left = omega arith
 fill_total side p (s ∷ ss) left =
     let m = margin_of s.side s.price p in
     let next : Side → ℕ = λ side. left side - volume_on side s.side (if_at m s.qty) in
-    fill_total_step side s.side m s.qty (at_volume side p ss) (better_volume side p ss) (executed_volume side ss (fill p ss next)) left
+    fill_total_step side s.side m s.qty (at_volume side p ss) (better_volume side p ss) (executed_volume side ss (volumes_in_turn p ss next)) left
     (fill_total side p ss next)
 
 -- no supported execution that takes at most the volume that is left comes after it in order
@@ -149,7 +141,7 @@ own_leaves Buy m x t left l = l
 own_leaves Sell m x t left l = l
 
 pub fill_last : (p : ℤ) (ss : List Step) (xs : List ℕ) (left : Side → ℕ) → IsExecution ss xs → Supports p ss xs
-    → ((side : Side) → taken side p ss xs ≤ left side) → AtMostInOrder xs (fill p ss left)
+    → ((side : Side) → taken side p ss xs ≤ left side) → AtMostInOrder xs (volumes_in_turn p ss left)
 fill_last p [] [] left e h l = tt
 fill_last p [] (x ∷ xs) left e h l = absurd e
 fill_last p (s ∷ ss) [] left e h l = absurd e
@@ -168,7 +160,7 @@ less_twice : (side own : Side) (m : ℤ) (q t : ℕ) (left : Side → ℕ)
 less_twice side own m q t left = omega arith
 
 pub fill_place : (p : ℤ) (ss : List Step) (i : ℕ) (s : Step) (left : Side → ℕ) → slice_get ss i ≡ Some s
-    → slice_get (fill p ss left) i ≡ Some (share (margin_of s.side s.price p) s.qty (left s.side - at_volume s.side p (take i ss)))
+    → slice_get (volumes_in_turn p ss left) i ≡ Some (share (margin_of s.side s.price p) s.qty (left s.side - at_volume s.side p (take i ss)))
 fill_place p [] i s left e = cc
 fill_place p (t ∷ ss) zero s left e =
     let same : t ≡ s = cc in

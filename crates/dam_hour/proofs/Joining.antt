@@ -1,11 +1,6 @@
 -- The length of an execution, its volume at a place, and executions one after the other.
-use Rattle.std.proofs.Common.{◌≡◌, ℕ, zero, suc, ◌+◌, ◌≤◌, ◌+ℤ◌, List, [], ◌∷◌, ◌++◌, length, Some, ap, refl, arith}
-use Rattle.std.specs.List.{slice_get}
-use Rattle.std.proofs.lemmas.Int.{ints}
-use Rattle.dam_book.specs.declared.order.Side.{Side}
-use Rattle.dam_hour.specs.declared.step.Step.{Step}
-use Rattle.dam_hour.specs.Execution.{IsExecution, executed_volume}
-use Rattle.dam_hour.specs.Best.{welfare_of}
+use Rattle.dam_hour.proofs.Common.{◌≡◌, ℕ, zero, suc, ◌+◌, ◌≤◌, ◌+ℤ◌, List, [], ◌∷◌, ◌++◌, length, Some, ap, refl, arith, slice_get, ints, Side, Step}
+use Rattle.dam_hour.proofs.Common.{IsExecution, executed_volume, welfare_of}
 
 pub execution_length : (ss : List Step) (xs : List ℕ) → IsExecution ss xs → length xs ≡ length ss
 execution_length [] [] e = refl

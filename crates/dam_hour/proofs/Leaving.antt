@@ -1,25 +1,16 @@
 -- A step that leaves a period: its ladder without it, and the steps that stay on each side.
-use Rattle.std.proofs.Common.{◌≡◌, ℕ, zero, suc, ◌+◌, ◌-◌, ◌*◌, ◌==◌, ◌<◌, ◌≤◌, ℤ, pos, neg_ℤ, ◌+ℤ◌, ◌*ℤ◌, ◌≤ℤ◌, Bool, true, false, cond}
-use Rattle.std.proofs.Common.{not, nat_lt, lt-ltb, le-ltb, inl, inr, List, [], ◌∷◌, ◌++◌, length, drop, get_or, map, ap, ◌∙◌, sym}
-use Rattle.std.proofs.Common.{subst, refl, arith}
+use Rattle.dam_hour.proofs.Common.{◌≡◌, ℕ, zero, suc, ◌+◌, ◌-◌, ◌*◌, ◌<◌, ◌≤◌, ℤ, pos, neg_ℤ, ◌+ℤ◌, ◌*ℤ◌, ◌≤ℤ◌, Bool, true, false, inl, inr, List, [], ◌∷◌}
+use Rattle.dam_hour.proofs.Common.{◌++◌, length, drop, get_or, ap, ◌∙◌, sym, subst, refl, arith, IsNonDecreasingBy, cases_lt, ints, length-map, Side, Buy, Sell}
+use Rattle.dam_hour.proofs.Common.{Step, PlacedStep, Rung, greatest_volume, most_steps, greatest_value, AreInRange, volume_on, rank_of, sort_key_of, total}
+use Rattle.dam_hour.proofs.Common.{total_value, rungs_from, placed_of, side_total, AreOfSide}
+use Rattle.std.proofs.Common.{◌==◌, cond, not, nat_lt, lt-ltb, le-ltb, map}
 use Rattle.std.specs.List.{remove, filter}
-use Rattle.std.specs.List.Sorted.{IsNonDecreasingBy}
-use Rattle.std.proofs.lemmas.Bool.{cases_lt, eq-eqb, ne_eqb}
-use Rattle.std.proofs.lemmas.Int.{ints}
-use Rattle.std.proofs.lemmas.List.{get_or-map, length-map, drop_all}
+use Rattle.std.proofs.lemmas.Bool.{eq-eqb, ne_eqb}
+use Rattle.std.proofs.lemmas.List.{get_or-map, drop_all}
 use Rattle.std.proofs.lemmas.List.Edits.{length-remove}
 use Rattle.std.proofs.lemmas.List.Kept.{IsNonDecreasingBy-filter}
 use Rattle.std.proofs.lemmas.Nat.{mod-mul-add}
-use Rattle.dam_book.specs.declared.order.Side.{Side}
-use Rattle.dam_book.specs.declared.order.Side.TheVariants.{Buy, Sell}
-use Rattle.dam_hour.specs.declared.step.Step.{Step}
-use Rattle.dam_hour.specs.declared.ladder.Placed.{Placed}
-use Rattle.dam_hour.specs.declared.ladder.Rung.{Rung}
-use Rattle.dam_book.specs.Limits.{greatest_volume}
-use Rattle.dam_hour.specs.Limits.{most_steps, greatest_value}
-use Rattle.dam_hour.specs.Execution.{AreInRange, volume_on}
-use Rattle.dam_hour.specs.inside.Ladder.{rank_of, sort_key_of, place_of, moved_up, without_step, total, total_value, rungs_from, placed_of}
-use Rattle.dam_hour.specs.inside.Ladder.{IsLadder, side_total, AreOfSide, AreKept}
+use Rattle.dam_hour.specs.inside.Ladder.{place_of, moved_up, without_step, IsLadder, AreLaddersOf}
 use Rattle.dam_hour.proofs.Ladders.{drop_open, rung_pushed, ladder_done, placed_done}
 
 -- ---- places
@@ -49,34 +40,34 @@ up_rises gone a b l = elim (cases_lt a b) [
 ]
 
 -- ---- the ladder stays sorted
-abbrev stays : ℕ → Placed → Bool
+abbrev stays : ℕ → PlacedStep → Bool
 stays gone p = not (place_of p.sort_key == gone)
 
-without_is : (gone : ℕ) (ps : List Placed) → without_step gone ps ≡ map (moved_up gone) (filter (stays gone) ps)
+without_is : (gone : ℕ) (ps : List PlacedStep) → without_step gone ps ≡ map (moved_up gone) (filter (stays gone) ps)
 without_is gone [] = refl
 without_is gone (p ∷ ps) =
     elim (place_of p.sort_key == gone) as (λ b. cond b (without_step gone ps) (moved_up gone p ∷ without_step gone ps) ≡ map (moved_up gone)
     (cond (not b) (p ∷ filter (stays gone) ps) (filter (stays gone) ps))) [
       | true ↦ without_is gone ps
-      | false ↦ ap (λ (qs : List Placed). moved_up gone p ∷ qs) (without_is gone ps)
+      | false ↦ ap (λ (qs : List PlacedStep). moved_up gone p ∷ qs) (without_is gone ps)
     ]
 
-sorted_up : (gone : ℕ) (ps : List Placed) → IsNonDecreasingBy (λ (p : Placed). p.sort_key) ps
-    → IsNonDecreasingBy (λ (p : Placed). p.sort_key) (map (moved_up gone) ps)
+sorted_up : (gone : ℕ) (ps : List PlacedStep) → IsNonDecreasingBy (λ (p : PlacedStep). p.sort_key) ps
+    → IsNonDecreasingBy (λ (p : PlacedStep). p.sort_key) (map (moved_up gone) ps)
 sorted_up gone ps h i j d l m =
     let long = length-map ps (moved_up gone) in
-    let a = ap (λ (p : Placed). p.sort_key) (get_or-map (moved_up gone) ps i d d (omega (arith, l, m, long))) in
-    let b = ap (λ (p : Placed). p.sort_key) (get_or-map (moved_up gone) ps j d d (omega (arith, m, long))) in
+    let a = ap (λ (p : PlacedStep). p.sort_key) (get_or-map (moved_up gone) ps i d d (omega (arith, l, m, long))) in
+    let b = ap (λ (p : PlacedStep). p.sort_key) (get_or-map (moved_up gone) ps j d d (omega (arith, m, long))) in
     let rises = up_rises gone (get_or ps i d).sort_key (get_or ps j d).sort_key (h i j d l (omega (arith, m, long))) in
     omega (arith, a, b, rises)
 
-pub sorted_without : (gone : ℕ) (ps : List Placed) → IsNonDecreasingBy (λ (p : Placed). p.sort_key) ps
-    → IsNonDecreasingBy (λ (p : Placed). p.sort_key) (without_step gone ps)
+pub sorted_without : (gone : ℕ) (ps : List PlacedStep) → IsNonDecreasingBy (λ (p : PlacedStep). p.sort_key) ps
+    → IsNonDecreasingBy (λ (p : PlacedStep). p.sort_key) (without_step gone ps)
 sorted_without gone ps h =
-    subst (λ (qs : List Placed). IsNonDecreasingBy (λ (p : Placed). p.sort_key) qs) (sym (without_is gone ps))
-    (sorted_up gone (filter (stays gone) ps) (IsNonDecreasingBy-filter (λ (p : Placed). p.sort_key) (stays gone) ps h))
+    subst (λ (qs : List PlacedStep). IsNonDecreasingBy (λ (p : PlacedStep). p.sort_key) qs) (sym (without_is gone ps))
+    (sorted_up gone (filter (stays gone) ps) (IsNonDecreasingBy-filter (λ (p : PlacedStep). p.sort_key) (stays gone) ps h))
 
-pub few_without : (gone : ℕ) (ps : List Placed) → length (without_step gone ps) ≤ length ps
+pub few_without : (gone : ℕ) (ps : List PlacedStep) → length (without_step gone ps) ≤ length ps
 few_without gone [] = omega arith
 few_without gone (p ∷ ps) =
     let rest = few_without gone ps in
@@ -90,7 +81,7 @@ few_without gone (p ∷ ps) =
 abbrev part : ℕ → (ℕ → Step → ℕ) → ℕ → Step → ℕ
 part gone f sort_key s = cond (place_of sort_key == gone) 0 (f (key_up gone sort_key) s)
 
-total_without : (gone : ℕ) (f : ℕ → Step → ℕ) (ps : List Placed)
+total_without : (gone : ℕ) (f : ℕ → Step → ℕ) (ps : List PlacedStep)
     → total (λ p. f p.sort_key p.step) (without_step gone ps) ≡ total (λ p. part gone f p.sort_key p.step) ps
 total_without gone f [] = refl
 total_without gone f (p ∷ ps) =
@@ -154,7 +145,7 @@ side_without side f gone n (suc k) (s ∷ ss) e l few =
     ap (λ (x : ℕ). volume_on side s.side x + side_total side (part gone f) (suc n) ss) here
     ∙ ap (λ (x : ℕ). volume_on side s.side (f (sort_key_of side s.price n) s) + x) rest
 
-of_side_without : (side : Side) (ps : List Placed) (ss : List Step) (gone : ℕ) → AreOfSide side ps ss → length ss ≤ most_steps
+of_side_without : (side : Side) (ps : List PlacedStep) (ss : List Step) (gone : ℕ) → AreOfSide side ps ss → length ss ≤ most_steps
     → gone < length ss → AreOfSide side (without_step gone ps) (remove ss gone)
 of_side_without side ps ss gone same few l = record {
   sums = λ f. total_without gone f ps ∙ same.sums (part gone f) ∙ side_without side f gone 0 gone ss (omega arith) l (omega (arith, few));
@@ -165,8 +156,8 @@ in_range_without [] k r l = absurd (omega (arith, l))
 in_range_without (s ∷ ss) zero r l = r.2
 in_range_without (s ∷ ss) (suc k) r l = (r.0, r.1, in_range_without ss k r.2 (omega (arith, l)))
 
-pub kept_without : (ss kept : List Step) (buys sells buys' sells' : List Placed) (gone : ℕ) → AreKept ss buys sells → gone < length ss
-    → kept ≡ remove ss gone → buys' ≡ without_step gone buys → sells' ≡ without_step gone sells → AreKept kept buys' sells'
+pub kept_without : (ss kept : List Step) (buys sells buys' sells' : List PlacedStep) (gone : ℕ) → AreLaddersOf ss buys sells → gone < length ss
+    → kept ≡ remove ss gone → buys' ≡ without_step gone buys → sells' ≡ without_step gone sells → AreLaddersOf kept buys' sells'
 kept_without ss kept buys sells buys' sells' gone a l same same_buys same_sells =
     let hour = a.hour in
     let few = hour.few in
@@ -178,15 +169,15 @@ kept_without ss kept buys sells buys' sells' gone a l same same_buys same_sells 
         in_range = subst (λ (ts : List Step). AreInRange ts) (sym same) (in_range_without ss gone hour.in_range l);
       };
       buys_are = subst (λ (ts : List Step). AreOfSide Buy buys' ts) (sym same)
-          (subst (λ (ps : List Placed). AreOfSide Buy ps (remove ss gone)) (sym same_buys)
+          (subst (λ (ps : List PlacedStep). AreOfSide Buy ps (remove ss gone)) (sym same_buys)
           (of_side_without Buy buys ss gone a.buys_are few l));
       sells_are = subst (λ (ts : List Step). AreOfSide Sell sells' ts) (sym same)
-          (subst (λ (ps : List Placed). AreOfSide Sell ps (remove ss gone)) (sym same_sells)
+          (subst (λ (ps : List PlacedStep). AreOfSide Sell ps (remove ss gone)) (sym same_sells)
           (of_side_without Sell sells ss gone a.sells_are few l));
     }
 
 -- ---- the rungs, one after another
-abbrev pub still : ℕ → ℕ → List Rung → List Placed
+abbrev pub still : ℕ → ℕ → List Rung → List PlacedStep
 still gone i rungs = without_step gone (placed_of (drop i rungs))
 
 still_more : (gone i : ℕ) (rungs : List Rung) (rung : Rung) → i < length rungs → rung ≡ get_or rungs i rung → ¬ (place_of rung.placed.sort_key ≡ gone)
@@ -227,7 +218,7 @@ up_to_none gone old rungs none = record {
     drop_none [] = refl
     drop_none (r ∷ rs) = refl
 
-pub up_to_kept : (gone i : ℕ) (old rungs pushed : List Rung) (rung : Rung) (p : Placed) (v v' q : ℕ) (w w' z : ℤ)
+pub up_to_kept : (gone i : ℕ) (old rungs pushed : List Rung) (rung : Rung) (p : PlacedStep) (v v' q : ℕ) (w w' z : ℤ)
     → AreUpTo gone i old rungs v w
     → i < length old → rung ≡ get_or old i rung
     → ¬ (place_of rung.placed.sort_key ≡ gone) → p ≡ moved_up gone rung.placed
@@ -236,12 +227,12 @@ pub up_to_kept : (gone i : ℕ) (old rungs pushed : List Rung) (rung : Rung) (p 
     → z ≡ rung.placed.step.price *ℤ pos rung.placed.step.qty → neg_ℤ (pos greatest_value) ≤ℤ z → z ≤ℤ pos greatest_value → w' ≡ w +ℤ z
     → AreUpTo gone (i + 1) old pushed v' w'
 up_to_kept gone i old rungs pushed rung p v v' q w w' z a within is other made push own small sum own_value least most value_sum =
-    let push' = push ∙ ap (λ (m : Placed). rungs ++ record { placed = m; before = record { volume = v; value = w } } ∷ []) made in
+    let push' = push ∙ ap (λ (m : PlacedStep). rungs ++ record { placed = m; before = record { volume = v; value = w } } ∷ []) made in
     let volume = sum ∙ ap (λ (n : ℕ). v + n) own in
     let value = value_sum ∙ ap (λ (y : ℤ). w +ℤ y) own_value in
     let stays = still_more gone i old rung within is other in
-    let total_at = ap (λ (ps : List Placed). total (λ p. p.step.qty) ps) stays in
-    let value_at = ap (λ (ps : List Placed). total_value ps) stays in
+    let total_at = ap (λ (ps : List PlacedStep). total (λ p. p.step.qty) ps) stays in
+    let value_at = ap (λ (ps : List PlacedStep). total_value ps) stays in
     let total_was = a.volume_is in let value_was = a.value_is in
     let small_was = a.volume_small in let least_was = a.value_at_least in let most_was = a.value_at_most in
     record {
@@ -259,12 +250,12 @@ pub up_to_gone : (gone i : ℕ) (old rungs : List Rung) (rung : Rung) (v : ℕ) 
     → place_of rung.placed.sort_key ≡ gone → AreUpTo gone (i + 1) old rungs v w
 up_to_gone gone i old rungs rung v w a within is same =
     let leaves = still_gone gone i old rung within is same in
-    let total_at = ap (λ (ps : List Placed). total (λ p. p.step.qty) ps) leaves in
-    let value_at = ap (λ (ps : List Placed). total_value ps) leaves in
+    let total_at = ap (λ (ps : List PlacedStep). total (λ p. p.step.qty) ps) leaves in
+    let value_at = ap (λ (ps : List PlacedStep). total_value ps) leaves in
     let total_was = a.volume_is in let value_was = a.value_is in
     let small_was = a.volume_small in let least_was = a.value_at_least in let most_was = a.value_at_most in
     record {
-      rungs_are = ap (λ (ps : List Placed). rungs ++ rungs_from v w ps) (sym leaves) ∙ a.rungs_are;
+      rungs_are = ap (λ (ps : List PlacedStep). rungs ++ rungs_from v w ps) (sym leaves) ∙ a.rungs_are;
       volume_is = omega (arith, total_at, total_was);
       value_is = omega (arith, ints, value_at, value_was);
       volume_small = omega (arith, small_was);
@@ -274,7 +265,7 @@ up_to_gone gone i old rungs rung v w a within is same =
 
 -- when all rungs were gone through
 pub up_to_all : (gone i : ℕ) (old rungs : List Rung) (v : ℕ) (w : ℤ) → AreUpTo gone i old rungs v w → length old ≤ i
-    → IsNonDecreasingBy (λ (p : Placed). p.sort_key) (placed_of old) → length old ≤ most_steps
+    → IsNonDecreasingBy (λ (p : PlacedStep). p.sort_key) (placed_of old) → length old ≤ most_steps
     → IsLadder rungs (record { volume = v; value = w }) × (placed_of rungs ≡ without_step gone (placed_of old))
 up_to_all gone i old rungs v w a done sorted few =
     let ps = without_step gone (placed_of old) in

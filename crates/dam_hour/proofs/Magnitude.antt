@@ -1,16 +1,9 @@
 -- How large the volumes and the welfare of an execution can be.
-use Rattle.std.proofs.Common.{ℕ, ◌≤◌, ℤ, pos, neg_ℤ, ◌*ℤ◌, ◌≤ℤ◌, List, [], ◌∷◌, length, arith}
+use Rattle.dam_hour.proofs.Common.{ℕ, ◌≤◌, ℤ, pos, neg_ℤ, ◌*ℤ◌, ◌≤ℤ◌, List, [], ◌∷◌, length, arith, ints, mul-le, IsPrice, Side, Buy, Sell, greatest_volume}
+use Rattle.dam_hour.proofs.Common.{greatest_price, greatest_value, Step, AreInRange, IsExecution, volume_on, executed_volume, signed, welfare_of, AreBestTotals}
 use Rattle.std.specs.Int.RustNames.{unsigned_abs}
-use Rattle.std.proofs.lemmas.Int.{ints, unsigned_abs-mul}
-use Rattle.std.proofs.lemmas.Nat.{mul-le}
-use Rattle.dam_book.specs.Price.{IsPrice}
-use Rattle.dam_book.specs.declared.order.Side.{Side}
-use Rattle.dam_book.specs.declared.order.Side.TheVariants.{Buy, Sell}
-use Rattle.dam_book.specs.Limits.{greatest_volume}
-use Rattle.dam_hour.specs.Limits.{greatest_price, greatest_value}
-use Rattle.dam_hour.specs.declared.step.Step.{Step}
-use Rattle.dam_hour.specs.Execution.{AreInRange, IsExecution, volume_on, executed_volume}
-use Rattle.dam_hour.specs.Best.{signed, welfare_of, AreSmall, AreBestTotals}
+use Rattle.std.proofs.lemmas.Int.{unsigned_abs-mul}
+use Rattle.dam_hour.specs.Best.{AreSmall}
 
 -- a limit times an executed volume
 value_small : (side : Side) (limit : ℤ) (x q : ℕ) → IsPrice limit → x ≤ q → q ≤ greatest_volume

@@ -1,12 +1,10 @@
 -- That the period's price lies between the ends, and which of its three cases applies.
-use Rattle.std.proofs.Common.{◌≡◌, ◌≢◌, ℤ, pos, negsuc, ◌+ℤ◌, ◌≤ℤ◌, ◌<ℤ◌, Bool, true, false, refl, arith}
+use Rattle.dam_hour.proofs.Common.{◌≡◌, ℤ, pos, negsuc, ◌+ℤ◌, ◌≤ℤ◌, ◌<ℤ◌, Bool, true, false, refl, arith, ints, lowest_price, highest_price, price_between}
+use Rattle.std.proofs.Common.{◌≢◌}
 use Rattle.std.specs.Prelude.{int_lt, ◌&&◌, if◌then◌else◌}
 use Rattle.std.specs.Int.{int_div_euclid}
 use Rattle.std.specs.Ordering.{int_eq}
-use Rattle.std.proofs.lemmas.Int.{ints}
 use Rattle.std.proofs.lemmas.Bool.Decides.{Decides-int_eq}
-use Rattle.dam_book.specs.Limits.{lowest_price, highest_price}
-use Rattle.dam_hour.specs.Price.{price_between}
 
 -- twice the half is the number or one less
 pub half_rounds_down : (z : ℤ)

@@ -1,17 +1,7 @@
 -- The size of the volume before a step, and the volume that the totals leave for it.
-use Rattle.std.proofs.Common.{◌≡◌, ℕ, zero, suc, min, ◌+◌, ◌-◌, ◌*◌, ◌<◌, ◌≤◌, ℤ, pos, negsuc, ◌≤ℤ◌, ◌<ℤ◌, Some, List, [], ◌∷◌, length}
-use Rattle.std.proofs.Common.{take, ap, ◌∙◌, refl, arith}
-use Rattle.std.specs.List.{slice_get}
-use Rattle.std.proofs.lemmas.Int.{ints}
-use Rattle.std.proofs.lemmas.Nat.{mul-le}
-use Rattle.dam_book.specs.Limits.{greatest_volume}
-use Rattle.dam_book.specs.Price.{IsPrice}
-use Rattle.dam_book.specs.declared.order.Side.{Side}
-use Rattle.dam_book.specs.declared.order.Side.TheVariants.{Buy, Sell}
-use Rattle.dam_hour.specs.declared.step.Step.{Step}
-use Rattle.dam_hour.specs.Limits.{price_span}
-use Rattle.dam_hour.specs.Execution.{AreInRange, volume_on, offered_volume}
-use Rattle.dam_hour.specs.inside.Volumes.{margin_of, above_zero, if_better, if_at, better_volume, at_volume, share, total_on, AreTotals}
+use Rattle.dam_hour.proofs.Common.{◌≡◌, ℕ, zero, suc, min, ◌+◌, ◌-◌, ◌*◌, ◌<◌, ◌≤◌, ℤ, pos, negsuc, ◌≤ℤ◌, ◌<ℤ◌, Some, List, [], ◌∷◌, length, take, ap, ◌∙◌}
+use Rattle.dam_hour.proofs.Common.{refl, arith, slice_get, ints, mul-le, greatest_volume, IsPrice, Side, Buy, Sell, Step, price_span, AreInRange, volume_on}
+use Rattle.dam_hour.proofs.Common.{offered_volume, margin_of, above_zero, if_better, if_at, better_volume, at_volume, share, total_on, AreTotals}
 use Rattle.dam_hour.specs.inside.Ladder.{better_surplus}
 use Rattle.dam_hour.proofs.FilledExecution.{volume_on_sum}
 

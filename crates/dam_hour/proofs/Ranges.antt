@@ -1,9 +1,6 @@
 -- Steps in range, one by one.
-use Rattle.std.proofs.Common.{List, [], ◌∷◌, ◌++◌}
-use Rattle.dam_book.specs.Price.{IsPrice}
+use Rattle.dam_hour.proofs.Common.{List, [], ◌∷◌, ◌++◌, IsPrice, Step, AreInRange}
 use Rattle.dam_book.specs.Quantity.{IsQuantity}
-use Rattle.dam_hour.specs.declared.step.Step.{Step}
-use Rattle.dam_hour.specs.Execution.{AreInRange}
 
 pub in_range_push : (ss : List Step) (s : Step) → AreInRange ss → IsPrice s.price → IsQuantity s.qty → AreInRange (ss ++ s ∷ [])
 in_range_push [] s r p q = (p, q, tt)

@@ -1,16 +1,11 @@
 -- The orders of a period in another order: the same executions, in that order.
-use Rattle.std.proofs.Common.{◌≡◌, ℕ, zero, suc, ◌<◌, ◌≤◌, ℤ, ◌≤ℤ◌, Option, Some, None, List, [], ◌∷◌, length, get_or, set}
-use Rattle.std.proofs.Common.{ap, ◌∙◌, sym, subst, refl, arith}
+use Rattle.dam_hour.proofs.Common.{◌≡◌, ℕ, zero, suc, ◌<◌, ◌≤◌, ℤ, ◌≤ℤ◌, Some, None, List, [], ◌∷◌, length, get_or, ap, ◌∙◌, sym, subst, refl, arith, ints}
+use Rattle.dam_hour.proofs.Common.{Side, Buy, Sell, Step, IsExecution, executed_volume, Balances, welfare_of, IsBest, Supports, IsSupporting, AreEnds}
+use Rattle.std.proofs.Common.{Option, set}
 use Rattle.std.specs.List.{swap}
 use Rattle.std.specs.List.Sorted.{IsPermutation}
 use Rattle.std.proofs.lemmas.List.Sorted.{IsPermutation-keeps, IsPermutation-sym}
-use Rattle.std.proofs.lemmas.Int.{ints}
-use Rattle.dam_book.specs.declared.order.Side.{Side}
-use Rattle.dam_book.specs.declared.order.Side.TheVariants.{Buy, Sell}
-use Rattle.dam_hour.specs.declared.step.Step.{Step}
-use Rattle.dam_hour.specs.Execution.{IsExecution, executed_volume, Balances}
-use Rattle.dam_hour.specs.Best.{welfare_of, IsBest, greatest_welfare}
-use Rattle.dam_hour.specs.Price.{Supports, IsSupporting, AreEnds}
+use Rattle.dam_hour.specs.Best.{greatest_welfare}
 use Rattle.dam_hour.proofs.Enumeration.{greatest_welfare_reached, greatest_welfare_bound, greatest_welfare_none}
 
 -- ---- reorderings, by exchanges of neighbours

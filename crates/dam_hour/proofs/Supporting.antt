@@ -1,17 +1,8 @@
 -- The ends of the supporting prices: the least price that is high enough and the greatest that is low enough.
-use Rattle.std.proofs.Common.{◌≡◌, ℕ, zero, suc, ◌+◌, ◌<◌, ◌≤◌, ℤ, pos, negsuc, ◌+ℤ◌, ◌-ℤ◌, ◌≤ℤ◌, List, [], ◌∷◌, ◌⊎◌, inl, inr, ◌∙◌, sym}
-use Rattle.std.proofs.Common.{refl, arith}
-use Rattle.std.proofs.lemmas.Int.{ints, by_lt_z}
-use Rattle.dam_book.specs.Price.{IsPrice}
-use Rattle.dam_book.specs.Limits.{lowest_price, highest_price}
-use Rattle.dam_book.specs.declared.order.Side.{Side}
-use Rattle.dam_book.specs.declared.order.Side.TheVariants.{Buy, Sell}
-use Rattle.dam_hour.specs.declared.step.Step.{Step}
-use Rattle.dam_hour.specs.Execution.{AreInRange, IsExecution, IsWithinOffers, offered_volume, volume_on, Balances}
-use Rattle.dam_hour.specs.Price.{Supports, IsSupporting, AreEnds}
-use Rattle.dam_hour.specs.Best.{IsBest}
-use Rattle.dam_hour.specs.inside.Volumes.{margin_of, if_better, if_at, better_volume, at_volume, IsHighEnough, IsLowEnough}
-use Rattle.dam_hour.specs.inside.Volumes.{IsLeastHighEnough, IsGreatestLowEnough}
+use Rattle.dam_hour.proofs.Common.{◌≡◌, ℕ, zero, suc, ◌+◌, ◌<◌, ◌≤◌, ℤ, pos, negsuc, ◌+ℤ◌, ◌-ℤ◌, ◌≤ℤ◌, List, [], ◌∷◌, ◌⊎◌, inl, inr, ◌∙◌, sym, refl, arith}
+use Rattle.dam_hour.proofs.Common.{ints, by_lt_z, IsPrice, lowest_price, highest_price, Side, Buy, Sell, Step, AreInRange, IsExecution, IsWithinOffers}
+use Rattle.dam_hour.proofs.Common.{offered_volume, volume_on, Balances, Supports, IsSupporting, AreEnds, IsBest, margin_of, if_better, if_at, better_volume}
+use Rattle.dam_hour.proofs.Common.{at_volume, IsHighEnough, IsLowEnough, IsLeastHighEnough, IsGreatestLowEnough}
 use Rattle.dam_hour.proofs.Duality.{equals_supported, supported_between}
 use Rattle.dam_hour.proofs.FilledExecution.{volume_on_sum, executed_at_most}
 use Rattle.dam_hour.proofs.Totals.{totals_at, best_supported, supporting_tests}

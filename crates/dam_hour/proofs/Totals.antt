@@ -1,16 +1,8 @@
 -- The totals at a supporting price give the best execution.
-use Rattle.std.proofs.Common.{◌≡◌, ℕ, ◌+◌, ◌-◌, ◌<◌, ◌≤◌, ℤ, pos, negsuc, ◌+ℤ◌, ◌-ℤ◌, ◌*ℤ◌, ◌≤ℤ◌, List, ap, ◌∙◌, sym, refl, inl, inr, arith}
-use Rattle.std.proofs.lemmas.Int.{ints}
-use Rattle.std.proofs.lemmas.Bool.{cases_lt}
-use borrow.Author.Differences.{up}
-use Rattle.dam_book.specs.Price.{IsPrice}
-use Rattle.dam_book.specs.declared.order.Side.{Side}
-use Rattle.dam_book.specs.declared.order.Side.TheVariants.{Buy, Sell}
-use Rattle.dam_hour.specs.declared.step.Step.{Step}
-use Rattle.dam_hour.specs.Execution.{IsExecution, executed_volume, Balances}
-use Rattle.dam_hour.specs.Best.{IsNoBetter, IsBest, welfare_of}
-use Rattle.dam_hour.specs.Price.{Supports, IsSupporting}
-use Rattle.dam_hour.specs.inside.Volumes.{better_volume, at_volume, full_surplus, total_on, fill, IsHighEnough, IsLowEnough, AreTotals}
+use Rattle.dam_hour.proofs.Common.{◌≡◌, ℕ, ◌+◌, ◌-◌, ◌<◌, ◌≤◌, ℤ, pos, negsuc, ◌+ℤ◌, ◌-ℤ◌, ◌*ℤ◌, ◌≤ℤ◌, List, ap, ◌∙◌, sym, refl, inl, inr, arith, ints}
+use Rattle.dam_hour.proofs.Common.{cases_lt, up, IsPrice, Side, Buy, Sell, Step, IsExecution, executed_volume, Balances, IsBest, welfare_of, Supports}
+use Rattle.dam_hour.proofs.Common.{IsSupporting, better_volume, at_volume, full_surplus, total_on, volumes_in_turn, IsHighEnough, IsLowEnough, AreTotals}
+use Rattle.dam_hour.specs.Best.{IsNoBetter}
 use Rattle.dam_hour.proofs.Duality.{supported_greatest, equals_supported, welfare_balanced, surplus_supported}
 use Rattle.dam_hour.proofs.FilledExecution.{taken, supported_split, taken_at_most, fill_fits, fill_supported, fill_total, fill_last}
 
@@ -19,7 +11,7 @@ abbrev pub left_at : ℤ → List Step → ℕ → ℕ → Side → ℕ
 left_at p ss bought sold side = total_on side bought sold - better_volume side p ss
 
 abbrev pub best_at : ℤ → List Step → ℕ → ℕ → List ℕ
-best_at p ss bought sold = fill p ss (left_at p ss bought sold)
+best_at p ss bought sold = volumes_in_turn p ss (left_at p ss bought sold)
 
 pub best_bought : (ss : List Step) (net p : ℤ) (bought sold : ℕ) → AreTotals ss net p bought sold
     → executed_volume Buy ss (best_at p ss bought sold) ≡ bought

@@ -1,16 +1,12 @@
--- The volumes that the loop of `fill` has pushed, and those that are still to come.
-use Rattle.std.proofs.Common.{◌≡◌, ℕ, ◌+◌, ◌-◌, ◌<◌, ℤ, List, [], ◌∷◌, ◌++◌, length, drop, get_or, ap, ap₂, ◌∙◌, sym, refl}
-use Rattle.std.proofs.lemmas.List.{append_assoc, drop_more}
-use Rattle.dam_book.specs.declared.order.Side.{Side}
-use Rattle.dam_book.specs.declared.order.Side.TheVariants.{Buy, Sell}
-use Rattle.dam_hour.specs.declared.step.Step.{Step}
-use Rattle.dam_hour.specs.Execution.{volume_on}
-use Rattle.dam_hour.specs.inside.Volumes.{margin_of, if_at, better_volume, share, fill, total_on}
+-- The volumes that the loop of `volumes_in_turn` has pushed, and those that are still to come.
+use Rattle.dam_hour.proofs.Common.{◌≡◌, ℕ, ◌+◌, ◌-◌, ◌<◌, ℤ, List, [], ◌∷◌, ◌++◌, length, drop, get_or, ap, ap₂, ◌∙◌, sym, refl, drop_more, Side, Buy, Sell}
+use Rattle.dam_hour.proofs.Common.{Step, volume_on, margin_of, if_at, better_volume, share, volumes_in_turn, total_on}
+use Rattle.std.proofs.lemmas.List.{append_assoc}
 use Rattle.dam_hour.proofs.Totals.{best_at, left_at}
 
 -- if as much is left for each side, the volumes are the same
 pub fill_same : (p : ℤ) (ss : List Step) (left other : Side → ℕ) → ((side : Side) → left side ≡ other side)
-    → fill p ss left ≡ fill p ss other
+    → volumes_in_turn p ss left ≡ volumes_in_turn p ss other
 fill_same p [] left other same = refl
 fill_same p (s ∷ ss) left other same =
     let m = margin_of s.side s.price p in
@@ -33,28 +29,28 @@ left_after own taken buys sells buys' sells' b s Sell = s
 -- the volume that the totals leave for each side
 pub fill_from_totals : (p : ℤ) (ss : List Step) (bought sold buys sells : ℕ) (out : List ℕ) → buys ≡ bought - better_volume Buy p ss
     → sells ≡ sold - better_volume Sell p ss
-    → out ≡ fill p ss (λ side. total_on side buys sells) → out ≡ best_at p ss bought sold
+    → out ≡ volumes_in_turn p ss (λ side. total_on side buys sells) → out ≡ best_at p ss bought sold
 fill_from_totals p ss bought sold buys sells out b s filled =
     filled ∙ fill_same p ss (λ side. total_on side buys sells) (left_at p ss bought sold) (left_of p ss bought sold buys sells b s)
 
 -- one step more
 pub fill_more : (p : ℤ) (ss : List Step) (i : ℕ) (s : Step) (out pushed all : List ℕ) (x left buys sells buys' sells' : ℕ)
-    → out ++ fill p (drop i ss) (λ side. total_on side buys sells) ≡ all
+    → out ++ volumes_in_turn p (drop i ss) (λ side. total_on side buys sells) ≡ all
     → pushed ≡ out ++ x ∷ []
     → i < length ss → s ≡ get_or ss i s
     → left ≡ total_on s.side buys sells → x ≡ share (margin_of s.side s.price p) s.qty left
     → buys' ≡ buys - volume_on Buy s.side (if_at (margin_of s.side s.price p) s.qty)
     → sells' ≡ sells - volume_on Sell s.side (if_at (margin_of s.side s.price p) s.qty)
-    → pushed ++ fill p (drop (i + 1) ss) (λ side. total_on side buys' sells') ≡ all
+    → pushed ++ volumes_in_turn p (drop (i + 1) ss) (λ side. total_on side buys' sells') ≡ all
 fill_more p ss i s out pushed all x left buys sells buys' sells' so_far push within is own volume b t =
     let taken = if_at (margin_of s.side s.price p) s.qty in
     let rest = drop (i + 1) ss in
     let next : Side → ℕ = λ side. total_on side buys sells - volume_on side s.side taken in
     let opened : drop i ss ≡ s ∷ rest = drop_more ss i s within ∙ ap (λ (u : Step). u ∷ rest) (sym is) in
-    let later : fill p rest (λ side. total_on side buys' sells') ≡ fill p rest next =
+    let later : volumes_in_turn p rest (λ side. total_on side buys' sells') ≡ volumes_in_turn p rest next =
     fill_same p rest (λ side. total_on side buys' sells') next (left_after s.side taken buys sells buys' sells' b t) in
-    ap (λ (ys : List ℕ). ys ++ fill p rest (λ side. total_on side buys' sells')) push
-    ∙ append_assoc out (x ∷ []) (fill p rest (λ side. total_on side buys' sells'))
+    ap (λ (ys : List ℕ). ys ++ volumes_in_turn p rest (λ side. total_on side buys' sells')) push
+    ∙ append_assoc out (x ∷ []) (volumes_in_turn p rest (λ side. total_on side buys' sells'))
     ∙ ap₂ (λ (n : ℕ) (ys : List ℕ). out ++ n ∷ ys) (volume ∙ ap (λ (n : ℕ). share (margin_of s.side s.price p) s.qty n) own) later
-    ∙ sym (ap (λ (us : List Step). out ++ fill p us (λ side. total_on side buys sells)) opened)
+    ∙ sym (ap (λ (us : List Step). out ++ volumes_in_turn p us (λ side. total_on side buys sells)) opened)
     ∙ so_far

@@ -2,7 +2,7 @@
 
 ghost use Rattle.std.specs.Prelude.{◌≡◌, ◌-◌, IfOk};
 ghost use Rattle.dam_book.specs.declared.order.Side.TheVariants.{Buy, Sell};
-ghost use Rattle.dam_hour.specs.inside.Volumes.{at_part, total_on, fill};
+ghost use Rattle.dam_hour.specs.inside.Volumes.{at_part, total_on, volumes_in_turn};
 
 use crate::step::Step;
 use dam_book::{Price, Side};
@@ -10,12 +10,12 @@ use std::alloc::{AllocError, Allocator};
 
 /// The volume left at a price for the steps of each side, in tenths of a MW.
 #[derive(Clone, Copy)]
-pub(crate) struct LeftVolumes {
+pub(crate) struct RemainingVolumes {
     pub(crate) buys: u64,
     pub(crate) sells: u64,
 }
 
-impl LeftVolumes {
+impl RemainingVolumes {
     /// The volume left for a step of the side.
     fn on(self, side: Side) -> u64
         ensures { result ≡ total_on side self.buys self.sells }
@@ -27,18 +27,18 @@ impl LeftVolumes {
     }
 
     /// The volumes left after a step: if its limit is the price, less by its volume.
-    fn after(self, step: Step, price: Price) -> LeftVolumes
+    fn after(self, step: Step, price: Price) -> RemainingVolumes
         ensures buys { result.buys ≡ self.buys - at_part Buy price step }
         ensures sells { result.sells ≡ self.sells - at_part Sell price step }
     {
         let side = step.side;
         let taken = step.marginal_volume(price);
         match side {
-            Side::Buy => LeftVolumes {
+            Side::Buy => RemainingVolumes {
                 buys: self.buys.saturating_sub(taken),
                 sells: self.sells,
             },
-            Side::Sell => LeftVolumes {
+            Side::Sell => RemainingVolumes {
                 buys: self.buys,
                 sells: self.sells.saturating_sub(taken),
             },
@@ -48,14 +48,14 @@ impl LeftVolumes {
 
 /// The executed volumes of the steps at a price, in tenths of a MW: the volume left at the price goes to the steps in
 /// book order.
-pub(crate) fn fill<B: Allocator>(
+pub(crate) fn volumes_in_turn<B: Allocator>(
     alloc: B,
     steps: &[Step],
     price: Price,
-    left: LeftVolumes,
+    left: RemainingVolumes,
 ) -> Result<Vec<u32, B>, AllocError>
     ensures { IfOk result (λ volumes.
-        volumes.items ≡ fill price steps.now (λ side. total_on side left.buys left.sells)) }
+        volumes.items ≡ volumes_in_turn price steps.now (λ side. total_on side left.buys left.sells)) }
 {
     let mut volumes = Vec::with_capacity(alloc, steps.len())?;
     let mut left = left;

@@ -14,11 +14,11 @@ ghost use Rattle.dam_hour.specs.inside.Volumes.{better_volume, at_volume, full_s
 ghost use Rattle.dam_hour.specs.inside.Ladder.{AreOfSide, better_surplus};
 ghost use Rattle.dam_hour.specs.inside.Edge.{IsEdge};
 
-use crate::ends::{Edge, is_within_offers, price_between};
-use crate::execution::{LeftVolumes, fill};
+use crate::edge::{Edge, is_within_offers, price_between};
+use crate::execution::{RemainingVolumes, volumes_in_turn};
 use crate::ladder::{Ladder, Sums, sort_key_of};
 use crate::step::Step;
-use crate::volumes::{VolumeRange, full_surplus};
+use crate::volume_range::{VolumeRange, full_surplus};
 use dam_book::{GREATEST_VOLUME, MOST_BLOCKS, MOST_HOURLY, Price, Side};
 use std::alloc::{AllocError, Allocator, Global};
 use std::marker::Model;
@@ -45,13 +45,13 @@ pub struct Hour<A: Allocator = Global> {
 impl<A: Allocator> Model for Hour<A> {
     ghost use Rattle.std.specs.Prelude.{List};
     ghost use Rattle.dam_hour.specs.declared.step.Step.{Step};
-    ghost use Rattle.dam_hour.specs.inside.Ladder.{AreKept};
+    ghost use Rattle.dam_hour.specs.inside.Ladder.{AreLaddersOf};
 
     ghost Value = { List Step };
 
     ghost view = { λ h. h.steps.items };
 
-    ghost invariant = { λ h. AreKept h.steps.items h.buys h.sells };
+    ghost invariant = { λ h. AreLaddersOf h.steps.items h.buys h.sells };
 }
 
 /// The clearing of a period; the volumes and the welfare count its steps alone.
@@ -78,17 +78,17 @@ pub struct Cleared {
 
 /// The traded volumes of the best execution at a net volume, and the ends of the prices that support it.
 #[derive(Clone, Copy)]
-struct Matched {
+struct TradedVolumes {
     low: Price,
     high: Price,
     bought: u64,
     sold: u64,
 }
 
-impl Matched {
+impl TradedVolumes {
     /// The traded volumes at a net volume, and the ends. At the least supporting price, the scarcer side executes every
     /// order that is not worse.
-    fn of<A: Allocator>(hour: &Hour<A>, net: i64, edge: &Edge) -> Matched
+    fn of<A: Allocator>(hour: &Hour<A>, net: i64, edge: &Edge) -> TradedVolumes
         requires steps { IsHour hour.now }
         requires net { IsNetVolume net }
         requires within { IsWithinOffers hour.now net }
@@ -104,14 +104,14 @@ impl Matched {
         let supply = sells.most as i64 + net;
         let demand = buys.most as i64;
         if supply < demand {
-            Matched {
+            TradedVolumes {
                 low,
                 high,
                 bought: supply as u64,
                 sold: sells.most,
             }
         } else {
-            Matched {
+            TradedVolumes {
                 low,
                 high,
                 bought: buys.most,
@@ -121,11 +121,11 @@ impl Matched {
     }
 
     /// The volume that each side has left at the least supporting price, once the better steps are executed in full.
-    fn left<A: Allocator>(self, hour: &Hour<A>) -> LeftVolumes
+    fn remaining<A: Allocator>(self, hour: &Hour<A>) -> RemainingVolumes
         ensures buys { result.buys ≡ self.bought - better_volume Buy self.low hour.now }
         ensures sells { result.sells ≡ self.sold - better_volume Sell self.low hour.now }
     {
-        LeftVolumes {
+        RemainingVolumes {
             buys: self
                 .bought
                 .saturating_sub(hour.better_sums(Side::Buy, self.low).volume),
@@ -197,7 +197,7 @@ impl<A: Allocator + Copy> Hour<A> {
 
 impl<A: Allocator> Hour<A> {
     /// The steps of one side.
-    pub(crate) fn side(&self, side: Side) -> &Ladder<A>
+    pub(crate) fn ladder(&self, side: Side) -> &Ladder<A>
         ensures side { AreOfSide side result.now self.now }
         ensures steps { IsHour self.now }
     {
@@ -216,18 +216,18 @@ impl<A: Allocator> Hour<A> {
         ensures steps { IsHour self.now }
         ensures small { result ≤ most_steps * greatest_volume }
     {
-        let ladder = self.side(side);
+        let ladder = self.ladder(side);
         let count = ladder.count_before(sort_key_of(side, limit, place));
         ladder.sums_before(count).volume
     }
 
     /// The whole volume of one side, in tenths of a MW.
-    pub(crate) fn offered(&self, side: Side) -> u64
+    pub(crate) fn offered_volume(&self, side: Side) -> u64
         ensures value { result ≡ offered_volume side self.now }
         ensures steps { IsHour self.now }
         ensures small { result ≤ most_steps * greatest_volume }
     {
-        self.side(side).total_sums().volume
+        self.ladder(side).total_sums().volume
     }
 
     /// The sums of the steps of one side that are better than a price.
@@ -239,7 +239,7 @@ impl<A: Allocator> Hour<A> {
         ensures gain_small { better_surplus side price self.now
             ≤ most_steps * (price_span * greatest_volume) }
     {
-        let ladder = self.side(side);
+        let ladder = self.ladder(side);
         let count = ladder.count_before(sort_key_of(side, price, 0));
         ladder.sums_before(count)
     }
@@ -278,7 +278,7 @@ impl<A: Allocator> Hour<A> {
 
     /// The traded volumes of the best execution at a net volume, and the prices between which it is supported; `None`
     /// exactly if no execution balances.
-    fn matched(&self, net: i64) -> Option<Matched>
+    fn traded_volumes(&self, net: i64) -> Option<TradedVolumes>
         requires { IsNetVolume net }
         ensures steps { IsHour self.now }
         ensures none { IfNone result (IsUnbalanced self.now net) }
@@ -289,25 +289,25 @@ impl<A: Allocator> Hour<A> {
             return None;
         }
         let edge = Edge::of(self, net);
-        Some(Matched::of(self, net, &edge))
+        Some(TradedVolumes::of(self, net, &edge))
     }
 
     /// The price, the totals and the welfare that go with the traded volumes.
-    fn cleared_from(&self, net: i64, matched: &Matched) -> Cleared
+    fn cleared_from(&self, net: i64, traded: &TradedVolumes) -> Cleared
         requires net { IsNetVolume net }
-        requires ends { AreEnds self.now net matched.now.low matched.now.high }
-        requires totals { AreTotals self.now net matched.now.low
-            matched.now.bought matched.now.sold }
+        requires ends { AreEnds self.now net traded.now.low traded.now.high }
+        requires totals { AreTotals self.now net traded.now.low
+            traded.now.bought traded.now.sold }
         ensures { IsClearedAt self.now net result }
     {
         let _few = self.len(); // for the proof: the steps are few
         Cleared {
-            low: matched.low,
-            high: matched.high,
-            price: price_between(matched.low, matched.high),
-            bought: matched.bought,
-            sold: matched.sold,
-            welfare: welfare_at_price(self, net, matched.low),
+            low: traded.low,
+            high: traded.high,
+            price: price_between(traded.low, traded.high),
+            bought: traded.bought,
+            sold: traded.sold,
+            welfare: welfare_at_price(self, net, traded.low),
         }
     }
 
@@ -315,13 +315,13 @@ impl<A: Allocator> Hour<A> {
     fn executed_volumes<B: Allocator>(
         &self,
         alloc: B,
-        matched: &Matched,
+        traded: &TradedVolumes,
     ) -> Result<Vec<u32, B>, AllocError>
         ensures { (net : ℤ)
-            → AreTotals self.now net matched.now.low matched.now.bought matched.now.sold
+            → AreTotals self.now net traded.now.low traded.now.bought traded.now.sold
             → IfOk result (λ volumes. IsBest self.now net volumes.items) }
     {
-        fill(alloc, self.steps(), matched.low, matched.left(self))
+        volumes_in_turn(alloc, self.steps(), traded.low, traded.remaining(self))
     }
 
     /// The price, the totals and the welfare of the period at a net volume: the sold less the bought volume of the
@@ -341,8 +341,8 @@ impl<A: Allocator> Hour<A> {
         ensures small { IfSome result (λ c. AreSmall (length self.now) c.bought c.sold c.welfare) }
         ensures welfare { greatest_welfare self.now net ≡ option_map (λ c. c.welfare) result }
     {
-        match self.matched(net) {
-            Some(matched) => Some(self.cleared_from(net, &matched)),
+        match self.traded_volumes(net) {
+            Some(traded) => Some(self.cleared_from(net, &traded)),
             None => None,
         }
     }
@@ -360,9 +360,9 @@ impl<A: Allocator> Hour<A> {
         prove!(-GREATEST_NET <= net && net <= GREATEST_NET);
         let steps = self.steps();
         let step = *steps.get(place)?;
-        let matched = self.matched(net)?;
+        let traded = self.traded_volumes(net)?;
         let before = self.volume_before(step.side, step.price, place);
-        let left = matched.on(step.side).saturating_sub(before);
+        let left = traded.on(step.side).saturating_sub(before);
         Some(step.volume().min(left) as u32)
     }
 
@@ -379,10 +379,10 @@ impl<A: Allocator> Hour<A> {
         ensures { IfOk result (λ found. MatchOption found (IsUnbalanced self.now net)
             (λ r. IsClearedAt self.now net r.0 × IsBest self.now net r.1.items)) }
     {
-        let Some(matched) = self.matched(net) else {
+        let Some(traded) = self.traded_volumes(net) else {
             return Ok(None);
         };
-        let volumes = self.executed_volumes(alloc, &matched)?;
-        Ok(Some((self.cleared_from(net, &matched), volumes)))
+        let volumes = self.executed_volumes(alloc, &traded)?;
+        Ok(Some((self.cleared_from(net, &traded), volumes)))
     }
 }

@@ -20,15 +20,15 @@
 //! The crate doesn't know blocks, books or the other periods.
 #![tactic(auto)]
 
-mod ends;
+mod edge;
 mod execution;
 mod hour;
 mod ladder;
 pub mod laws;
-pub mod market;
+pub mod market_laws;
 mod step;
-mod volumes;
+mod volume_range;
 
-pub use ends::price_between;
+pub use edge::price_between;
 pub use hour::{Cleared, GREATEST_NET, Hour, MOST_STEPS};
 pub use step::Step;

@@ -105,7 +105,7 @@ number_given option matches = unwrap_or (option_and_then (read_number option) (o
 
 -- a plan of these three numbers
 abbrev pub plan_of : ℕ → ℕ → ℕ → PlanTerms
-plan_of workers cut nodes = record { workers = workers; cut = cut; nodes = nodes }
+plan_of workers cut node_limit = record { workers = workers; cut = cut; node_limit = node_limit }
 
 -- the plan that the matches give
 abbrev pub plan_given : List Row → PlanTerms

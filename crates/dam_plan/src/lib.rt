@@ -7,5 +7,5 @@
 mod plan;
 mod turnstile;
 
-pub use plan::{MOST_CUT, MOST_NODES, MOST_WORKERS, Nodes, Plan};
+pub use plan::{MOST_CUT, MOST_NODES, MOST_WORKERS, NodeCount, Plan};
 pub use turnstile::{FreeTurn, Turnstile};

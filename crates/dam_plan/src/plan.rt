@@ -14,10 +14,10 @@ pub const MOST_CUT: u8 = 8;
 
 /// A number of nodes. A search over n blocks visits at most 2^(n+1) - 1 nodes. That number is computed from 2^(n+1), so
 /// with a `u32` a book has at most 30 blocks.
-pub type Nodes = u32;
+pub type NodeCount = u32;
 
 /// The greatest number of nodes that may be visited in one piece.
-pub const MOST_NODES: Nodes = 67_108_864;
+pub const MOST_NODES: NodeCount = 67_108_864;
 
 /// How a search is shared out: how many workers walk the pieces, how many of the first blocks
 /// the cutting decides, and how many nodes of one piece may be visited.
@@ -28,7 +28,7 @@ pub const MOST_NODES: Nodes = 67_108_864;
 pub struct Plan {
     workers: u8,
     cut: u8,
-    nodes: Nodes,
+    node_limit: NodeCount,
 }
 
 impl Model for Plan {
@@ -36,31 +36,31 @@ impl Model for Plan {
 
     ghost Value = { PlanTerms };
 
-    ghost view = { λ p. record { workers = p.workers; cut = p.cut; nodes = p.nodes } };
+    ghost view = { λ p. record { workers = p.workers; cut = p.cut; node_limit = p.node_limit } };
 
     ghost invariant = { λ p.
-        IsPlan (record { workers = p.workers; cut = p.cut; nodes = p.nodes }) };
+        IsPlan (record { workers = p.workers; cut = p.cut; node_limit = p.node_limit }) };
 
-    ghost inverse = { λ p. record { workers = p.workers; cut = p.cut; nodes = p.nodes } };
+    ghost inverse = { λ p. record { workers = p.workers; cut = p.cut; node_limit = p.node_limit } };
 }
 
 impl Plan {
     /// The plan of these numbers, or `None` if one is outside its limits: 1 to `MOST_WORKERS`, 0
     /// to `MOST_CUT` and 1 to `MOST_NODES`.
-    pub fn new(workers: u8, cut: u8, nodes: Nodes) -> Option<Plan>
+    pub fn new(workers: u8, cut: u8, node_limit: NodeCount) -> Option<Plan>
         ensures { SomeIff result
-            (IsPlan (record { workers = workers; cut = cut; nodes = nodes }))
-            (record { workers = workers; cut = cut; nodes = nodes }) }
+            (IsPlan (record { workers = workers; cut = cut; node_limit = node_limit }))
+            (record { workers = workers; cut = cut; node_limit = node_limit }) }
     {
         let has_workers = 1 <= workers && workers <= MOST_WORKERS;
-        let has_nodes = 1 <= nodes && nodes <= MOST_NODES;
+        let has_nodes = 1 <= node_limit && node_limit <= MOST_NODES;
         if !has_workers || cut > MOST_CUT || !has_nodes {
             return None;
         }
         Some(Plan {
             workers,
             cut,
-            nodes,
+            node_limit,
         })
     }
 
@@ -89,11 +89,11 @@ impl Plan {
         usize::from(self.cut).min(blocks)
     }
 
-    /// The most nodes of one piece that may be visited.
-    pub fn nodes(self) -> Nodes
-        ensures value { result ≡ self.nodes }
+    /// The limit on nodes: how many of one piece may be visited.
+    pub fn node_limit(self) -> NodeCount
+        ensures value { result ≡ self.node_limit }
         ensures valid { IsPlan self }
     {
-        self.nodes
+        self.node_limit
     }
 }

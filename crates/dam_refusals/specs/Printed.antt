@@ -15,7 +15,7 @@ answer_text (Welfare welfare) = codes "welfare " ++ decimal welfare
 answer_text (Fault fault) = fault_text fault
 answer_text Replay = codes "replay"
 answer_text (Planned plan) = codes "workers " ++
-    (decimal plan.workers ++ (codes " cut " ++ (decimal plan.cut ++ (codes " nodes " ++ decimal plan.nodes))))
+    (decimal plan.workers ++ (codes " cut " ++ (decimal plan.cut ++ (codes " nodes " ++ decimal plan.node_limit))))
 answer_text (Text true) = codes "help"
 answer_text (Text false) = codes "refused"
 

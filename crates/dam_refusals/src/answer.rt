@@ -130,7 +130,7 @@ impl fmt::Display for Answer {
                 "workers {} cut {} nodes {}",
                 plan.workers(),
                 plan.cut(),
-                plan.nodes()
+                plan.node_limit()
             ),
             Answer::Text { help: true } => f.write_str("help"),
             Answer::Text { help: false } => f.write_str("refused"),

@@ -18,7 +18,7 @@ use Rattle.dam_results.specs.Limits.{most_bytes, most_records}
 use Rattle.dam_results.specs.declared.journal_reading.JournalFault.{JournalFault}
 use Rattle.dam_results.specs.declared.journal_reading.JournalFault.TheVariants.{TooLong, NotAscii, TooManyRecords, NotDay, FieldCount, BadField}
 use Rattle.dam_results.specs.declared.journal_reading.JournalFault.TheVariants.{Memory}
-use Rattle.dam_results.specs.Records.{Fields, day_row, row_of, records_of, kind_field, optional_text, side_word}
+use Rattle.dam_results.specs.Records.{Fields, record_of_day, record_of_command, records_of, kind_field, optional_text, side_word}
 use Rattle.dam_results.specs.Rules.{FieldRule, OneOf, NameOrEmpty, Obeys, IsLeastBroken, word, day_rules, hour_rules, block_rules}
 use Rattle.dam_results.specs.Rules.{amend_rules, cancel_rules, close_rules, command_rules, submit_of, submit_rules}
 use Rattle.dam_results.specs.Journal.{AreRecords, IsCommand, ReadsAs, first_non_ascii}
@@ -54,10 +54,10 @@ from_optional field (inl is) = (None, tt, is)
 from_optional field (inr is) = (Some field, is, refl)
 
 abbrev SaysDay : Fields → Type 0
-SaysDay row = (periods : ℕ) × (is_day periods ≡ true) × (row ≡ day_row periods)
+SaysDay row = (periods : ℕ) × (is_day periods ≡ true) × (row ≡ record_of_day periods)
 
 abbrev Says : Fields → Type 0
-Says row = (command : Command) × IsCommand command × (row ≡ row_of command)
+Says row = (command : Command) × IsCommand command × (row ≡ record_of_command command)
 
 module _ (a b c d e f g h i : List ℕ) where
   abbrev given : Fields
@@ -248,8 +248,8 @@ decided_later number row later = later-place number row later (cases_lt most_rec
 -- ---- the records
 
 abbrev Rows : List Fields → ℕ → Type 0
-Rows rows periods = ((commands : List Command) × AreRecords (day_row periods ∷ rows) periods commands) ⊎ Faulty
-    (IsFaultOfRecords (day_row periods ∷ rows))
+Rows rows periods = ((commands : List Command) × AreRecords (record_of_day periods ∷ rows) periods commands) ⊎ Faulty
+    (IsFaultOfRecords (record_of_day periods ∷ rows))
 
 next-row : (rows : List Fields) (periods : ℕ) (commands : List Command) (row : Fields) (more : List Fields) → is_day periods ≡ true
     → Reads rows commands (row ∷ more)
@@ -270,7 +270,7 @@ decided_rest rows periods commands (row ∷ more) day reads =
 abbrev Records : List Fields → Type 0
 Records rows = ((periods : ℕ) × (commands : List Command) × AreRecords rows periods commands) ⊎ Faulty (IsFaultOfRecords rows)
 
-same-day : (row : Fields) (rest : List Fields) (periods : ℕ) → row ≡ day_row periods → Rows rest periods → Records (row ∷ rest)
+same-day : (row : Fields) (rest : List Fields) (periods : ℕ) → row ≡ record_of_day periods → Rows rest periods → Records (row ∷ rest)
 same-day row rest periods is (inl are) = inl (periods, are.0, subst (λ (r : Fields). AreRecords (r ∷ rest) periods are.0) (sym is) are.1)
 same-day row rest periods is (inr faulty) = inr
     (faulty.0, subst (λ (r : Fields). IsFaultOfRecords (r ∷ rest) faulty.0) (sym is) faulty.1, faulty.2)

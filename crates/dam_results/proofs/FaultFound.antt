@@ -9,7 +9,7 @@ use Rattle.dam_results.specs.Limits.{most_records}
 use Rattle.dam_results.specs.declared.journal_reading.JournalFault.{JournalFault}
 use Rattle.dam_results.specs.declared.journal_reading.JournalFault.TheVariants.{TooLong, NotAscii, TooManyRecords, NotDay, FieldCount, BadField}
 use Rattle.dam_results.specs.declared.journal_reading.JournalFault.TheVariants.{Memory}
-use Rattle.dam_results.specs.Records.{Fields, day_row, row_of, kind_field}
+use Rattle.dam_results.specs.Records.{Fields, record_of_day, record_of_command, kind_field}
 use Rattle.dam_results.specs.Journal.{AreRecords, IsCommand}
 use Rattle.dam_results.specs.inside.Reader.{most_kept, TakesFirst}
 use Rattle.dam_results.specs.Faults.{IsInPlace, IsRecordFault, HasFault, IsFaultOfRecords}
@@ -27,7 +27,7 @@ IsFaultOfRecords-has rows Memory h = tt
 pub in_first : (rows rest : List Fields) (row : Fields) (fault : JournalFault) → rows ≡ row ∷ rest → IsRecordFault 1 row fault
     → IsFaultOfRecords rows fault
 in_first rows rest row fault e h = IsFaultOfRecords-has rows fault
-    (record { front = []; row = row; rest = rest; parts = e; fine = inl refl; faulty = h })
+    (record { front = []; fields = row; rest = rest; parts = e; fine = inl refl; faulty = h })
 
 -- as many fields as a valid record has are all of them
 all_kept : (row kept : Fields) → kept ≡ take most_kept row → length kept ≡ 9 → row ≡ kept
@@ -64,17 +64,17 @@ faulty_row number row kept fault first (inr faulty) = inr (fault_of_row number r
 
 -- the value of the first record, or its fault
 pub first_record : (rows rest : List Fields) (kept : Fields) (read : Result ℕ JournalFault) → TakesFirst rows rest kept
-    → MatchResult read (λ periods. (is_day periods ≡ true) × (kept ≡ day_row periods)) (IsRecordFault 1 kept)
-    → MatchResult read (λ periods. (is_day periods ≡ true) × (rows ≡ day_row periods ∷ rest)) (IsFaultOfRecords rows)
+    → MatchResult read (λ periods. (is_day periods ≡ true) × (kept ≡ record_of_day periods)) (IsRecordFault 1 kept)
+    → MatchResult read (λ periods. (is_day periods ≡ true) × (rows ≡ record_of_day periods ∷ rest)) (IsFaultOfRecords rows)
 first_record rows rest kept (Ok periods) h said =
-    let whole : h.row ≡ day_row periods = all_kept h.row kept h.first (ap length said.1) ∙ said.1 in
-    (said.0, h.rows ∙ ap (λ (r : Fields). r ∷ rest) whole)
+    let whole : h.fields ≡ record_of_day periods = all_kept h.fields kept h.first (ap length said.1) ∙ said.1 in
+    (said.0, h.records ∙ ap (λ (r : Fields). r ∷ rest) whole)
 first_record rows rest kept (Err fault) h faulty =
-    in_first rows rest h.row fault h.rows (fault_of_row 1 h.row kept fault h.first faulty)
+    in_first rows rest h.fields fault h.records (fault_of_row 1 h.fields kept fault h.first faulty)
 
 -- the commands read so far of the records after the day, and the records left
 pub record Reads (rows : List Fields) (commands : List Command) (rest : List Fields) : Type 0 where
-  pub parts : rows ≡ map row_of commands ++ rest
+  pub parts : rows ≡ map record_of_command commands ++ rest
   pub valid : AllByRecursion IsCommand commands
   pub few : length commands + 1 ≤ most_records
 
@@ -85,7 +85,7 @@ AllByRecursion-push (d ∷ cs) c h k = (h.0, AllByRecursion-push cs c h.1 k)
 
 pub Reads-more : (rows : List Fields) (commands : List Command) (rest more : List Fields) (row : Fields) (command : Command)
     → Reads rows commands rest → rest ≡ row ∷ more
-    → (length commands + 2 ≤ most_records) × IsCommand command × (row ≡ row_of command) → Reads rows (commands ++ command ∷ []) more
+    → (length commands + 2 ≤ most_records) × IsCommand command × (row ≡ record_of_command command) → Reads rows (commands ++ command ∷ []) more
 Reads-more rows commands rest more row command h e k = record {
   parts = h.parts ∙ rw (e, k.2, map-append, append_assoc) refl;
   valid = AllByRecursion-push commands command h.valid k.1;
@@ -95,31 +95,31 @@ Reads-more rows commands rest more row command h e k = record {
 -- a later record has that fault
 pub in_later : (rows : List Fields) (periods : ℕ) (commands : List Command) (rest more : List Fields) (row : Fields) (fault : JournalFault)
     → is_day periods ≡ true → Reads rows commands rest → rest ≡ row ∷ more
-    → IsRecordFault (length commands + 2) row fault → IsFaultOfRecords (day_row periods ∷ rows) fault
+    → IsRecordFault (length commands + 2) row fault → IsFaultOfRecords (record_of_day periods ∷ rows) fault
 in_later rows periods commands rest more row fault day h e faulty =
-    let front : List Fields = day_row periods ∷ map row_of commands in
-    let len : length (map row_of commands) ≡ length commands = length-map commands row_of in
+    let front : List Fields = record_of_day periods ∷ map record_of_command commands in
+    let len : length (map record_of_command commands) ≡ length commands = length-map commands record_of_command in
     let number : length commands + 2 ≡ length front + 1 = omega arith in
-    IsFaultOfRecords-has (day_row periods ∷ rows) fault (record {
+    IsFaultOfRecords-has (record_of_day periods ∷ rows) fault (record {
       front = front;
-      row = row;
+      fields = row;
       rest = more;
-      parts = ap (λ (rs : List Fields). day_row periods ∷ rs) (h.parts ∙ ap (λ (rs : List Fields). map row_of commands ++ rs) e);
+      parts = ap (λ (rs : List Fields). record_of_day periods ∷ rs) (h.parts ∙ ap (λ (rs : List Fields). map record_of_command commands ++ rs) e);
       fine = inr (periods, commands, record { few = let n = h.few in omega arith; day = day; valid = h.valid; written = refl });
       faulty = subst (λ (n : ℕ). IsRecordFault n row fault) number faulty;
     })
 
 -- at the end of the records they are a journal
 pub AreRecords-all : (rows : List Fields) (periods : ℕ) (commands : List Command) (rest : List Fields) → is_day periods ≡ true
-    → Reads rows commands rest → rest ≡ [] → AreRecords (day_row periods ∷ rows) periods commands
+    → Reads rows commands rest → rest ≡ [] → AreRecords (record_of_day periods ∷ rows) periods commands
 AreRecords-all rows periods commands rest day h e =
-    let len : length (map row_of commands) ≡ length commands = length-map commands row_of in
-    let all : rows ≡ map row_of commands = h.parts ∙ rw (e, append-nil) refl in
+    let len : length (map record_of_command commands) ≡ length commands = length-map commands record_of_command in
+    let all : rows ≡ map record_of_command commands = h.parts ∙ rw (e, append-nil) refl in
     record {
       few = let n = h.few in let m = ap length all in omega arith;
       day = day;
       valid = h.valid;
-      written = ap (λ (rs : List Fields). day_row periods ∷ rs) all;
+      written = ap (λ (rs : List Fields). record_of_day periods ∷ rs) all;
     }
 
 -- the commands read so far, `count` of them, made this
@@ -134,7 +134,7 @@ pub record ReadsInto {T : Type 0} (MadeOf : ℕ → List Command → T → Type 
 pub ReadsInto-more : {T : Type 0} (MadeOf : ℕ → List Command → T → Type 0) (periods : ℕ) (rows rest more : List Fields) (row : Fields)
     (count next : ℕ) (command : Command) (before after : T)
     → (h : ReadsInto MadeOf periods rows rest count before) → rest ≡ row ∷ more → next ≡ count + 1
-    → (next + 1 ≤ most_records) × IsCommand command × (row ≡ row_of command)
+    → (next + 1 ≤ most_records) × IsCommand command × (row ≡ record_of_command command)
     → ((commands : List Command) → length commands + 1 ≡ next → MadeOf periods commands before → MadeOf periods
     (commands ++ command ∷ []) after)
     → ReadsInto MadeOf periods rows more next after
@@ -154,7 +154,7 @@ pub ReadsInto-fault : {T : Type 0} (MadeOf : ℕ → List Command → T → Type
     (count number : ℕ) (made : T) (fault : JournalFault)
     → is_day periods ≡ true → ReadsInto MadeOf periods rows rest count made → rest ≡ row ∷ more → number ≡ count + 2 → (fault ≡ Memory)
     ⊎ IsRecordFault number row fault
-    → IsFaultOfRecords (day_row periods ∷ rows) fault
+    → IsFaultOfRecords (record_of_day periods ∷ rows) fault
 ReadsInto-fault MadeOf periods rows rest more row count number made fault day h first at (inl memory) = rw memory tt
 ReadsInto-fault MadeOf periods rows rest more row count number made fault day h first at (inr faulty) =
     let counted = h.counted in
@@ -164,6 +164,6 @@ ReadsInto-fault MadeOf periods rows rest more row count number made fault day h 
 -- at the end of the records, the value that was made is the value of the whole journal
 pub ReadsInto-all : {T : Type 0} (MadeOf : ℕ → List Command → T → Type 0) (periods : ℕ) (rows rest : List Fields) (count : ℕ) (made : T)
     → is_day periods ≡ true → ReadsInto MadeOf periods rows rest count made
-    → rest ≡ [] → (commands : List Command) × AreRecords (day_row periods ∷ rows) periods commands × MadeOf periods commands made
+    → rest ≡ [] → (commands : List Command) × AreRecords (record_of_day periods ∷ rows) periods commands × MadeOf periods commands made
 ReadsInto-all MadeOf periods rows rest count made day h none =
     (h.commands, AreRecords-all rows periods h.commands rest day h.reads none, h.made_of)

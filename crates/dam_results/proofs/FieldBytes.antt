@@ -24,7 +24,7 @@ use Rattle.dam_book.specs.declared.order.Side.TheVariants.{Buy, Sell}
 use Rattle.dam_book.specs.declared.order.Order.TheVariants.{Hour, Block}
 use Rattle.dam_book.specs.declared.command.Command.{Command}
 use Rattle.dam_book.specs.declared.command.Command.TheVariants.{Submit, Amend, Cancel, Close}
-use Rattle.dam_results.specs.Records.{Fields, day_row, row_of, side_word, optional_text}
+use Rattle.dam_results.specs.Records.{Fields, record_of_day, record_of_command, side_word, optional_text}
 use Rattle.dam_results.specs.Journal.{IsCommand}
 use Rattle.dam_results.proofs.Rules.{short_day}
 
@@ -166,7 +166,7 @@ AreFields [] (x ∷ xs) = ⊥
 AreFields (n ∷ ns) [] = ⊥
 AreFields (n ∷ ns) (x ∷ xs) = IsFieldText n x × AreFields ns xs
 
-pub day_fields : (periods : ℕ) → is_day periods ≡ true → AreFields limits (day_row periods)
+pub day_fields : (periods : ℕ) → is_day periods ≡ true → AreFields limits (record_of_day periods)
 unfolding limits
 day_fields periods day =
     let small = short_day periods day in
@@ -176,7 +176,7 @@ day_fields periods day =
     let number : IsFieldText longest_participant (decimal periods) = record { fits = omega arith; bytes = digits periods (omega arith) } in
     (word, (number, (empty _, (empty _, (empty _, (empty _, (empty _, (empty _, (empty _, tt)))))))))
 
-pub command_fields : (command : Command) → IsCommand command → AreFields limits (row_of command)
+pub command_fields : (command : Command) → IsCommand command → AreFields limits (record_of_command command)
 unfolding limits
 command_fields (Submit who text (Hour o)) h =
     let word : IsFieldText 6 (codes "submit") = record { fits = omega arith; bytes = refl } in

@@ -16,7 +16,7 @@ use Rattle.dam_results.specs.Limits.{most_records}
 use Rattle.dam_results.specs.declared.journal_reading.JournalFault.{JournalFault}
 use Rattle.dam_results.specs.declared.journal_reading.JournalFault.TheVariants.{TooLong, NotAscii, TooManyRecords, NotDay, FieldCount, BadField}
 use Rattle.dam_results.specs.declared.journal_reading.JournalFault.TheVariants.{Memory}
-use Rattle.dam_results.specs.Records.{Fields, day_row, row_of, records_of, kind_field, optional_text, side_word}
+use Rattle.dam_results.specs.Records.{Fields, record_of_day, record_of_command, records_of, kind_field, optional_text, side_word}
 use Rattle.dam_results.specs.Rules.{FieldRule, OneOf, LimitPrice, OneVolume, AllVolumes, NameOrEmpty, Obeys, IsLeastBroken, rules_of, command_rules, day_rules}
 use Rattle.dam_results.specs.Journal.{AreRecords, IsCommand, ReadsAs}
 use Rattle.dam_results.specs.Faults.{IsRecordFault, HasFault, IsJournalFault}
@@ -33,7 +33,7 @@ none_broken (rule ∷ rules) (field ∷ fields) zero k h = h
 none_broken (rule ∷ rules) (field ∷ fields) (suc zero) k h = h k.0
 none_broken (rule ∷ rules) (field ∷ fields) (suc (suc n)) k h = none_broken rules fields (suc n) k.1 h.1
 
-ObeyAll-day : (periods : ℕ) → is_day periods ≡ true → ObeyAll day_rules (day_row periods)
+ObeyAll-day : (periods : ℕ) → is_day periods ≡ true → ObeyAll day_rules (record_of_day periods)
 ObeyAll-day periods day = (refl, ((periods, day, refl), (refl, (refl, (refl, (refl, (refl, (refl, (refl, tt)))))))))
 
 Keeps-side : (side : Side) → Obeys (OneOf (codes "buy" ∷ codes "sell" ∷ [])) (side_word side)
@@ -44,7 +44,7 @@ Keeps-optional : (name : Option (List ℕ)) → IfSome name IsName → Obeys Nam
 Keeps-optional None h = inl refl
 Keeps-optional (Some text) h = inr h
 
-ObeyAll-command : (c : Command) → IsCommand c → ObeyAll (command_rules (row_of c)) (row_of c)
+ObeyAll-command : (c : Command) → IsCommand c → ObeyAll (command_rules (record_of_command c)) (record_of_command c)
 ObeyAll-command (Submit who name (Hour o)) h =
     let price : Obeys LimitPrice (price_text o.price) = (o.price, h.2.price, refl) in
     let volume : Obeys OneVolume (volumes_text ((o.period, o.qty) ∷ [])) = (o.period, o.qty, h.2.period, h.2.qty, refl) in
@@ -60,7 +60,7 @@ ObeyAll-command (Amend who name price volumes) h =
 ObeyAll-command (Cancel who name) h = (refl, (h.0, (h.1, (refl, (refl, (refl, (refl, (refl, (refl, tt)))))))))
 ObeyAll-command Close h = (refl, (refl, (refl, (refl, (refl, (refl, (refl, (refl, (refl, tt)))))))))
 
-pub nine_fields : (c : Command) → length (row_of c) ≡ 9
+pub nine_fields : (c : Command) → length (record_of_command c) ≡ 9
 nine_fields (Submit who name (Hour o)) = refl
 nine_fields (Submit who name (Block o)) = refl
 nine_fields (Amend who name price volumes) = refl
@@ -83,10 +83,10 @@ IsSound-none number row (FieldCount at) s h = h.2 s.nine
 IsSound-none number row (BadField at field) s h = none_broken (rules_of number row) row field s.kept h.3
 IsSound-none number row Memory s h = h
 
-IsSound-day : (row : Fields) (periods : ℕ) → is_day periods ≡ true → row ≡ day_row periods → IsSound 1 row
+IsSound-day : (row : Fields) (periods : ℕ) → is_day periods ≡ true → row ≡ record_of_day periods → IsSound 1 row
 IsSound-day row periods day e = rw e (record { few = omega arith; nine = refl; first = λ one. refl; kept = ObeyAll-day periods day })
 
-IsSound-command : (number : ℕ) (row : Fields) (c : Command) → 1 < number → number ≤ most_records → IsCommand c → row ≡ row_of c
+IsSound-command : (number : ℕ) (row : Fields) (c : Command) → 1 < number → number ≤ most_records → IsCommand c → row ≡ record_of_command c
     → IsSound number row
 IsSound-command number row c later few valid e =
     let test : eqb number 1 ≡ false = grind (arith, nat_tests) in
@@ -96,10 +96,10 @@ IsSound-command number row c later few valid e =
 record IsWritten (row : Fields) : Type 0 where
   command : Command
   valid : IsCommand command
-  written : row ≡ row_of command
+  written : row ≡ record_of_command command
 
 IsWritten-at : (front : List Fields) (row : Fields) (rest : List Fields) (cs : List Command) → AllByRecursion IsCommand cs
-    → front ++ row ∷ rest ≡ map row_of cs → IsWritten row
+    → front ++ row ∷ rest ≡ map record_of_command cs → IsWritten row
 IsWritten-at [] row rest [] valid e = absurd cc
 IsWritten-at [] row rest (c ∷ cs) valid e = record { command = c; valid = valid.0; written = cc }
 IsWritten-at (f ∷ front) row rest [] valid e = absurd cc
@@ -107,7 +107,7 @@ IsWritten-at (f ∷ front) row rest (c ∷ cs) valid e = IsWritten-at front row 
 
 IsSound-at : (front : List Fields) (row : Fields) (rest : List Fields) (periods : ℕ) (cs : List Command) → is_day periods ≡ true
     → AllByRecursion IsCommand cs
-    → length front + 1 ≤ most_records → front ++ row ∷ rest ≡ day_row periods ∷ map row_of cs → IsSound (length front + 1) row
+    → length front + 1 ≤ most_records → front ++ row ∷ rest ≡ record_of_day periods ∷ map record_of_command cs → IsSound (length front + 1) row
 IsSound-at [] row rest periods cs day valid few e = IsSound-day row periods day (cc)
 IsSound-at (f ∷ front) row rest periods cs day valid few e =
     let w = IsWritten-at front row rest cs valid (cc) in
@@ -116,10 +116,10 @@ IsSound-at (f ∷ front) row rest periods cs day valid few e =
 pub HasFault-none : (rows : List Fields) (fault : JournalFault) (periods : ℕ) (cs : List Command) → AreRecords rows periods cs
     → HasFault rows fault → ⊥
 HasFault-none rows fault periods cs r h =
-    let len : length rows ≡ length h.front + length (h.row ∷ h.rest) = ap length h.parts ∙ length-append h.front (h.row ∷ h.rest) in
+    let len : length rows ≡ length h.front + length (h.fields ∷ h.rest) = ap length h.parts ∙ length-append h.front (h.fields ∷ h.rest) in
     let few : length h.front + 1 ≤ most_records = let n = r.few in omega arith in
-    IsSound-none (length h.front + 1) h.row fault
-    (IsSound-at h.front h.row h.rest periods cs r.day r.valid few (sym h.parts ∙ r.written)) h.faulty
+    IsSound-none (length h.front + 1) h.fields fault
+    (IsSound-at h.front h.fields h.rest periods cs r.day r.valid few (sym h.parts ∙ r.written)) h.faulty
 
 some_rows : (rows : List Fields) (periods : ℕ) (cs : List Command) → AreRecords rows periods cs → rows ≡ [] → ⊥
 some_rows rows periods cs r e = let w = r.written in absurd cc

@@ -83,11 +83,11 @@ record_at-one (w ∷ xs) (z ∷ ys) tail rest x y e same = record_at-one xs ys t
 -- no faulty record comes before the first one
 not_earlier : (rows : List Fields) (f g : JournalFault) (h : HasFault rows f) (k : HasFault rows g) → length h.front < length k.front → ⊥
 not_earlier rows f g h k less =
-    let split = front_splits h.front k.front h.rest k.rest h.row k.row (sym h.parts ∙ k.parts) less in
+    let split = front_splits h.front k.front h.rest k.rest h.fields k.fields (sym h.parts ∙ k.parts) less in
     elim k.fine [
       | inl none ↦ let empty : length k.front ≡ 0 = ap length none in omega (arith, less, empty)
       | inr fine ↦ HasFault-none k.front f fine.0 fine.1 fine.2
-          (record { front = h.front; row = h.row; rest = split.0; parts = split.1; fine = h.fine; faulty = h.faulty })
+          (record { front = h.front; fields = h.fields; rest = split.0; parts = split.1; fine = h.fine; faulty = h.faulty })
     ]
 
 HasFault-one : (rows : List Fields) (f g : JournalFault) → HasFault rows f → HasFault rows g → f ≡ g
@@ -95,14 +95,14 @@ HasFault-one rows f g h k =
     let at_most : length k.front < suc (length h.front) = lt_of_not-le (not_earlier rows f g h k) in
     let at_least : length h.front < suc (length k.front) = lt_of_not-le (not_earlier rows g f k h) in
     let same : length h.front ≡ length k.front = omega (arith, at_most, at_least) in
-    let row : h.row ≡ k.row = record_at-one h.front k.front h.rest k.rest h.row k.row (sym h.parts ∙ k.parts) same in
-    let moved : IsRecordFault (length k.front + 1) k.row f = subst (λ (r : Fields). IsRecordFault (length k.front + 1) r f) row
-    (subst (λ (n : ℕ). IsRecordFault (n + 1) h.row f) same h.faulty) in
-    record_fault-one (length k.front + 1) k.row f g moved k.faulty
+    let row : h.fields ≡ k.fields = record_at-one h.front k.front h.rest k.rest h.fields k.fields (sym h.parts ∙ k.parts) same in
+    let moved : IsRecordFault (length k.front + 1) k.fields f = subst (λ (r : Fields). IsRecordFault (length k.front + 1) r f) row
+    (subst (λ (n : ℕ). IsRecordFault (n + 1) h.fields f) same h.faulty) in
+    record_fault-one (length k.front + 1) k.fields f g moved k.faulty
 
 HasFault-some : (rows : List Fields) (f : JournalFault) → HasFault rows f → rows ≡ [] → ⊥
 HasFault-some rows f h none =
-    let parts : length rows ≡ length h.front + length (h.row ∷ h.rest) = ap length h.parts ∙ length-append h.front (h.row ∷ h.rest) in
+    let parts : length rows ≡ length h.front + length (h.fields ∷ h.rest) = ap length h.parts ∙ length-append h.front (h.fields ∷ h.rest) in
     let empty : length rows ≡ 0 = ap length none in
     omega (arith, parts, empty)
 

@@ -11,11 +11,11 @@ use Rattle.dam_book.specs.declared.command.Command.{Command}
 use Rattle.dam_book.specs.declared.command.Entry.{Entry}
 use Rattle.dam_book.specs.Limits.{most_entries}
 use Rattle.dam_results.specs.Limits.{most_bytes}
-use Rattle.dam_results.specs.Records.{Fields, records_of, day_row, row_of}
+use Rattle.dam_results.specs.Records.{Fields, records_of, record_of_day, record_of_command}
 use Rattle.dam_results.specs.Journal.{IsCommand, ReadsAs, first_non_ascii}
-use Rattle.dam_results.specs.Spelling.{IsLineEnd, LineFeed, CarriageReturn, Both, IsSpelledField, Bare, Quoted, IsSpelledRow, One, More}
+use Rattle.dam_results.specs.Spelling.{IsLineEnd, LineFeed, CarriageReturn, Both, IsSpelledField, Bare, Quoted, IsSpelledRecord, One, More}
 use Rattle.dam_results.specs.Spelling.{IsSpelled, Nothing, EmptyLine, Record, LastRecord}
-use Rattle.dam_results.specs.Written.{row_line, command_line, written, journal_text}
+use Rattle.dam_results.specs.Written.{record_line, command_line, written, journal_text}
 use Rattle.dam_results.proofs.FieldBytes.{HasFieldBytes, AreFields, limits, day_fields, command_fields}
 use Rattle.dam_results.proofs.SpelledRecords.{IsPlain, ArePlain, IsPlainRow, ArePlainRows, records_of-spelled}
 
@@ -57,12 +57,12 @@ plain_rows : (rows : List Fields) → AreRows rows → ArePlainRows rows
 plain_rows [] h = tt
 plain_rows (row ∷ rows) h = (plain_row row h.0, plain_rows rows h.1)
 
-command_rows : (commands : List Command) → AllByRecursion IsCommand commands → AreRows (map row_of commands)
+command_rows : (commands : List Command) → AllByRecursion IsCommand commands → AreRows (map record_of_command commands)
 command_rows [] h = tt
 command_rows (c ∷ cs) h = (command_fields c h.0, command_rows cs h.1)
 
 journal_rows : (periods : ℕ) (commands : List Command) → is_day periods ≡ true → AllByRecursion IsCommand commands → AreRows
-    (day_row periods ∷ map row_of commands)
+    (record_of_day periods ∷ map record_of_command commands)
 journal_rows periods commands day valid = (day_fields periods day, command_rows commands valid)
 
 -- texts of ASCII bytes
@@ -84,7 +84,7 @@ low_spelled_field : (x text : List ℕ) → IsSpelledField x text → HasFieldBy
 low_spelled_field _ _ (Bare x) h = low_field x h
 low_spelled_field _ _ (Quoted x) h = IsLow-append (34 ∷ x) (34 ∷ []) (low_field x h) refl
 
-low_line : (row : Fields) (line : List ℕ) → IsSpelledRow row line → (ns : List ℕ) → AreFields ns row → IsLow line
+low_line : (row : Fields) (line : List ℕ) → IsSpelledRecord row line → (ns : List ℕ) → AreFields ns row → IsLow line
 low_line _ _ (One x text f) [] h = absurd h
 low_line _ _ (One x text f) (n ∷ ns) h = low_spelled_field x text f h.0.bytes
 low_line _ _ (More x text xs others f g) [] h = absurd h
@@ -119,16 +119,16 @@ first_non_ascii-low x h = rw (all_low x h, not_less (length x)) refl
 -- a text that spells a journal's records reads as that journal
 pub reads_spelled : (periods : ℕ) (commands : List Command) (text : List ℕ) → is_day periods ≡ true → AllByRecursion IsCommand commands
     → length commands ≤ most_entries
-    → length text ≤ most_bytes → IsSpelled (day_row periods ∷ map row_of commands) text → ReadsAs text periods commands
+    → length text ≤ most_bytes → IsSpelled (record_of_day periods ∷ map record_of_command commands) text → ReadsAs text periods commands
 reads_spelled periods commands text day valid few short spelled =
-    let rows : List Fields = day_row periods ∷ map row_of commands in
+    let rows : List Fields = record_of_day periods ∷ map record_of_command commands in
     let fields : AreRows rows = journal_rows periods commands day valid in
     let read : records_of text ≡ rows = records_of-spelled rows text spelled (plain_rows rows fields) in
     record {
       short = short;
       ascii = first_non_ascii-low text (low_text rows text spelled fields);
       records = record {
-        few = let n = ap length read in let m = length-map commands row_of in omega arith;
+        few = let n = ap length read in let m = length-map commands record_of_command in omega arith;
         day = day;
         valid = valid;
         written = read;
@@ -137,26 +137,26 @@ reads_spelled periods commands text day valid few short spelled =
 
 -- the written form spells its records
 
-joined : (x : List ℕ) (xs : Fields) → IsSpelledRow (x ∷ xs) (join_with_byte 44 (x ∷ xs))
+joined : (x : List ℕ) (xs : Fields) → IsSpelledRecord (x ∷ xs) (join_with_byte 44 (x ∷ xs))
 joined x [] = One x x (Bare x)
 joined x (y ∷ ys) = More x x (y ∷ ys) (join_with_byte 44 (y ∷ ys)) (Bare x) (joined y ys)
 
 spelled_line : (row : Fields) (rows : List Fields) (rest : List ℕ) → AreFields limits row → IsSpelled rows rest → IsSpelled (row ∷ rows)
-    (row_line row ++ rest)
+    (record_line row ++ rest)
 unfolding limits
 spelled_line [] rows rest h s = absurd h
 spelled_line (x ∷ xs) rows rest h s =
     subst (λ (text : List ℕ). IsSpelled ((x ∷ xs) ∷ rows) text) (sym (append_assoc (join_with_byte 44 (x ∷ xs)) (10 ∷ []) rest))
     (Record (x ∷ xs) rows (join_with_byte 44 (x ∷ xs)) (10 ∷ []) rest (joined x xs) LineFeed s)
 
-spelled_lines : (commands : List Command) → AllByRecursion IsCommand commands → IsSpelled (map row_of commands)
+spelled_lines : (commands : List Command) → AllByRecursion IsCommand commands → IsSpelled (map record_of_command commands)
     (flat_map command_line commands)
 spelled_lines [] h = Nothing
-spelled_lines (c ∷ cs) h = spelled_line (row_of c) (map row_of cs) (flat_map command_line cs) (command_fields c h.0) (spelled_lines cs h.1)
+spelled_lines (c ∷ cs) h = spelled_line (record_of_command c) (map record_of_command cs) (flat_map command_line cs) (command_fields c h.0) (spelled_lines cs h.1)
 
 pub spelled_written : (periods : ℕ) (commands : List Command) → is_day periods ≡ true → AllByRecursion IsCommand commands → IsSpelled
-    (day_row periods ∷ map row_of commands) (written periods commands)
-spelled_written periods commands day valid = spelled_line (day_row periods) (map row_of commands) (flat_map command_line commands)
+    (record_of_day periods ∷ map record_of_command commands) (written periods commands)
+spelled_written periods commands day valid = spelled_line (record_of_day periods) (map record_of_command commands) (flat_map command_line commands)
     (day_fields periods day) (spelled_lines commands valid)
 
 -- and is short enough
@@ -181,7 +181,7 @@ line_length (n ∷ m ∷ ns) (x ∷ y ∷ xs) h =
 abbrev longest_line : ℕ
 longest_line = line_limit limits
 
-short_line : (row : Fields) → AreFields limits row → length (row_line row) ≤ longest_line
+short_line : (row : Fields) → AreFields limits row → length (record_line row) ≤ longest_line
 unfolding limits
 short_line row h = let f = line_length limits row h in omega (arith, length-append (join_with_byte 44 row) (10 ∷ []))
 
@@ -189,7 +189,7 @@ short_lines : (commands : List Command) → AllByRecursion IsCommand commands �
     (flat_map command_line commands) ≤ longest_line * length commands
 short_lines [] h = omega arith
 short_lines (c ∷ cs) h =
-    let first = short_line (row_of c) (command_fields c h.0) in
+    let first = short_line (record_of_command c) (command_fields c h.0) in
     let more = short_lines cs h.1 in
     omega (arith, length-append (command_line c) (flat_map command_line cs))
 
@@ -197,9 +197,9 @@ short_written : (periods : ℕ) (commands : List Command) → is_day periods ≡
     → length commands ≤ most_entries → length (written periods commands) ≤ most_bytes
 unfolding limits
 short_written periods commands day valid few =
-    let first = short_line (day_row periods) (day_fields periods day) in
+    let first = short_line (record_of_day periods) (day_fields periods day) in
     let more = short_lines commands valid in
-    omega (arith, length-append (row_line (day_row periods)) (flat_map command_line commands))
+    omega (arith, length-append (record_line (record_of_day periods)) (flat_map command_line commands))
 
 pub reads_written : (periods : ℕ) (commands : List Command) → is_day periods ≡ true → AllByRecursion IsCommand commands
     → length commands ≤ most_entries → ReadsAs (written periods commands) periods commands

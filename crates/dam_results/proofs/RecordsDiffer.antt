@@ -16,7 +16,7 @@ use Rattle.dam_book.specs.declared.order.Order.{Order}
 use Rattle.dam_book.specs.declared.order.Order.TheVariants.{Hour, Block}
 use Rattle.dam_book.specs.declared.command.Command.{Command}
 use Rattle.dam_book.specs.declared.command.Command.TheVariants.{Submit, Amend, Cancel, Close}
-use Rattle.dam_results.specs.Records.{Fields, kind_field, day_row, row_of, order_fields, optional_text, side_word}
+use Rattle.dam_results.specs.Records.{Fields, kind_field, record_of_day, record_of_command, order_fields, optional_text, side_word}
 use Rattle.dam_results.specs.Journal.{AreRecords, IsCommand}
 use Rattle.dam_results.proofs.Rules.{one_volume, short_day}
 
@@ -87,18 +87,18 @@ same_order differ (Block o) (Block r) h k e = ap (λ (t : BlockTerms). Block t) 
 abbrev kind_letter : Fields → ℕ
 kind_letter row = get_or (kind_field row) 1 0
 
-row_of-injective : TextsDiffer → (c d : Command) → IsCommand c → IsCommand d → row_of c ≡ row_of d → c ≡ d
-row_of-injective differ (Submit a m o) (Submit b n r) h k e =
+record_of_command-injective : TextsDiffer → (c d : Command) → IsCommand c → IsCommand d → record_of_command c ≡ record_of_command d → c ≡ d
+record_of_command-injective differ (Submit a m o) (Submit b n r) h k e =
     let who : a ≡ b = cc in
     let name : m ≡ n = cc in
     let fields : order_fields o ≡ order_fields r = cc in
     let same : o ≡ r = same_order differ o r h.2 k.2 fields in
     cc
-row_of-injective differ (Submit a m o) (Amend b n p v) h k e = absurd (let same : 117 ≡ 109 = ap kind_letter e in omega (arith, same))
-row_of-injective differ (Submit a m o) (Cancel b n) h k e = absurd (let same : 117 ≡ 97 = ap kind_letter e in omega (arith, same))
-row_of-injective differ (Submit a m o) Close h k e = absurd (let same : 117 ≡ 108 = ap kind_letter e in omega (arith, same))
-row_of-injective differ (Amend a m p v) (Submit b n r) h k e = absurd (let same : 109 ≡ 117 = ap kind_letter e in omega (arith, same))
-row_of-injective differ (Amend a m p v) (Amend b n q w) h k e =
+record_of_command-injective differ (Submit a m o) (Amend b n p v) h k e = absurd (let same : 117 ≡ 109 = ap kind_letter e in omega (arith, same))
+record_of_command-injective differ (Submit a m o) (Cancel b n) h k e = absurd (let same : 117 ≡ 97 = ap kind_letter e in omega (arith, same))
+record_of_command-injective differ (Submit a m o) Close h k e = absurd (let same : 117 ≡ 108 = ap kind_letter e in omega (arith, same))
+record_of_command-injective differ (Amend a m p v) (Submit b n r) h k e = absurd (let same : 109 ≡ 117 = ap kind_letter e in omega (arith, same))
+record_of_command-injective differ (Amend a m p v) (Amend b n q w) h k e =
     let who : a ≡ b = cc in
     let name : m ≡ n = cc in
     let prices : price_text p ≡ price_text q = cc in
@@ -106,24 +106,24 @@ row_of-injective differ (Amend a m p v) (Amend b n q w) h k e =
     let price : p ≡ q = differ.prices p q h.2 k.2 prices in
     let volumes : v ≡ w = differ.volumes v w h.3 k.3 texts in
     cc
-row_of-injective differ (Amend a m p v) (Cancel b n) h k e = absurd (let same : 109 ≡ 97 = ap kind_letter e in omega (arith, same))
-row_of-injective differ (Amend a m p v) Close h k e = absurd (let same : 109 ≡ 108 = ap kind_letter e in omega (arith, same))
-row_of-injective differ (Cancel a m) (Submit b n r) h k e = absurd (let same : 97 ≡ 117 = ap kind_letter e in omega (arith, same))
-row_of-injective differ (Cancel a m) (Amend b n q w) h k e = absurd (let same : 97 ≡ 109 = ap kind_letter e in omega (arith, same))
-row_of-injective differ (Cancel a m) (Cancel b n) h k e = cc
-row_of-injective differ (Cancel a m) Close h k e = absurd (let same : 97 ≡ 108 = ap kind_letter e in omega (arith, same))
-row_of-injective differ Close (Submit b n r) h k e = absurd (let same : 108 ≡ 117 = ap kind_letter e in omega (arith, same))
-row_of-injective differ Close (Amend b n q w) h k e = absurd (let same : 108 ≡ 109 = ap kind_letter e in omega (arith, same))
-row_of-injective differ Close (Cancel b n) h k e = absurd (let same : 108 ≡ 97 = ap kind_letter e in omega (arith, same))
-row_of-injective differ Close Close h k e = refl
+record_of_command-injective differ (Amend a m p v) (Cancel b n) h k e = absurd (let same : 109 ≡ 97 = ap kind_letter e in omega (arith, same))
+record_of_command-injective differ (Amend a m p v) Close h k e = absurd (let same : 109 ≡ 108 = ap kind_letter e in omega (arith, same))
+record_of_command-injective differ (Cancel a m) (Submit b n r) h k e = absurd (let same : 97 ≡ 117 = ap kind_letter e in omega (arith, same))
+record_of_command-injective differ (Cancel a m) (Amend b n q w) h k e = absurd (let same : 97 ≡ 109 = ap kind_letter e in omega (arith, same))
+record_of_command-injective differ (Cancel a m) (Cancel b n) h k e = cc
+record_of_command-injective differ (Cancel a m) Close h k e = absurd (let same : 97 ≡ 108 = ap kind_letter e in omega (arith, same))
+record_of_command-injective differ Close (Submit b n r) h k e = absurd (let same : 108 ≡ 117 = ap kind_letter e in omega (arith, same))
+record_of_command-injective differ Close (Amend b n q w) h k e = absurd (let same : 108 ≡ 109 = ap kind_letter e in omega (arith, same))
+record_of_command-injective differ Close (Cancel b n) h k e = absurd (let same : 108 ≡ 97 = ap kind_letter e in omega (arith, same))
+record_of_command-injective differ Close Close h k e = refl
 
 rows-injective : TextsDiffer → (cs ds : List Command) → AllByRecursion IsCommand cs → AllByRecursion IsCommand ds
-    → map row_of cs ≡ map row_of ds → cs ≡ ds
+    → map record_of_command cs ≡ map record_of_command ds → cs ≡ ds
 rows-injective differ [] [] h k e = refl
 rows-injective differ [] (d ∷ ds) h k e = absurd cc
 rows-injective differ (c ∷ cs) [] h k e = absurd cc
 rows-injective differ (c ∷ cs) (d ∷ ds) h k e =
-    let first : c ≡ d = row_of-injective differ c d h.0 k.0 (cc) in
+    let first : c ≡ d = record_of_command-injective differ c d h.0 k.0 (cc) in
     let others : cs ≡ ds = rows-injective differ cs ds h.1 k.1 (cc) in
     cc
 
@@ -134,6 +134,6 @@ small_day periods day = let short = short_day periods day in omega (arith, short
 pub AreRecords-one : TextsDiffer → (rows : List Fields) (p q : ℕ) (cs ds : List Command) → AreRecords rows p cs → AreRecords rows q ds →
     (p ≡ q) × (cs ≡ ds)
 AreRecords-one differ rows p q cs ds h k =
-    let e : day_row p ∷ map row_of cs ≡ day_row q ∷ map row_of ds = sym h.written ∙ k.written in
+    let e : record_of_day p ∷ map record_of_command cs ≡ record_of_day q ∷ map record_of_command ds = sym h.written ∙ k.written in
     let texts : decimal p ≡ decimal q = cc in
     (decimal_injective p q (small_day p h.day) (small_day q k.day) texts, rows-injective differ cs ds h.valid k.valid (cc))

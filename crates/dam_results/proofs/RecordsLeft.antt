@@ -9,7 +9,7 @@ use Rattle.csv.specs.Reading.{default_config, records_from}
 use Rattle.csv.specs.declared.parser.State.{State}
 use Rattle.csv.specs.declared.parser.State.TheVariants as st
 use Rattle.dam_results.specs.Records.{Fields, records_of}
-use Rattle.dam_results.specs.inside.Reader.{most_kept, ends_line, BeginsWithRow, StartsRow, TakesFirst}
+use Rattle.dam_results.specs.inside.Reader.{most_kept, ends_line, BeginsWithRecord, StartsRecord, TakesFirst}
 use Rattle.dam_results.proofs.Machine.{IsAfter, next_record-after, next_record-shorter}
 use Rattle.dam_results.proofs.SpelledRecords.{blank_from}
 use Rattle.dam_results.proofs.FieldParts.{IsFirst, first-of, none-of, at_first}
@@ -107,7 +107,7 @@ not_true : (b : Bool) → not b ≡ true → b ≡ false
 not_true true e = absurd cc
 not_true false e = refl
 
-pub starts_row : (xs : List ℕ) (start : ℕ) → Some start ≡ position starts xs → StartsRow xs (drop start xs)
+pub starts_row : (xs : List ℕ) (start : ℕ) → Some start ≡ position starts xs → StartsRecord xs (drop start xs)
 starts_row xs start some =
     let first : IsFirst starts xs start = first-of starts xs start some in
     let at = at_first starts xs start first in
@@ -127,14 +127,14 @@ pub record ReadsFields (text rest : List ℕ) (kept : Fields) : Type 0 where
   pub first : kept ≡ take most_kept fields
 
 -- the first of the records left
-pub takes_first : (text start rest : List ℕ) (kept : Fields) → StartsRow text start → BeginsWithRow start rest kept
+pub takes_first : (text start rest : List ℕ) (kept : Fields) → StartsRecord text start → BeginsWithRecord start rest kept
     → TakesFirst (records_of text) (records_of rest) kept
 takes_first text start rest kept begins row =
-    let p : Read = (row.row, row.next, rest) in
+    let p : Read = (row.fields, row.next, rest) in
     let read : next_record default_config st.StartRecord [] [] text ≡ Some p = begins.same ∙ row.read in
     let less : length rest < length text = next_record-shorter st.StartRecord text p refl read in
-    let first : records_of text ≡ row.row ∷ records_from default_config (length text) row.next rest =
+    let first : records_of text ≡ row.fields ∷ records_from default_config (length text) row.next rest =
     rw add-one (records_from-Some (length text) st.StartRecord text p read) in
     let others : records_from default_config (length text) row.next rest ≡ records_of rest =
     enough (length text) (length rest + 1) row.next rest row.between less (omega arith) ∙ between (length rest + 1) row.next rest row.between in
-    record { row = row.row; rows = first ∙ ap (λ (rows : List Fields). row.row ∷ rows) others; first = row.first }
+    record { fields = row.fields; records = first ∙ ap (λ (rows : List Fields). row.fields ∷ rows) others; first = row.first }

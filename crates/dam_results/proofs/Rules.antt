@@ -16,7 +16,7 @@ use Rattle.dam_book.specs.Period.{IsPeriod}
 use Rattle.dam_book.specs.Quantity.{IsQuantity}
 use Rattle.dam_book.specs.Volumes.{IsVolumes}
 use Rattle.dam_book.specs.Book.{is_day}
-use Rattle.dam_results.specs.Records.{Fields, form_field, day_row, side_word}
+use Rattle.dam_results.specs.Records.{Fields, form_field, record_of_day, side_word}
 use Rattle.dam_results.specs.Rules.{FieldRule, OneOf, Obeys, word, day_rules, IsLeastBroken, form_rules, hour_rules, block_rules, submit_of}
 use Rattle.dam_results.specs.Rules.{submit_rules}
 
@@ -59,7 +59,7 @@ stops rules row command (Err f) n e h k broken = rw (h ∙ k) broken
 
 -- the same in a day
 pub day_stops : (row : NineFields) (r : Result ℕ ℕ) (n e : ℕ) → IsErrAnd r (λ f. f ≡ e) → e ≡ n → IsLeastBroken day_rules (fields_in row) n
-    → MatchResult r (λ periods. (is_day periods ≡ true) × (fields_in row ≡ day_row periods)) (IsLeastBroken day_rules (fields_in row))
+    → MatchResult r (λ periods. (is_day periods ≡ true) × (fields_in row ≡ record_of_day periods)) (IsLeastBroken day_rules (fields_in row))
 day_stops row (Ok x) n e h k broken = absurd h
 day_stops row (Err f) n e h k broken = rw (h ∙ k) broken
 

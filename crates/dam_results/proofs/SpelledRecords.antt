@@ -10,7 +10,7 @@ use Rattle.csv.specs.declared.parser.State.{State}
 use Rattle.csv.specs.declared.parser.State.TheVariants as st
 use Rattle.csv.proofs.RoundTrip.{plain-run, quoted-run, start-same}
 use Rattle.dam_results.specs.Records.{Fields, records_of}
-use Rattle.dam_results.specs.Spelling.{IsLineEnd, LineFeed, CarriageReturn, Both, IsSpelledField, Bare, Quoted, IsSpelledRow, One, More}
+use Rattle.dam_results.specs.Spelling.{IsLineEnd, LineFeed, CarriageReturn, Both, IsSpelledField, Bare, Quoted, IsSpelledRecord, One, More}
 use Rattle.dam_results.specs.Spelling.{IsSpelled, Nothing, EmptyLine, Record, LastRecord}
 
 -- no comma, double quote, CR or LF
@@ -119,7 +119,7 @@ one_field _ _ (Bare (b ∷ x)) h fields tail = bare_run fields b x (44 ∷ tail)
 one_field _ _ (Quoted x) h fields tail = quoted_run fields x (44 ∷ tail) h ∙ comma-after_quote fields x tail
 
 -- all fields of a record
-all_fields : (row : Fields) (line : List ℕ) → IsSpelledRow row line → ArePlain row → (fields : Fields) (tail : List ℕ) (s : State)
+all_fields : (row : Fields) (line : List ℕ) → IsSpelledRecord row line → ArePlain row → (fields : Fields) (tail : List ℕ) (s : State)
     (rest : List ℕ) → Stop tail s rest
     → next_record default_config st.StartField fields [] (line ++ tail) ≡ Some (fields ++ row, s, rest)
 all_fields _ _ (One x text f) h fields tail s rest stop = last_field x text f h.0 fields tail s rest stop
@@ -146,7 +146,7 @@ starts_row s b _ _ (Bare []) h tail = starts s b 44 tail refl refl
 starts_row s b _ _ (Bare (c ∷ x)) h tail = let o = first_other c x h in starts s b c (x ++ 44 ∷ tail) o.return o.feed
 starts_row s b _ _ (Quoted x) h tail = starts s b 34 _ refl refl
 
-one_record : (row : Fields) (line : List ℕ) → IsSpelledRow row line → 2 ≤ length row → ArePlain row → (at : State) → Between at →
+one_record : (row : Fields) (line : List ℕ) → IsSpelledRecord row line → 2 ≤ length row → ArePlain row → (at : State) → Between at →
     (tail : List ℕ) (s : State) (rest : List ℕ) → Stop tail s rest
     → next_record default_config at [] [] (line ++ tail) ≡ Some (row, s, rest)
 one_record _ _ (One x text f) two h at b tail s rest stop = absurd (omega arith)
@@ -199,7 +199,7 @@ ArePlainRows [] = Unit {0}
 ArePlainRows (row ∷ rows) = IsPlainRow row × ArePlainRows rows
 
 -- the records after one that ends there
-record_from : (row : Fields) (line : List ℕ) → IsSpelledRow row line → IsPlainRow row → (s : State) → Between s → (end : List ℕ)
+record_from : (row : Fields) (line : List ℕ) → IsSpelledRecord row line → IsPlainRow row → (s : State) → Between s → (end : List ℕ)
     → IsLineEnd end → (n : ℕ) (rest : List ℕ) (rows : List Fields)
     → ((t : State) → Between t → records_from default_config n t rest ≡ rows) → records_from default_config (suc n) s
     (line ++ (end ++ rest)) ≡ row ∷ rows
@@ -229,7 +229,7 @@ spelled_from _ _ (LastRecord row line l) p (suc n) turns s b =
     one_from n s line row st.StartRecord [] last ∙ ap (λ (rs : List Fields). row ∷ rs) (none_from n st.StartRecord Fresh)
 
 -- a text has as many bytes as records, and more
-bytes_of_row : (row : Fields) (line : List ℕ) → IsSpelledRow row line → 2 ≤ length row → 1 ≤ length line
+bytes_of_row : (row : Fields) (line : List ℕ) → IsSpelledRecord row line → 2 ≤ length row → 1 ≤ length line
 bytes_of_row _ _ (One x text f) two = absurd (omega arith)
 bytes_of_row _ _ (More x text xs others f g) two = omega (arith, length-append text (44 ∷ others))
 

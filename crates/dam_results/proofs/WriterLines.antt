@@ -12,12 +12,12 @@ use Rattle.csv.specs.declared.writer.Writer.{Writer}
 use Rattle.dam_book.specs.declared.command.Command.{Command}
 use Rattle.dam_book.specs.declared.command.Entry.{Entry}
 use Rattle.dam_book.specs.Book.{commands_of}
-use Rattle.dam_results.specs.Records.{Fields, row_of}
+use Rattle.dam_results.specs.Records.{Fields, record_of_command}
 use Rattle.dam_results.specs.Journal.{IsCommand}
-use Rattle.dam_results.specs.Written.{row_line, written, journal_text}
+use Rattle.dam_results.specs.Written.{record_line, written, journal_text}
 use Rattle.dam_results.specs.Writer.{HasWritten}
 use Rattle.dam_results.specs.declared.journal_writing.JournalWriter.{JournalWriter}
-use Rattle.dam_results.specs.inside.Writer.{Wrote, PutsCommand}
+use Rattle.dam_results.specs.inside.Writer.{Wrote, WritesCommand}
 use Rattle.dam_results.proofs.FieldBytes.{AreFields, limits, command_fields}
 use Rattle.dam_results.proofs.SpelledRecords.{IsPlain, ArePlain}
 use Rattle.dam_results.proofs.ReadBack.{plain_fields}
@@ -30,11 +30,11 @@ unfolding fields_text
 bare_fields x [] h = append-nil x
 bare_fields x (y ∷ ys) h = rw (bare y h.0) (ap (λ (bytes : List ℕ). x ++ 44 ∷ bytes) (bare_fields y ys h.1))
 
-bare_row : (x y : List ℕ) (ys : Fields) → ArePlain (x ∷ y ∷ ys) → row_text default_writer (x ∷ y ∷ ys) ≡ row_line (x ∷ y ∷ ys)
+bare_row : (x y : List ℕ) (ys : Fields) → ArePlain (x ∷ y ∷ ys) → row_text default_writer (x ∷ y ∷ ys) ≡ record_line (x ∷ y ∷ ys)
 unfolding is_blank
 bare_row x y ys h = rw (bare x h.0) (ap (λ (bytes : List ℕ). bytes ++ 10 ∷ []) (bare_fields x (y ∷ ys) h.1))
 
-pub row_text-line : (row : Fields) → AreFields limits row → row_text default_writer row ≡ row_line row
+pub row_text-line : (row : Fields) → AreFields limits row → row_text default_writer row ≡ record_line row
 unfolding limits
 row_text-line [] h = absurd h
 row_text-line (x ∷ []) h = absurd h.1
@@ -42,21 +42,21 @@ row_text-line (x ∷ y ∷ ys) h = bare_row x y ys (plain_fields limits (x ∷ y
 
 pub wrote_line : {A T E : Type 0} (before after : Writer (Vec ℕ A)) (result : Result T E) (row : Fields) → AreFields limits row
     → OnOk result ((text : List ℕ) → Wrote before text → Wrote after (text ++ row_text default_writer row)) → OnOk result
-    ((text : List ℕ) → Wrote before text → Wrote after (text ++ row_line row))
+    ((text : List ℕ) → Wrote before text → Wrote after (text ++ record_line row))
 wrote_line before after (Ok x) row h w = λ text at. subst (λ (line : List ℕ). Wrote after (text ++ line)) (row_text-line row h) (w text at)
 wrote_line before after (Err e) row h w = tt
 
-pub puts_command : {A T E : Type 0} (before after : Writer (Vec ℕ A)) (result : Result T E) (row : Fields) (command : Command)
-    → IsCommand command → row ≡ row_of command
+pub writes_command : {A T E : Type 0} (before after : Writer (Vec ℕ A)) (result : Result T E) (row : Fields) (command : Command)
+    → IsCommand command → row ≡ record_of_command command
     → OnOk result ((text : List ℕ) → Wrote before text → Wrote after (text ++ row_text default_writer row)) → OnOk result
-    (PutsCommand before after command)
-puts_command before after (Ok x) row command h e w =
+    (WritesCommand before after command)
+writes_command before after (Ok x) row command h e w =
     record {
       valid = h;
       line = λ text at. subst (λ (line : List ℕ). Wrote after (text ++ line))
-          (ap (row_text default_writer) e ∙ row_text-line (row_of command) (command_fields command h)) (w text at);
+          (ap (row_text default_writer) e ∙ row_text-line (record_of_command command) (command_fields command h)) (w text at);
     }
-puts_command before after (Err x) row command h e w = tt
+writes_command before after (Err x) row command h e w = tt
 
 -- a writer that has written nothing
 pub wrote_none : {A : Type 0} (out : Writer (Vec ℕ A)) → fields_written out ≡ 0 → has_written out ≡ false

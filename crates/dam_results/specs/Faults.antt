@@ -12,35 +12,35 @@ use Rattle.dam_results.specs.Journal.{AreRecords, first_non_ascii}
 
 -- the record of that number is within the limit, and a day if it is the first
 abbrev pub IsInPlace : ℕ → Fields → Type 0
-IsInPlace number row = (number ≤ most_records) × (number ≡ 1 → kind_field row ≡ codes "day")
+IsInPlace number fields = (number ≤ most_records) × (number ≡ 1 → kind_field fields ≡ codes "day")
 
 -- the record of that number has that fault
 abbrev pub IsRecordFault : ℕ → Fields → JournalFault → Type 0
-IsRecordFault number row TooManyRecords = most_records < number
-IsRecordFault number row NotDay = (number ≡ 1) × (kind_field row ≢ codes "day")
-IsRecordFault number row (FieldCount at) = IsInPlace number row × (at ≡ number) × (length row ≢ 9)
-IsRecordFault number row (BadField at field) =
-    IsInPlace number row × (at ≡ number) × (length row ≡ 9)
-    × IsLeastBroken (rules_of number row) row field
-IsRecordFault number row TooLong = ⊥
-IsRecordFault number row (NotAscii offset) = ⊥
-IsRecordFault number row Memory = ⊥
+IsRecordFault number fields TooManyRecords = most_records < number
+IsRecordFault number fields NotDay = (number ≡ 1) × (kind_field fields ≢ codes "day")
+IsRecordFault number fields (FieldCount at) = IsInPlace number fields × (at ≡ number) × (length fields ≢ 9)
+IsRecordFault number fields (BadField at field) =
+    IsInPlace number fields × (at ≡ number) × (length fields ≡ 9)
+    × IsLeastBroken (rules_of number fields) fields field
+IsRecordFault number fields TooLong = ⊥
+IsRecordFault number fields (NotAscii offset) = ⊥
+IsRecordFault number fields Memory = ⊥
 
 -- one of the records has that fault, and those before it, if there are any, make a journal
-pub record HasFault (rows : List Fields) (fault : JournalFault) : Type 0 where
+pub record HasFault (records : List Fields) (fault : JournalFault) : Type 0 where
   pub front : List Fields
-  pub row : Fields
+  pub fields : Fields
   pub rest : List Fields
-  pub parts : rows ≡ front ++ row ∷ rest
+  pub parts : records ≡ front ++ fields ∷ rest
   pub fine : (front ≡ []) ⊎ ((periods : ℕ) × (commands : List Command)
       × AreRecords front periods commands)
-  pub faulty : IsRecordFault (length front + 1) row fault
+  pub faulty : IsRecordFault (length front + 1) fields fault
 
 -- these records make no journal, and this is their first fault; of lack of memory it says nothing
 abbrev pub IsFaultOfRecords : List Fields → JournalFault → Type 0
-IsFaultOfRecords rows NotDay = (rows ≡ []) ⊎ HasFault rows NotDay
-IsFaultOfRecords rows Memory = Unit {0}
-IsFaultOfRecords rows fault = HasFault rows fault
+IsFaultOfRecords records NotDay = (records ≡ []) ⊎ HasFault records NotDay
+IsFaultOfRecords records Memory = Unit {0}
+IsFaultOfRecords records fault = HasFault records fault
 
 -- the text is no journal, and this is its first fault; of lack of memory it says only that the
 -- whole text has no fault of length or bytes

@@ -9,7 +9,7 @@ use Rattle.dam_book.specs.Book.{is_day}
 use Rattle.dam_book.specs.declared.command.Command.{Command}
 use Rattle.dam_book.specs.declared.command.Command.TheVariants.{Submit, Amend, Cancel, Close}
 use Rattle.dam_results.specs.Limits.{most_bytes, most_records}
-use Rattle.dam_results.specs.Records.{Fields, records_of, day_row, row_of}
+use Rattle.dam_results.specs.Records.{Fields, records_of, record_of_day, record_of_command}
 
 -- each part of a command is within its limits
 abbrev pub IsCommand : Command → Type 0
@@ -24,11 +24,11 @@ abbrev pub first_non_ascii : List ℕ → Option ℕ
 first_non_ascii text = position (nat_lt 127) text
 
 -- these records are a day and commands, as many as a text may hold
-pub record AreRecords (rows : List Fields) (periods : ℕ) (commands : List Command) : Type 0 where
-  pub few : length rows ≤ most_records
+pub record AreRecords (records : List Fields) (periods : ℕ) (commands : List Command) : Type 0 where
+  pub few : length records ≤ most_records
   pub day : is_day periods ≡ true
   pub valid : AllByRecursion IsCommand commands
-  pub written : rows ≡ day_row periods ∷ map row_of commands
+  pub written : records ≡ record_of_day periods ∷ map record_of_command commands
 
 -- the text is a journal of these periods and commands
 pub record ReadsAs (text : List ℕ) (periods : ℕ) (commands : List Command) : Type 0 where

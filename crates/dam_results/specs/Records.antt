@@ -31,8 +31,8 @@ form_field (kind ∷ who ∷ name ∷ form ∷ fs) = form
 form_field fs = []
 
 -- the record of a day of this many periods
-abbrev pub day_row : ℕ → Fields
-day_row periods = codes "day" ∷ decimal periods ∷ [] ∷ [] ∷ [] ∷ [] ∷ [] ∷ [] ∷ [] ∷ []
+abbrev pub record_of_day : ℕ → Fields
+record_of_day periods = codes "day" ∷ decimal periods ∷ [] ∷ [] ∷ [] ∷ [] ∷ [] ∷ [] ∷ [] ∷ []
 
 -- the word of a side
 abbrev pub side_word : Side → List ℕ
@@ -54,9 +54,9 @@ order_fields (Block o) =
     ∷ optional_text o.parent ∷ optional_text o.group ∷ []
 
 -- the record of a command
-abbrev pub row_of : Command → Fields
-row_of (Submit who name order) = codes "submit" ∷ who ∷ name ∷ order_fields order
-row_of (Amend who name price volumes) =
+abbrev pub record_of_command : Command → Fields
+record_of_command (Submit who name order) = codes "submit" ∷ who ∷ name ∷ order_fields order
+record_of_command (Amend who name price volumes) =
     codes "amend" ∷ who ∷ name ∷ [] ∷ [] ∷ price_text price ∷ volumes_text volumes ∷ [] ∷ [] ∷ []
-row_of (Cancel who name) = codes "cancel" ∷ who ∷ name ∷ [] ∷ [] ∷ [] ∷ [] ∷ [] ∷ [] ∷ []
-row_of Close = codes "close" ∷ [] ∷ [] ∷ [] ∷ [] ∷ [] ∷ [] ∷ [] ∷ [] ∷ []
+record_of_command (Cancel who name) = codes "cancel" ∷ who ∷ name ∷ [] ∷ [] ∷ [] ∷ [] ∷ [] ∷ [] ∷ []
+record_of_command Close = codes "close" ∷ [] ∷ [] ∷ [] ∷ [] ∷ [] ∷ [] ∷ [] ∷ [] ∷ []

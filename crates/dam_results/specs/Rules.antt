@@ -73,7 +73,7 @@ submit_of rules = word (codes "submit") ∷ Code ∷ OrderName ∷ rules
 
 -- the rules of the record of a submit, by its form in field 4
 abbrev pub submit_rules : Fields → List FieldRule
-submit_rules row = submit_of (form_rules (form_field row))
+submit_rules fields = submit_of (form_rules (form_field fields))
 
 -- the rules of the record of an amend
 abbrev pub amend_rules : List FieldRule
@@ -94,16 +94,16 @@ close_rules =
 -- the rules of a later record than the first, by the kind in its first field; if that is no kind, it
 -- breaks the one rule
 abbrev pub command_rules : Fields → List FieldRule
-command_rules row =
-    if bytes_eq (kind_field row) (codes "submit") then submit_rules row
-    else if bytes_eq (kind_field row) (codes "amend") then amend_rules
-    else if bytes_eq (kind_field row) (codes "cancel") then cancel_rules
-    else if bytes_eq (kind_field row) (codes "close") then close_rules
+command_rules fields =
+    if bytes_eq (kind_field fields) (codes "submit") then submit_rules fields
+    else if bytes_eq (kind_field fields) (codes "amend") then amend_rules
+    else if bytes_eq (kind_field fields) (codes "cancel") then cancel_rules
+    else if bytes_eq (kind_field fields) (codes "close") then close_rules
     else OneOf (codes "submit" ∷ codes "amend" ∷ codes "cancel" ∷ codes "close" ∷ []) ∷ []
 
 -- the rules of the record of that number: the first is a day, the later ones are commands
 abbrev pub rules_of : ℕ → Fields → List FieldRule
-rules_of number row = if number == 1 then day_rules else command_rules row
+rules_of number fields = if number == 1 then day_rules else command_rules fields
 
 -- the field of that number, counted from 1, breaks its rule, and each before it obeys its own
 abbrev pub IsLeastBroken : List FieldRule → Fields → ℕ → Type 0

@@ -17,17 +17,17 @@ pub data IsSpelledField : List ℕ → List ℕ → Type 0 where
   Quoted : (field : List ℕ) → IsSpelledField field (quote_mark ∷ (field ++ quote_mark ∷ []))
 
 -- the fields of a record, with a comma between each two
-pub data IsSpelledRow : Fields → List ℕ → Type 0 where
-  One : (field text : List ℕ) → IsSpelledField field text → IsSpelledRow (field ∷ []) text
+pub data IsSpelledRecord : Fields → List ℕ → Type 0 where
+  One : (field text : List ℕ) → IsSpelledField field text → IsSpelledRecord (field ∷ []) text
   More : (field text : List ℕ) (fields : Fields) (others : List ℕ) → IsSpelledField field text
-      → IsSpelledRow fields others → IsSpelledRow (field ∷ fields) (text ++ comma ∷ others)
+      → IsSpelledRecord fields others → IsSpelledRecord (field ∷ fields) (text ++ comma ∷ others)
 
 -- the records, each ended by a line end or the last one by the end of the text, with empty lines
 -- anywhere
 pub data IsSpelled : List Fields → List ℕ → Type 0 where
   Nothing : IsSpelled [] []
-  EmptyLine : (rows : List Fields) (end rest : List ℕ) → IsLineEnd end → IsSpelled rows rest
-      → IsSpelled rows (end ++ rest)
-  Record : (row : Fields) (rows : List Fields) (line end rest : List ℕ) → IsSpelledRow row line
-      → IsLineEnd end → IsSpelled rows rest → IsSpelled (row ∷ rows) (line ++ (end ++ rest))
-  LastRecord : (row : Fields) (line : List ℕ) → IsSpelledRow row line → IsSpelled (row ∷ []) line
+  EmptyLine : (records : List Fields) (end rest : List ℕ) → IsLineEnd end → IsSpelled records rest
+      → IsSpelled records (end ++ rest)
+  Record : (fields : Fields) (records : List Fields) (line end rest : List ℕ) → IsSpelledRecord fields line
+      → IsLineEnd end → IsSpelled records rest → IsSpelled (fields ∷ records) (line ++ (end ++ rest))
+  LastRecord : (fields : Fields) (line : List ℕ) → IsSpelledRecord fields line → IsSpelled (fields ∷ []) line

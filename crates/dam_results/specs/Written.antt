@@ -6,19 +6,19 @@ use Rattle.csv.specs.Writing.{comma}
 use Rattle.dam_book.specs.Book.{commands_of}
 use Rattle.dam_book.specs.declared.command.Command.{Command}
 use Rattle.dam_book.specs.declared.command.Entry.{Entry}
-use Rattle.dam_results.specs.Records.{Fields, day_row, row_of}
+use Rattle.dam_results.specs.Records.{Fields, record_of_day, record_of_command}
 
 -- a record as it is written: the fields with a comma between each two, and one LF
-abbrev pub row_line : Fields → List ℕ
-row_line row = join_with_byte comma row ++ line_feed ∷ []
+abbrev pub record_line : Fields → List ℕ
+record_line fields = join_with_byte comma fields ++ line_feed ∷ []
 
 -- the line of a command
 abbrev pub command_line : Command → List ℕ
-command_line command = row_line (row_of command)
+command_line command = record_line (record_of_command command)
 
 -- the text of a day of this many periods and of these commands
 abbrev pub written : ℕ → List Command → List ℕ
-written periods commands = row_line (day_row periods) ++ flat_map command_line commands
+written periods commands = record_line (record_of_day periods) ++ flat_map command_line commands
 
 -- the written journal: the line of the day, and one for the command of each entry
 abbrev pub journal_text : ℕ → List Entry → List ℕ

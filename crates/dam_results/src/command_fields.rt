@@ -8,7 +8,7 @@ ghost use Rattle.std.specs.Str.{bytes_eq};
 ghost use Rattle.dam_book.specs.Name.{IsName};
 ghost use Rattle.dam_book.specs.Fields.{volumes_text};
 ghost use Rattle.dam_book.specs.Book.{is_day};
-ghost use Rattle.dam_results.specs.Records.{day_row, optional_text, side_word};
+ghost use Rattle.dam_results.specs.Records.{record_of_day, optional_text, side_word};
 ghost use Rattle.dam_results.specs.inside.NineFields.{fields_in, ChecksEmpty, ReadsCommand};
 ghost use Rattle.dam_results.specs.Rules.{OneOf, OneVolume, NameOrEmpty, Obeys, IsLeastBroken, day_rules, hour_rules, block_rules, submit_of, submit_rules, amend_rules, cancel_rules, close_rules, command_rules};
 
@@ -34,22 +34,22 @@ fn check_empty(field: &[u8], number: usize) -> Result<(), usize>
 }
 
 /// The fields 8 and 9: no parent and no group.
-fn check_no_family(row: &NineFields) -> Result<(), usize>
-    ensures { ChecksEmpty 8 (drop 7 (fields_in row.now)) result }
+fn check_no_family(fields: &NineFields) -> Result<(), usize>
+    ensures { ChecksEmpty 8 (drop 7 (fields_in fields.now)) result }
 {
-    check_empty(row.parent, 8)?;
-    check_empty(row.group, 9)
+    check_empty(fields.parent, 8)?;
+    check_empty(fields.group, 9)
 }
 
 /// The fields 4 to 9, which state the order.
-fn check_no_order(row: &NineFields) -> Result<(), usize>
-    ensures { ChecksEmpty 4 (drop 3 (fields_in row.now)) result }
+fn check_no_order(fields: &NineFields) -> Result<(), usize>
+    ensures { ChecksEmpty 4 (drop 3 (fields_in fields.now)) result }
 {
-    check_empty(row.form, 4)?;
-    check_empty(row.side, 5)?;
-    check_empty(row.price, 6)?;
-    check_empty(row.volumes, 7)?;
-    check_no_family(row)
+    check_empty(fields.form, 4)?;
+    check_empty(fields.side, 5)?;
+    check_empty(fields.price, 6)?;
+    check_empty(fields.volumes, 7)?;
+    check_no_family(fields)
 }
 
 fn read_side(field: &[u8]) -> Option<Side>
@@ -92,29 +92,29 @@ fn read_name_or_empty(field: &[u8]) -> Option<Option<Name>>
 }
 
 /// The day of the first record: how many periods it has.
-pub(crate) fn read_day(row: &NineFields) -> Result<DayLength, usize>
-    requires { row.now.kind.now ≡ codes "day" }
+pub(crate) fn read_day(fields: &NineFields) -> Result<DayLength, usize>
+    requires { fields.now.kind.now ≡ codes "day" }
     ensures { MatchResult result
-        (λ periods. (is_day periods ≡ true) × (fields_in row.now ≡ day_row periods))
-        (IsLeastBroken day_rules (fields_in row.now)) }
+        (λ periods. (is_day periods ≡ true) × (fields_in fields.now ≡ record_of_day periods))
+        (IsLeastBroken day_rules (fields_in fields.now)) }
 {
-    let periods = read_day_length(row.who).ok_or(2usize)?;
-    check_empty(row.name, 3)?;
-    check_no_order(row)?;
+    let periods = read_day_length(fields.who).ok_or(2usize)?;
+    check_empty(fields.name, 3)?;
+    check_no_order(fields)?;
     Ok(periods)
 }
 
-fn read_hourly_order(row: &NineFields, command: &mut Command) -> Result<(), usize>
-    requires kind { row.now.kind.now ≡ codes "submit" }
-    requires form { row.now.form.now ≡ codes "hour" }
-    ensures { ReadsCommand (submit_of hour_rules) row.now command.new result }
+fn read_hourly_order(fields: &NineFields, command: &mut Command) -> Result<(), usize>
+    requires kind { fields.now.kind.now ≡ codes "submit" }
+    requires form { fields.now.form.now ≡ codes "hour" }
+    ensures { ReadsCommand (submit_of hour_rules) fields.now command.new result }
 {
-    let who = Participant::new(row.who).ok_or(2usize)?;
-    let name = Name::new(row.name).ok_or(3usize)?;
-    let side = read_side(row.side).ok_or(5usize)?;
-    let price = read_price(row.price).ok_or(6usize)?;
-    let (period, qty) = read_one_pair(row.volumes).ok_or(7usize)?;
-    check_no_family(row)?;
+    let who = Participant::new(fields.who).ok_or(2usize)?;
+    let name = Name::new(fields.name).ok_or(3usize)?;
+    let side = read_side(fields.side).ok_or(5usize)?;
+    let price = read_price(fields.price).ok_or(6usize)?;
+    let (period, qty) = read_one_pair(fields.volumes).ok_or(7usize)?;
+    check_no_family(fields)?;
     *command = Command::Submit {
         who,
         name,
@@ -123,18 +123,18 @@ fn read_hourly_order(row: &NineFields, command: &mut Command) -> Result<(), usiz
     Ok(())
 }
 
-fn read_block(row: &NineFields, command: &mut Command) -> Result<(), usize>
-    requires kind { row.now.kind.now ≡ codes "submit" }
-    requires form { row.now.form.now ≡ codes "block" }
-    ensures { ReadsCommand (submit_of block_rules) row.now command.new result }
+fn read_block(fields: &NineFields, command: &mut Command) -> Result<(), usize>
+    requires kind { fields.now.kind.now ≡ codes "submit" }
+    requires form { fields.now.form.now ≡ codes "block" }
+    ensures { ReadsCommand (submit_of block_rules) fields.now command.new result }
 {
-    let who = Participant::new(row.who).ok_or(2usize)?;
-    let name = Name::new(row.name).ok_or(3usize)?;
-    let side = read_side(row.side).ok_or(5usize)?;
-    let price = read_price(row.price).ok_or(6usize)?;
-    let volumes = read_volumes(row.volumes).ok_or(7usize)?;
-    let parent = read_name_or_empty(row.parent).ok_or(8usize)?;
-    let group = read_name_or_empty(row.group).ok_or(9usize)?;
+    let who = Participant::new(fields.who).ok_or(2usize)?;
+    let name = Name::new(fields.name).ok_or(3usize)?;
+    let side = read_side(fields.side).ok_or(5usize)?;
+    let price = read_price(fields.price).ok_or(6usize)?;
+    let volumes = read_volumes(fields.volumes).ok_or(7usize)?;
+    let parent = read_name_or_empty(fields.parent).ok_or(8usize)?;
+    let group = read_name_or_empty(fields.group).ok_or(9usize)?;
     let block = BlockOrder::new(side, price, volumes, parent, group);
     let _valid = block.price(); // for the proof: a block order is within its limits
     let order = Order::Block(block);
@@ -143,40 +143,40 @@ fn read_block(row: &NineFields, command: &mut Command) -> Result<(), usize>
 }
 
 /// Fails with the number of the least field that breaks its rule, in a submit whose form is neither `hour` nor `block`.
-fn fail_unknown_form(row: &NineFields) -> Result<(), usize>
-    requires kind { row.now.kind.now ≡ codes "submit" }
-    requires hour { bytes_eq row.now.form.now (codes "hour") ≡ false }
-    requires block { bytes_eq row.now.form.now (codes "block") ≡ false }
+fn fail_unknown_form(fields: &NineFields) -> Result<(), usize>
+    requires kind { fields.now.kind.now ≡ codes "submit" }
+    requires hour { bytes_eq fields.now.form.now (codes "hour") ≡ false }
+    requires block { bytes_eq fields.now.form.now (codes "block") ≡ false }
     ensures { IsErrAnd result
-        (IsLeastBroken (submit_rules (fields_in row.now)) (fields_in row.now)) }
+        (IsLeastBroken (submit_rules (fields_in fields.now)) (fields_in fields.now)) }
 {
-    let _who = Participant::new(row.who).ok_or(2usize)?;
-    let _name = Name::new(row.name).ok_or(3usize)?;
+    let _who = Participant::new(fields.who).ok_or(2usize)?;
+    let _name = Name::new(fields.name).ok_or(3usize)?;
     Err(4)
 }
 
-fn read_submit(row: &NineFields, command: &mut Command) -> Result<(), usize>
-    requires { row.now.kind.now ≡ codes "submit" }
-    ensures { ReadsCommand (submit_rules (fields_in row.now)) row.now command.new result }
+fn read_submit(fields: &NineFields, command: &mut Command) -> Result<(), usize>
+    requires { fields.now.kind.now ≡ codes "submit" }
+    ensures { ReadsCommand (submit_rules (fields_in fields.now)) fields.now command.new result }
 {
-    match row.form {
-        b"hour" => read_hourly_order(row, command),
-        b"block" => read_block(row, command),
-        _ => fail_unknown_form(row),
+    match fields.form {
+        b"hour" => read_hourly_order(fields, command),
+        b"block" => read_block(fields, command),
+        _ => fail_unknown_form(fields),
     }
 }
 
-fn read_amend(row: &NineFields, command: &mut Command) -> Result<(), usize>
-    requires { row.now.kind.now ≡ codes "amend" }
-    ensures { ReadsCommand amend_rules row.now command.new result }
+fn read_amend(fields: &NineFields, command: &mut Command) -> Result<(), usize>
+    requires { fields.now.kind.now ≡ codes "amend" }
+    ensures { ReadsCommand amend_rules fields.now command.new result }
 {
-    let who = Participant::new(row.who).ok_or(2usize)?;
-    let name = Name::new(row.name).ok_or(3usize)?;
-    check_empty(row.form, 4)?;
-    check_empty(row.side, 5)?;
-    let price = read_price(row.price).ok_or(6usize)?;
-    let volumes = read_volumes(row.volumes).ok_or(7usize)?;
-    check_no_family(row)?;
+    let who = Participant::new(fields.who).ok_or(2usize)?;
+    let name = Name::new(fields.name).ok_or(3usize)?;
+    check_empty(fields.form, 4)?;
+    check_empty(fields.side, 5)?;
+    let price = read_price(fields.price).ok_or(6usize)?;
+    let volumes = read_volumes(fields.volumes).ok_or(7usize)?;
+    check_no_family(fields)?;
     *command = Command::Amend {
         who,
         name,
@@ -186,37 +186,37 @@ fn read_amend(row: &NineFields, command: &mut Command) -> Result<(), usize>
     Ok(())
 }
 
-fn read_cancel(row: &NineFields, command: &mut Command) -> Result<(), usize>
-    requires { row.now.kind.now ≡ codes "cancel" }
-    ensures { ReadsCommand cancel_rules row.now command.new result }
+fn read_cancel(fields: &NineFields, command: &mut Command) -> Result<(), usize>
+    requires { fields.now.kind.now ≡ codes "cancel" }
+    ensures { ReadsCommand cancel_rules fields.now command.new result }
 {
-    let who = Participant::new(row.who).ok_or(2usize)?;
-    let name = Name::new(row.name).ok_or(3usize)?;
-    check_no_order(row)?;
+    let who = Participant::new(fields.who).ok_or(2usize)?;
+    let name = Name::new(fields.name).ok_or(3usize)?;
+    check_no_order(fields)?;
     *command = Command::Cancel { who, name };
     Ok(())
 }
 
-fn read_close(row: &NineFields, command: &mut Command) -> Result<(), usize>
-    requires { row.now.kind.now ≡ codes "close" }
-    ensures { ReadsCommand close_rules row.now command.new result }
+fn read_close(fields: &NineFields, command: &mut Command) -> Result<(), usize>
+    requires { fields.now.kind.now ≡ codes "close" }
+    ensures { ReadsCommand close_rules fields.now command.new result }
 {
-    check_empty(row.who, 2)?;
-    check_empty(row.name, 3)?;
-    check_no_order(row)?;
+    check_empty(fields.who, 2)?;
+    check_empty(fields.name, 3)?;
+    check_no_order(fields)?;
     *command = Command::Close;
     Ok(())
 }
 
 /// Reads the command of a later record.
-pub(crate) fn read_command(row: &NineFields, command: &mut Command) -> Result<(), usize>
-    ensures { ReadsCommand (command_rules (fields_in row.now)) row.now command.new result }
+pub(crate) fn read_command(fields: &NineFields, command: &mut Command) -> Result<(), usize>
+    ensures { ReadsCommand (command_rules (fields_in fields.now)) fields.now command.new result }
 {
-    match row.kind {
-        b"submit" => read_submit(row, command),
-        b"amend" => read_amend(row, command),
-        b"cancel" => read_cancel(row, command),
-        b"close" => read_close(row, command),
+    match fields.kind {
+        b"submit" => read_submit(fields, command),
+        b"amend" => read_amend(fields, command),
+        b"cancel" => read_cancel(fields, command),
+        b"close" => read_close(fields, command),
         _ => Err(1),
     }
 }

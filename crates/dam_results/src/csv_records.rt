@@ -5,7 +5,7 @@ ghost use Rattle.std.specs.Prelude.{◌≡◌, ◌==◌, ◌++◌, ◌∷◌, []
 ghost use Rattle.csv.specs.declared.parser.State.TheVariants as st;
 ghost use Rattle.csv.specs.Writing.{quote_mark};
 ghost use Rattle.dam_results.specs.Records.{records_of};
-ghost use Rattle.dam_results.specs.inside.Reader.{bytes_of, fields_of, rows_left, IsUnquoted, ends_line, ends_field, EndsField, Continues, BeginsWithRow, StartsRow, TakesFirst};
+ghost use Rattle.dam_results.specs.inside.Reader.{bytes_of, fields_of, records_left, IsUnquoted, ends_line, ends_field, EndsField, Continues, BeginsWithRecord, StartsRecord, TakesFirst};
 
 use std::alloc::{AllocError, Global};
 
@@ -52,7 +52,7 @@ fn ends_field(byte: u8) -> bool
 }
 
 /// The place of the first byte that doesn't end a line.
-fn row_start(text: &[u8]) -> Option<usize>
+fn record_start(text: &[u8]) -> Option<usize>
     ensures { result ≡ position (λ byte. not (ends_line byte)) text.now }
 {
     text.iter().position(|byte| !ends_line(*byte))
@@ -83,11 +83,11 @@ fn strip_quote(text: &[u8]) -> Option<&[u8]>
 }
 
 /// The text from the next record on, or `None` if only line ends are left.
-fn next_row(text: &[u8]) -> Option<&[u8]>
+fn from_next_record(text: &[u8]) -> Option<&[u8]>
     ensures { MatchOption result (records_of text.entry.now ≡ [])
-        (λ row. StartsRow text.entry.now row.now) }
+        (λ start. StartsRecord text.entry.now start.now) }
 {
-    let start = row_start(text)?;
+    let start = record_start(text)?;
     Some(&text[start..])
 }
 
@@ -183,7 +183,7 @@ fn read_record<'a>(
     fields: &mut Vec<Field<'a>>,
 ) -> Result<&'a [u8], AllocError>
     ensures { IfOk result (λ rest.
-        BeginsWithRow text.entry.now rest.now (fields_of fields.new.items)) }
+        BeginsWithRecord text.entry.now rest.now (fields_of fields.new.items)) }
 {
     fields.clear();
     fields.reserve(MOST_KEPT)?;
@@ -211,7 +211,7 @@ pub(crate) struct Records<'a> {
 
 impl<'a> Records<'a> {
     pub(crate) fn of(alloc: Global, text: &'a [u8]) -> Records<'a>
-        ensures { rows_left result ≡ records_of text.entry.now }
+        ensures { records_left result ≡ records_of text.entry.now }
     {
         Records {
             alloc,
@@ -223,13 +223,13 @@ impl<'a> Records<'a> {
     /// Reads the next record, and says whether there was one.
     pub(crate) fn read_next(&mut self) -> Result<bool, AllocError>
         ensures { IfOk result (λ found. MatchBool found
-            (TakesFirst (rows_left self.old) (rows_left self.new) (fields_of self.new.fields.items))
-            (rows_left self.old ≡ [])) }
+            (TakesFirst (records_left self.old) (records_left self.new) (fields_of self.new.fields.items))
+            (records_left self.old ≡ [])) }
     {
-        let Some(row) = next_row(self.rest) else {
+        let Some(record) = from_next_record(self.rest) else {
             return Ok(false);
         };
-        self.rest = read_record(self.alloc, row, &mut self.fields)?;
+        self.rest = read_record(self.alloc, record, &mut self.fields)?;
         Ok(true)
     }
 

@@ -4,12 +4,12 @@ ghost use Rattle.std.specs.Prelude.{◌≡◌, ◌<◌, ◌≤◌, ◌+◌, ◌�
 ghost use Rattle.dam_book.specs.Book.{is_day};
 ghost use Rattle.dam_book.specs.declared.command.Command.{Command};
 ghost use Rattle.dam_results.specs.Limits.{most_bytes, most_records};
-ghost use Rattle.dam_results.specs.Records.{kind_field, day_row};
+ghost use Rattle.dam_results.specs.Records.{kind_field, record_of_day};
 ghost use Rattle.dam_results.specs.Journal.{AreRecords, IsMadeFrom, ReadsAs};
 ghost use Rattle.dam_results.specs.Journal;
 ghost use Rattle.dam_results.specs.Faults.{IsJournalFault, IsFaultOfRecords, IsRecordFault};
-ghost use Rattle.dam_results.specs.inside.Reader.{fields_of, rows_left};
-ghost use Rattle.dam_results.specs.inside.NineFields.{fields_in, TakesRow};
+ghost use Rattle.dam_results.specs.inside.Reader.{fields_of, records_left};
+ghost use Rattle.dam_results.specs.inside.NineFields.{fields_in, TakesRecord};
 
 use crate::command_fields::{read_command, read_day};
 use crate::csv_records::{Field, Records};
@@ -120,16 +120,16 @@ fn kind_field<'r, 'a>(fields: &'r [Field<'a>]) -> &'r [u8]
 
 fn read_day_fields(fields: &[Field]) -> Result<DayLength, JournalFault>
     ensures { MatchResult result
-        (λ periods. (is_day periods ≡ true) × (fields_of fields.now ≡ day_row periods))
+        (λ periods. (is_day periods ≡ true) × (fields_of fields.now ≡ record_of_day periods))
         (IsRecordFault 1 (fields_of fields.now)) }
 {
     if kind_field(fields) != b"day".as_slice() {
         return Err(JournalFault::NotDay);
     }
-    let Some(row) = NineFields::of(fields) else {
+    let Some(nine) = NineFields::of(fields) else {
         return Err(JournalFault::FieldCount(1));
     };
-    read_day(&row).map_err(|field| JournalFault::BadField { record: 1, field })
+    read_day(&nine).map_err(|field| JournalFault::BadField { record: 1, field })
 }
 
 /// The fields of a later record, if its number is within the limit and it has nine.
@@ -139,24 +139,24 @@ fn later_fields<'r, 'a>(
 ) -> Result<NineFields<'r>, JournalFault>
     requires { 1 < number }
     ensures { MatchResult result
-        (λ row. (number ≤ most_records) × (fields_of fields.entry.now ≡ fields_in row))
+        (λ nine. (number ≤ most_records) × (fields_of fields.entry.now ≡ fields_in nine))
         (IsRecordFault number (fields_of fields.entry.now)) }
 {
     if number > MOST_RECORDS {
         return Err(JournalFault::TooManyRecords);
     }
-    let Some(row) = NineFields::of(fields) else {
+    let Some(nine) = NineFields::of(fields) else {
         return Err(JournalFault::FieldCount(number));
     };
-    Ok(row)
+    Ok(nine)
 }
 
 /// Reads the next record, which has to be the day's.
 fn read_day_record(records: &mut Records) -> Result<DayLength, JournalFault>
     ensures { MatchResult result
         (λ periods. (is_day periods ≡ true)
-        × (rows_left records.old ≡ day_row periods ∷ rows_left records.new))
-        (IsFaultOfRecords (rows_left records.old)) }
+        × (records_left records.old ≡ record_of_day periods ∷ records_left records.new))
+        (IsFaultOfRecords (records_left records.old)) }
 {
     if records.read_next()? {
         read_day_fields(records.fields())
@@ -173,14 +173,14 @@ fn take_record<T: FromJournal>(
 ) -> Result<(), JournalFault>
     requires { 0 < number }
     ensures { MatchResult result
-        (λ _. TakesRow T.made_of number (fields_of fields.now) made.old made.new)
+        (λ _. TakesRecord T.made_of number (fields_of fields.now) made.old made.new)
         (λ fault. (fault ≡ JournalFault.Memory)
         ⊎ IsRecordFault (number + 1) (fields_of fields.now) fault) }
 {
     let record = number as usize + 1;
-    let row = later_fields(record, fields)?;
+    let nine = later_fields(record, fields)?;
     let mut command = Command::Close;
-    match read_command(&row, &mut command) {
+    match read_command(&nine, &mut command) {
         Ok(()) => made.take_command(number, &command)?,
         Err(field) => return Err(JournalFault::BadField { record, field }),
     }
@@ -192,9 +192,9 @@ fn take_records<T: FromJournal>(made: &mut T, records: &mut Records) -> Result<(
     ensures { (periods : ℕ) → is_day periods ≡ true → T.made_of periods [] made.old
         → MatchResult result
         (λ _. (commands : List Command)
-        × AreRecords (day_row periods ∷ rows_left records.old) periods commands
+        × AreRecords (record_of_day periods ∷ records_left records.old) periods commands
         × T.made_of periods commands made.new)
-        (IsFaultOfRecords (day_row periods ∷ rows_left records.old)) }
+        (IsFaultOfRecords (record_of_day periods ∷ records_left records.old)) }
 {
     let mut number = 0;
     while records.read_next()? {
@@ -212,8 +212,8 @@ fn read_records<T: FromJournal>(
 ) -> Result<T, JournalFault>
     ensures { MatchResult result
         (λ made. (periods : ℕ) × (commands : List Command)
-        × AreRecords (rows_left records.old) periods commands × T.made_of periods commands made)
-        (IsFaultOfRecords (rows_left records.old)) }
+        × AreRecords (records_left records.old) periods commands × T.made_of periods commands made)
+        (IsFaultOfRecords (records_left records.old)) }
 {
     let periods = read_day_record(records)?;
     let mut made = T::begin(alloc, context, periods)?;

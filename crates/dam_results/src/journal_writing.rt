@@ -10,12 +10,12 @@ ghost use Rattle.dam_book.specs.Fields.{price_text, volumes_text};
 ghost use Rattle.dam_book.specs.Book.{is_day, commands_of};
 ghost use Rattle.dam_book.specs.Limits.{most_entries};
 ghost use Rattle.dam_book.specs.declared.command.Command.{Command};
-ghost use Rattle.dam_results.specs.Records.{optional_text, side_word, day_row};
+ghost use Rattle.dam_results.specs.Records.{optional_text, side_word, record_of_day};
 ghost use Rattle.dam_results.specs.Journal.{IsCommand, ReadsAs};
-ghost use Rattle.dam_results.specs.Written.{row_line};
+ghost use Rattle.dam_results.specs.Written.{record_line};
 ghost use Rattle.dam_results.specs.Writer.{HasWritten};
 ghost use Rattle.dam_results.specs.Written;
-ghost use Rattle.dam_results.specs.inside.Writer.{Wrote, PutsCommand};
+ghost use Rattle.dam_results.specs.inside.Writer.{Wrote, WritesCommand};
 
 use csv::{Writer, WriterBuilder};
 use dam_book::{
@@ -73,39 +73,39 @@ fn pair_field(alloc: Global, order: &HourOrder) -> Result<Vec<u8>, AllocError>
     Ok(field)
 }
 
-fn put_row(out: &mut Writer<Vec<u8>>, row: &[&[u8]]) -> Result<(), AllocError>
+fn write_record(out: &mut Writer<Vec<u8>>, fields: &[&[u8]]) -> Result<(), AllocError>
     ensures { OnOk result ((text : List ℕ) → Wrote out.old text
-        → Wrote out.new (text ++ row_text default_writer (map (λ f. f.now) row.now))) }
+        → Wrote out.new (text ++ row_text default_writer (map (λ f. f.now) fields.now))) }
 {
-    if out.write_fields(row).is_err() {
+    if out.write_fields(fields).is_err() {
         return Err(AllocError);
     }
     Ok(())
 }
 
-fn put_day(out: &mut Writer<Vec<u8>>, periods: DayLength) -> Result<(), AllocError>
+fn write_day_record(out: &mut Writer<Vec<u8>>, periods: DayLength) -> Result<(), AllocError>
     ensures line { OnOk result ((text : List ℕ) → Wrote out.old text
-        → Wrote out.new (text ++ row_line (day_row periods))) }
+        → Wrote out.new (text ++ record_line (record_of_day periods))) }
     ensures valid { is_day periods ≡ true }
 {
     let mut number = Buffer::new();
     let periods = number.format(periods.get()).as_bytes();
-    put_row(out, &[b"day", periods, b"", b"", b"", b"", b"", b"", b""])
+    write_record(out, &[b"day", periods, b"", b"", b"", b"", b"", b"", b""])
 }
 
-fn put_hourly_order(
+fn write_hourly_order_record(
     alloc: Global,
     out: &mut Writer<Vec<u8>>,
     who: &Participant,
     name: &Name,
     order: &HourOrder,
 ) -> Result<(), AllocError>
-    ensures { OnOk result (PutsCommand out.old out.new
+    ensures { OnOk result (WritesCommand out.old out.new
         (Command.Submit who.now name.now (Order.Hour order.now))) }
 {
     let price = price_field(alloc, order.price())?;
     let volumes = pair_field(alloc, order)?;
-    put_row(
+    write_record(
         out,
         &[
             b"submit",
@@ -121,19 +121,19 @@ fn put_hourly_order(
     )
 }
 
-fn put_block<'a>(
+fn write_block_record<'a>(
     alloc: Global,
     out: &mut Writer<Vec<u8>>,
     who: &'a Participant,
     name: &'a Name,
     order: &'a BlockOrder,
 ) -> Result<(), AllocError>
-    ensures { OnOk result (PutsCommand out.old out.new
+    ensures { OnOk result (WritesCommand out.old out.new
         (Command.Submit who.entry.now name.entry.now (Order.Block order.entry.now))) }
 {
     let price = price_field(alloc, order.price())?;
     let volumes = volumes_field(alloc, order.volumes())?;
-    put_row(
+    write_record(
         out,
         &[
             b"submit",
@@ -149,24 +149,24 @@ fn put_block<'a>(
     )
 }
 
-fn put_command(
+fn write_command_record(
     alloc: Global,
     out: &mut Writer<Vec<u8>>,
     command: &Command,
 ) -> Result<(), AllocError>
-    ensures { OnOk result (PutsCommand out.old out.new command.now) }
+    ensures { OnOk result (WritesCommand out.old out.new command.now) }
 {
     match command {
         Command::Submit {
             who,
             name,
             order: Order::Hour(order),
-        } => put_hourly_order(alloc, out, who, name, order),
+        } => write_hourly_order_record(alloc, out, who, name, order),
         Command::Submit {
             who,
             name,
             order: Order::Block(order),
-        } => put_block(alloc, out, who, name, order),
+        } => write_block_record(alloc, out, who, name, order),
         Command::Amend {
             who,
             name,
@@ -177,16 +177,16 @@ fn put_command(
             let volumes = volumes_field(alloc, volumes)?;
             let (who, name) = (who.as_bytes(), name.as_bytes());
             let (price, volumes) = (price.as_slice(), volumes.as_slice());
-            put_row(
+            write_record(
                 out,
                 &[b"amend", who, name, b"", b"", price, volumes, b"", b""],
             )
         }
         Command::Cancel { who, name } => {
             let (who, name) = (who.as_bytes(), name.as_bytes());
-            put_row(out, &[b"cancel", who, name, b"", b"", b"", b"", b"", b""])
+            write_record(out, &[b"cancel", who, name, b"", b"", b"", b"", b"", b""])
         }
-        Command::Close => put_row(out, &[b"close", b"", b"", b"", b"", b"", b"", b"", b""]),
+        Command::Close => write_record(out, &[b"close", b"", b"", b"", b"", b"", b"", b"", b""]),
     }
 }
 
@@ -206,7 +206,7 @@ pub fn journal_text(
 {
     let mut writer = JournalWriter::begin(alloc, periods)?;
     for entry in entries {
-        writer.put_command(&entry.command().command())?;
+        writer.write_command(&entry.command().command())?;
     }
     writer.into_text()
 }
@@ -225,18 +225,18 @@ impl JournalWriter {
         ensures valid { is_day periods ≡ true }
     {
         let mut out = WriterBuilder::new().from_writer(Vec::new(alloc));
-        put_day(&mut out, periods)?;
+        write_day_record(&mut out, periods)?;
         Ok(JournalWriter { alloc, out })
     }
 
     /// Adds the record of a command.
-    pub fn put_command(&mut self, command: &Command) -> Result<(), AllocError>
+    pub fn write_command(&mut self, command: &Command) -> Result<(), AllocError>
         ensures written { OnOk result ((periods : ℕ) → (commands : List Command)
             → HasWritten self.old (Written.written periods commands)
             → HasWritten self.new (Written.written periods (commands ++ command.now ∷ []))) }
         ensures valid { OnOk result (IsCommand command.now) }
     {
-        put_command(self.alloc, &mut self.out, command)
+        write_command_record(self.alloc, &mut self.out, command)
     }
 
     /// The text.

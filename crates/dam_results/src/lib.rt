@@ -46,6 +46,6 @@ pub use limits::{MOST_BYTES, MOST_RECORDS};
 pub use publish::results;
 pub use published::{PeriodResult, Results, RowResult};
 pub use replay::replay_text;
-pub use replies_writing::{replies_text, write_reply_line};
+pub use replies_writing::{append_reply_line, replies_text};
 pub use results_writing::results_text;
 pub use run::{Run, run_of_text};

@@ -6,8 +6,7 @@ ghost use Rattle.dam_results.specs.Replies.{day_line};
 use itoa::Buffer;
 use std::alloc::{AllocError, Allocator};
 
-/// Appends a number in decimal.
-pub(crate) fn write_number<A: Allocator>(
+pub(crate) fn append_number<A: Allocator>(
     text: &mut Vec<u8, A>,
     number: u64,
 ) -> Result<(), AllocError>
@@ -16,11 +15,13 @@ pub(crate) fn write_number<A: Allocator>(
     text.extend_from_slice(Buffer::new().format(number).as_bytes())
 }
 
-/// Appends the line of a day of this many periods.
-pub(crate) fn write_day<A: Allocator>(text: &mut Vec<u8, A>, periods: u64) -> Result<(), AllocError>
+pub(crate) fn append_day<A: Allocator>(
+    text: &mut Vec<u8, A>,
+    periods: u64,
+) -> Result<(), AllocError>
     ensures { OnOk result (text.new.items ≡ text.old.items ++ day_line periods) }
 {
     text.extend_from_slice(b"day,")?;
-    write_number(text, periods)?;
+    append_number(text, periods)?;
     text.extend_from_slice(b"\n")
 }

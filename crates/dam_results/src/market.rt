@@ -47,7 +47,7 @@ pub fn published_results_add_up()
 
 /// An hourly order is published with its execution: at the published price of its period, the best
 /// execution gives it the published volume, at its place among the hourly orders of the period. So
-/// `dam_hour::market::a_period_is_fair` is of each.
+/// `dam_hour::market_laws::a_period_is_fair` is of each.
 pub fn hourly_orders_are_executed()
     ensures executed { (book : BookState) (welfare : ℕ) (periods : List PeriodResult)
         (rows : List RowResult) (clearing : IsClearing book welfare periods rows) (place : ℕ)

@@ -36,7 +36,7 @@ impl<'a> NineFields<'a> {
     pub(crate) fn of<'t>(fields: &'a [Field<'t>]) -> Option<NineFields<'a>>
         ensures { MatchOption result
             (length (fields_of fields.entry.now) ≢ 9)
-            (λ row. fields_of fields.entry.now ≡ fields_in row) }
+            (λ nine. fields_of fields.entry.now ≡ fields_in nine) }
     {
         if fields.len() != 9 {
             return None;

@@ -9,8 +9,8 @@ ghost use Rattle.dam_results.specs.Replies.{AreReplies, reply_line};
 
 use crate::from_journal::FromJournal;
 use crate::journal_reading::{JournalFault, read_into};
-use crate::lines::write_day;
-use crate::replies_writing::write_reply_line;
+use crate::lines::append_day;
+use crate::replies_writing::append_reply_line;
 use dam_book::laws::runs_grow;
 use dam_book::{Book, Command, DayLength, Seed};
 use std::alloc::{AllocError, Global};
@@ -34,7 +34,7 @@ impl FromJournal for Replay {
 
     fn begin(alloc: Global, seed: Seed, periods: DayLength) -> Result<Replay, AllocError> {
         let mut text = Vec::new(alloc);
-        write_day(&mut text, u64::from(periods.get()))?;
+        append_day(&mut text, u64::from(periods.get()))?;
         let book = Book::for_day(alloc, periods, seed);
         Ok(Replay { book, text })
     }
@@ -42,7 +42,7 @@ impl FromJournal for Replay {
     fn take_command(&mut self, number: u32, command: &Command) -> Result<(), AllocError> {
         runs_grow();
         let reply = self.book.apply(command)?;
-        write_reply_line(&mut self.text, number, reply)
+        append_reply_line(&mut self.text, number, reply)
     }
 }
 

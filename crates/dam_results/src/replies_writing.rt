@@ -4,11 +4,11 @@ ghost use Rattle.std.specs.Prelude.{◌≡◌, ◌++◌, IfOk, OnOk};
 ghost use Rattle.dam_results.specs.Replies.{reply_line};
 ghost use Rattle.dam_results.specs.Replies;
 
-use crate::lines::{write_day, write_number};
+use crate::lines::{append_day, append_number};
 use dam_book::{DayLength, Entry, Reply};
 use std::alloc::{AllocError, Allocator};
 
-fn write_reply<A: Allocator>(text: &mut Vec<u8, A>, reply: Reply) -> Result<(), AllocError>
+fn append_reply<A: Allocator>(text: &mut Vec<u8, A>, reply: Reply) -> Result<(), AllocError>
     ensures { OnOk result (text.new.items ≡ text.old.items ++ Replies.reply_text reply) }
 {
     match reply {
@@ -21,16 +21,16 @@ fn write_reply<A: Allocator>(text: &mut Vec<u8, A>, reply: Reply) -> Result<(), 
 }
 
 /// Appends the line of the entry of that number, as `replies_text` has it.
-pub fn write_reply_line<A: Allocator>(
+pub fn append_reply_line<A: Allocator>(
     text: &mut Vec<u8, A>,
     number: u32,
     reply: Reply,
 ) -> Result<(), AllocError>
     ensures { OnOk result (text.new.items ≡ text.old.items ++ reply_line number reply) }
 {
-    write_number(text, u64::from(number))?;
+    append_number(text, u64::from(number))?;
     text.extend_from_slice(b",")?;
-    write_reply(text, reply)?;
+    append_reply(text, reply)?;
     text.extend_from_slice(b"\n")
 }
 
@@ -44,9 +44,9 @@ pub fn replies_text<A: Allocator>(
     ensures { IfOk result (λ text. text.items ≡ Replies.replies_text periods entries.now) }
 {
     let mut text = Vec::new(alloc);
-    write_day(&mut text, u64::from(periods.get()))?;
+    append_day(&mut text, u64::from(periods.get()))?;
     for entry in entries {
-        write_reply_line(&mut text, entry.number, entry.reply)?;
+        append_reply_line(&mut text, entry.number, entry.reply)?;
     }
     Ok(text)
 }

@@ -5,28 +5,27 @@ ghost use Rattle.std.specs.Fmt.{signed_decimal};
 ghost use Rattle.dam_results.specs.Published.{welfare_line, period_line, acceptance_word, row_result_line};
 ghost use Rattle.dam_results.specs.Published;
 
-use crate::lines::{write_day, write_number};
+use crate::lines::{append_day, append_number};
 use crate::published::{PeriodResult, Results, RowResult};
 use dam_book::{Name, Participant, write_price};
 use itoa::Buffer;
 use std::alloc::{AllocError, Allocator};
 
-/// Appends a number in decimal, with a dash before it if it is below zero.
-fn write_signed<A: Allocator>(text: &mut Vec<u8, A>, number: i64) -> Result<(), AllocError>
+fn append_signed<A: Allocator>(text: &mut Vec<u8, A>, number: i64) -> Result<(), AllocError>
     ensures { OnOk result (text.new.items ≡ text.old.items ++ signed_decimal number) }
 {
     text.extend_from_slice(Buffer::new().format(number).as_bytes())
 }
 
-fn write_welfare<A: Allocator>(text: &mut Vec<u8, A>, welfare: u64) -> Result<(), AllocError>
+fn append_welfare<A: Allocator>(text: &mut Vec<u8, A>, welfare: u64) -> Result<(), AllocError>
     ensures { OnOk result (text.new.items ≡ text.old.items ++ welfare_line welfare) }
 {
     text.extend_from_slice(b"welfare,")?;
-    write_number(text, welfare)?;
+    append_number(text, welfare)?;
     text.extend_from_slice(b"\n")
 }
 
-fn write_period<A: Allocator>(
+fn append_period<A: Allocator>(
     text: &mut Vec<u8, A>,
     number: u64,
     period: PeriodResult,
@@ -34,11 +33,11 @@ fn write_period<A: Allocator>(
     ensures { OnOk result (text.new.items ≡ text.old.items ++ period_line number period) }
 {
     text.extend_from_slice(b"period,")?;
-    write_number(text, number)?;
+    append_number(text, number)?;
     text.extend_from_slice(b",")?;
     write_price(text, period.price)?;
     text.extend_from_slice(b",")?;
-    write_number(text, period.volume)?;
+    append_number(text, period.volume)?;
     text.extend_from_slice(b"\n")
 }
 
@@ -49,7 +48,7 @@ fn acceptance_word(accepted: bool) -> &'static str
 }
 
 /// Appends the participant's code and the order's name, each followed by a comma.
-fn write_names<A: Allocator>(
+fn append_names<A: Allocator>(
     text: &mut Vec<u8, A>,
     who: &Participant,
     name: &Name,
@@ -63,7 +62,7 @@ fn write_names<A: Allocator>(
     text.extend_from_slice(b",")
 }
 
-fn write_hourly_order<A: Allocator>(
+fn append_hourly_order<A: Allocator>(
     text: &mut Vec<u8, A>,
     who: &Participant,
     name: &Name,
@@ -73,12 +72,12 @@ fn write_hourly_order<A: Allocator>(
         ≡ text.old.items ++ row_result_line (RowResult.Hour who.now name.now executed)) }
 {
     text.extend_from_slice(b"hour,")?;
-    write_names(text, who, name)?;
-    write_number(text, u64::from(executed))?;
+    append_names(text, who, name)?;
+    append_number(text, u64::from(executed))?;
     text.extend_from_slice(b"\n")
 }
 
-fn write_block<A: Allocator>(
+fn append_block<A: Allocator>(
     text: &mut Vec<u8, A>,
     who: &Participant,
     name: &Name,
@@ -89,14 +88,14 @@ fn write_block<A: Allocator>(
         ≡ text.old.items ++ row_result_line (RowResult.Block who.now name.now accepted surplus)) }
 {
     text.extend_from_slice(b"block,")?;
-    write_names(text, who, name)?;
+    append_names(text, who, name)?;
     text.extend_from_slice(acceptance_word(accepted).as_bytes())?;
     text.extend_from_slice(b",")?;
-    write_signed(text, surplus)?;
+    append_signed(text, surplus)?;
     text.extend_from_slice(b"\n")
 }
 
-fn write_row<A: Allocator>(text: &mut Vec<u8, A>, row: &RowResult) -> Result<(), AllocError>
+fn append_row_result<A: Allocator>(text: &mut Vec<u8, A>, row: &RowResult) -> Result<(), AllocError>
     ensures { OnOk result (text.new.items ≡ text.old.items ++ row_result_line row.now) }
 {
     match row {
@@ -104,13 +103,13 @@ fn write_row<A: Allocator>(text: &mut Vec<u8, A>, row: &RowResult) -> Result<(),
             who,
             name,
             executed,
-        } => write_hourly_order(text, who, name, *executed),
+        } => append_hourly_order(text, who, name, *executed),
         RowResult::Block {
             who,
             name,
             accepted,
             surplus,
-        } => write_block(text, who, name, *accepted, *surplus),
+        } => append_block(text, who, name, *accepted, *surplus),
     }
 }
 
@@ -127,13 +126,13 @@ pub fn results_text<A: Allocator, B: Allocator>(
         results.now.periods.items results.now.rows.items) }
 {
     let mut text = Vec::new(alloc);
-    write_day(&mut text, results.periods.len() as u64)?;
-    write_welfare(&mut text, results.welfare)?;
+    append_day(&mut text, results.periods.len() as u64)?;
+    append_welfare(&mut text, results.welfare)?;
     for (place, period) in results.periods.iter().enumerate() {
-        write_period(&mut text, place as u64 + 1, *period)?;
+        append_period(&mut text, place as u64 + 1, *period)?;
     }
     for row in &results.rows {
-        write_row(&mut text, row)?;
+        append_row_result(&mut text, row)?;
     }
     Ok(text)
 }

@@ -7,7 +7,7 @@ ghost use Rattle.dam_book.specs.declared.command.Command.{Command};
 ghost use Rattle.dam_book.specs.declared.command.Entry.{Entry};
 ghost use Rattle.dam_book.specs.Limits.{most_entries};
 ghost use Rattle.dam_results.specs.Limits.{most_bytes};
-ghost use Rattle.dam_results.specs.Records.{day_row, row_of};
+ghost use Rattle.dam_results.specs.Records.{record_of_day, record_of_command};
 ghost use Rattle.dam_results.specs.Journal.{IsCommand, ReadsAs};
 ghost use Rattle.dam_results.specs.Spelling.{IsSpelled};
 ghost use Rattle.dam_results.specs.Written.{journal_text};
@@ -19,7 +19,7 @@ ghost use Rattle.dam_results.specs.Written.{journal_text};
 pub fn spellings_read_alike()
     ensures { (periods : ℕ) (commands : List Command) (text : List ℕ)
         → is_day periods ≡ true → AllByRecursion IsCommand commands → length commands ≤ most_entries
-        → length text ≤ most_bytes → IsSpelled (day_row periods ∷ map row_of commands) text
+        → length text ≤ most_bytes → IsSpelled (record_of_day periods ∷ map record_of_command commands) text
         → ReadsAs text periods commands }
 {}
 
@@ -28,7 +28,7 @@ pub fn spellings_read_alike()
 pub fn written_journals_are_spelled()
     ensures { (periods : ℕ) (entries : List Entry)
         → is_day periods ≡ true → AllByRecursion IsCommand (commands_of entries)
-        → IsSpelled (day_row periods ∷ map row_of (commands_of entries))
+        → IsSpelled (record_of_day periods ∷ map record_of_command (commands_of entries))
         (journal_text periods entries) }
 {}
 

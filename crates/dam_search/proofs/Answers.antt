@@ -1,24 +1,18 @@
 -- One answer more changes the highest selection that was found.
-use Rattle.std.proofs.Common.{◌≡◌, ◌≢◌, ℕ, ◌+◌, ◌-◌, ◌^◌, ◌<◌, ◌≤◌, ◌⊎◌, inl, inr, Bool, true, false, cond, ◌==◌, Option}
-use Rattle.std.proofs.Common.{Some, None, List, [], ◌∷◌, ◌++◌, length, take, slice_index_or, slice_set, replicate, ◌∙◌, ap, sym, subst}
-use Rattle.std.proofs.Common.{refl, arith}
-use Rattle.std.specs.List.{All, Contains, count_by}
-use Rattle.std.proofs.lemmas.Bool.Decides.{nat_tests}
-use Rattle.std.proofs.lemmas.List.Elements.{All-contains, All-push, All-weaker, Contains-push, Contains-append_left, Contains-append_right}
+use Rattle.dam_search.proofs.Common.{◌≡◌, ◌≢◌, ℕ, ◌+◌, ◌-◌, ◌^◌, ◌<◌, ◌≤◌, ◌⊎◌, inl, inr, Bool, true, false, cond, ◌==◌, Option, Some, None, List, [], ◌∷◌}
+use Rattle.dam_search.proofs.Common.{◌++◌, length, take, slice_index_or, slice_set, replicate, ◌∙◌, ap, sym, subst, refl, arith, All, nat_tests, All-push}
+use Rattle.dam_search.proofs.Common.{All-weaker, cases_lt, eqb-true, length-set, length-replicate, get_or-set_other, Solution, ProblemState, IsProblem}
+use Rattle.dam_search.proofs.Common.{PieceAnswer, choice, Rises, node_count, IsSound, IsSpent, IsWorked, answers_about, AreOneEach, IsLong, IsHighestFound}
+use Rattle.dam_search.proofs.Common.{most_pieces}
+use Rattle.std.specs.List.{Contains, count_by}
+use Rattle.std.proofs.lemmas.List.Elements.{All-contains, Contains-push, Contains-append_left, Contains-append_right}
 use Rattle.std.proofs.lemmas.List.Sums.{sum_by-append, count_by_more_yes, count_by_more_no}
-use Rattle.std.proofs.lemmas.Bool.{cases_lt, eqb-true}
-use Rattle.std.proofs.lemmas.List.{length-set, length-replicate, get_or-set_other, get_or-replicate}
+use Rattle.std.proofs.lemmas.List.{get_or-replicate}
 use Rattle.std.proofs.lemmas.Grind.{get_or-set_at}
-use Rattle.dam_blocks.specs.declared.selection.Solution.{Solution}
-use Rattle.dam_blocks.specs.Problem.{ProblemState, IsProblem}
-use Rattle.dam_search.specs.declared.answer.PieceAnswer.{PieceAnswer}
-use Rattle.dam_blocks.specs.Selection.{choice}
-use Rattle.dam_search.specs.Piece.{Rises, node_count, live_nodes, IsSound, IsSpent}
+use Rattle.dam_search.specs.Piece.{live_nodes}
 use Rattle.dam_search.specs.Search.{IsFinished, IsUnfinished}
 use Rattle.dam_search.specs.Answer.{AreAnswered, AreConclusive}
-use Rattle.dam_search.specs.inside.Collect.{IsWorked, answers_about, AreOneEach, AreAnswerCounts, IsLong}
-use Rattle.dam_search.specs.inside.Collect.{IsHighestFound, IsLeastUnfinished}
-use Rattle.dam_search.specs.Words.{most_pieces}
+use Rattle.dam_search.specs.inside.Collect.{AreAnswerCounts, IsLeastUnfinished}
 use Rattle.dam_search.proofs.Ranks.{IsTransitive, rises_twice}
 
 -- ---- the highest that was found
@@ -47,24 +41,24 @@ among_highest answers b best e h = let k = subst (λ (o : Option Solution). IsHi
 everyone : (answers : List PieceAnswer) (a : PieceAnswer) (best result : Option Solution) → IsTransitive
     → All (λ (x : PieceAnswer). IsLong x.best) answers → IsLong best → IsLong result → IsHighestFound answers best
     → Rises best result → Rises a.best result → All (λ (x : PieceAnswer). Rises x.best result) (answers ++ a ∷ [])
-everyone answers a best result through long lb lr h before next =
+everyone answers a best result transitive long lb lr h before next =
     All-push (λ (x : PieceAnswer). Rises x.best result) answers a
-    (λ k d l. rises_twice (slice_index_or answers k d).best best result through (long k d l) lb lr
+    (λ k d l. rises_twice (slice_index_or answers k d).best best result transitive (long k d l) lb lr
     (below_highest answers best h k d l) before) next
 
 pub highest_step : (answers : List PieceAnswer) (a : PieceAnswer) (best result : Option Solution) → IsTransitive
     → All (λ (x : PieceAnswer). IsLong x.best) answers → IsLong best → IsLong result → IsHighestFound answers best
     → (result ≡ best) ⊎ (result ≡ a.best) → Rises best result → Rises a.best result → IsHighestFound (answers ++ a ∷ []) result
-highest_step answers a best None through long lb lr h either before next =
-    let all = everyone answers a best None through long lb lr h before next in
+highest_step answers a best None transitive long lb lr h either before next =
+    let all = everyone answers a best None transitive long lb lr h before next in
     All-weaker (λ (x : PieceAnswer). Rises x.best None) (λ (x : PieceAnswer). x.best ≡ None)
     (λ (x : PieceAnswer) (r : Rises x.best None). no_more x.best r) (answers ++ a ∷ []) all
-highest_step answers a best (Some b) through long lb lr h either before next = record {
+highest_step answers a best (Some b) transitive long lb lr h either before next = record {
   among = elim either [
     | inl e ↦ (let some = among_highest answers b best (sym e) h in (some.0, Contains-append_left answers (a ∷ []) some.0 some.1, some.2))
     | inr e ↦ (a, Contains-push answers a, sym e)
   ];
-  others = everyone answers a best (Some b) through long lb lr h before next;
+  others = everyone answers a best (Some b) transitive long lb lr h before next;
 }
 
 -- ---- one answer about each piece
@@ -85,10 +79,10 @@ counted p (a ∷ answers) h =
           (found.0, Contains-append_right (a ∷ []) answers found.0 found.1, found.2))
     ] refl
 
-pub answered : (problem : ProblemState) (depth nodes : ℕ) (answers : List PieceAnswer)
-    → All (λ (a : PieceAnswer). IsWorked problem depth nodes a) answers
+pub answered : (problem : ProblemState) (depth node_limit : ℕ) (answers : List PieceAnswer)
+    → All (λ (a : PieceAnswer). IsWorked problem depth node_limit a) answers
     → AreOneEach answers (2 ^ depth) → All (λ (a : PieceAnswer). a.done ≡ true) answers → AreAnswered problem depth answers
-answered problem depth nodes answers worked one done = record {
+answered problem depth node_limit answers worked one done = record {
   sound = λ k d l. (worked k d l).sound;
   done = done;
   each = λ piece l.
@@ -98,13 +92,13 @@ answered problem depth nodes answers worked one done = record {
 }
 
 -- the answers of the workers settle the result once each piece has one, all of them done
-pub conclusive : (problem : ProblemState) (depth nodes : ℕ) (answers : List PieceAnswer) → IsProblem problem → depth ≤ length problem.blocks
-    → All (λ (a : PieceAnswer). IsWorked problem depth nodes a) answers → AreOneEach answers (2 ^ depth)
+pub conclusive : (problem : ProblemState) (depth node_limit : ℕ) (answers : List PieceAnswer) → IsProblem problem → depth ≤ length problem.blocks
+    → All (λ (a : PieceAnswer). IsWorked problem depth node_limit a) answers → AreOneEach answers (2 ^ depth)
     → All (λ (a : PieceAnswer). a.done ≡ true) answers → AreConclusive problem depth answers
-conclusive problem depth nodes answers is deep worked one done = record {
+conclusive problem depth node_limit answers is deep worked one done = record {
   is_problem = is;
   in_blocks = deep;
-  answered = answered problem depth nodes answers worked one done;
+  answered = answered problem depth node_limit answers worked one done;
   reached = λ k d l. (worked k d l).reached;
 }
 
@@ -114,59 +108,59 @@ done_before : (piece least : ℕ) (done : Bool) → piece < least → (done ≡ 
 done_before piece least true less after = refl
 done_before piece least false less after = absurd (let most = after refl in omega (arith, less, most))
 
-finished_before : (problem : ProblemState) (depth nodes : ℕ) (answers : List PieceAnswer) (u : PieceAnswer)
-    → nodes < node_count (length problem.blocks - depth) → u.piece < 2 ^ depth
-    → All (λ (a : PieceAnswer). IsWorked problem depth nodes a) answers → AreOneEach answers (2 ^ depth)
+finished_before : (problem : ProblemState) (depth node_limit : ℕ) (answers : List PieceAnswer) (u : PieceAnswer)
+    → node_limit < node_count (length problem.blocks - depth) → u.piece < 2 ^ depth
+    → All (λ (a : PieceAnswer). IsWorked problem depth node_limit a) answers → AreOneEach answers (2 ^ depth)
     → All (λ (a : PieceAnswer). a.done ≡ false → u.piece ≤ a.piece) answers
-    → (lesser : ℕ) → lesser < u.piece → IsFinished problem depth nodes lesser
-finished_before problem depth nodes answers u few in_cutting worked one least lesser less =
+    → (lesser : ℕ) → lesser < u.piece → IsFinished problem depth node_limit lesser
+finished_before problem depth node_limit answers u few in_cutting worked one least lesser less =
     let some : 0 < answers_about answers lesser = omega (arith, one lesser (omega (arith, less, in_cutting))) in
     let found = counted (λ (a : PieceAnswer). a.piece == lesser) answers some in
     let a = found.0 in
     let is : a.piece ≡ lesser = eqb-true a.piece lesser found.2 in
-    let work = All-contains (λ (x : PieceAnswer). IsWorked problem depth nodes x) answers a worked found.1 in
+    let work = All-contains (λ (x : PieceAnswer). IsWorked problem depth node_limit x) answers a worked found.1 in
     let after = All-contains (λ (x : PieceAnswer). x.done ≡ false → u.piece ≤ x.piece) answers a least found.1 in
     let done = done_before a.piece u.piece a.done (omega (arith, is, less)) after in
-    subst (λ (n : ℕ). IsFinished problem depth nodes n) is (record {
+    subst (λ (n : ℕ). IsFinished problem depth node_limit n) is (record {
       best = a.best;
       incumbent_read = a.incumbent_read;
       visited = a.visited;
       sound = subst (λ (d : Bool). IsSound problem (choice depth a.piece) a.best a.incumbent_read d) done work.sound;
       reached = work.reached;
-      spent = subst (λ (d : Bool). IsSpent problem (choice depth a.piece) (length problem.blocks - depth) 0 nodes a.visited a.incumbent_read d)
+      spent = subst (λ (d : Bool). IsSpent problem (choice depth a.piece) (length problem.blocks - depth) 0 node_limit a.visited a.incumbent_read d)
           done (work.spent few);
     })
 
-below_bound : (nodes bound : ℕ) (done : Bool) → done ≡ false → (bound ≤ nodes → done ≡ true) → nodes < bound
-below_bound nodes bound true e enough = absurd cc
-below_bound nodes bound false e enough = elim (cases_lt nodes bound) [
+below_bound : (node_limit bound : ℕ) (done : Bool) → done ≡ false → (bound ≤ node_limit → done ≡ true) → node_limit < bound
+below_bound node_limit bound true e enough = absurd cc
+below_bound node_limit bound false e enough = elim (cases_lt node_limit bound) [
   | inl few ↦ few
   | inr many ↦ absurd (let no = enough (omega (arith, many)) in cc)
 ]
 
-pub least_is : (problem : ProblemState) (depth nodes : ℕ) (answers : List PieceAnswer) (u : PieceAnswer)
-    → All (λ (a : PieceAnswer). IsWorked problem depth nodes a) answers → AreOneEach answers (2 ^ depth)
-    → IsLeastUnfinished answers (Some u) → IsUnfinished problem depth nodes u.piece u.visited
-least_is problem depth nodes answers u worked one least =
-    let left = length problem.blocks - depth in
-    let work = All-contains (λ (x : PieceAnswer). IsWorked problem depth nodes x) answers u worked least.0 in
-    let few = below_bound nodes (node_count left) u.done least.1 work.done in
+pub least_is : (problem : ProblemState) (depth node_limit : ℕ) (answers : List PieceAnswer) (u : PieceAnswer)
+    → All (λ (a : PieceAnswer). IsWorked problem depth node_limit a) answers → AreOneEach answers (2 ^ depth)
+    → IsLeastUnfinished answers (Some u) → IsUnfinished problem depth node_limit u.piece u.visited
+least_is problem depth node_limit answers u worked one least =
+    let undecided_count = length problem.blocks - depth in
+    let work = All-contains (λ (x : PieceAnswer). IsWorked problem depth node_limit x) answers u worked least.0 in
+    let few = below_bound node_limit (node_count undecided_count) u.done least.1 work.done in
     let spent = work.spent few in
     record {
       in_cutting = work.in_cutting;
       limit_met = spent.unfinished least.1;
       over_all = few;
-      over_live = below_bound nodes (live_nodes problem 0 (choice depth u.piece) left) u.done least.1
+      over_live = below_bound node_limit (live_nodes problem 0 (choice depth u.piece) undecided_count) u.done least.1
           (spent.done_by_live 0 (omega arith));
-      least = finished_before problem depth nodes answers u few work.in_cutting worked one least.2;
+      least = finished_before problem depth node_limit answers u few work.in_cutting worked one least.2;
     }
 
 -- ---- the counts of the answers about each piece
 
-pub all_in_cutting : (problem : ProblemState) (depth nodes pieces : ℕ) (answers : List PieceAnswer) → pieces ≡ 2 ^ depth
+pub all_in_cutting : (problem : ProblemState) (depth node_limit pieces : ℕ) (answers : List PieceAnswer) → pieces ≡ 2 ^ depth
     → pieces ≤ most_pieces
-    → All (λ (a : PieceAnswer). IsWorked problem depth nodes a) answers → All (λ (a : PieceAnswer). a.piece < most_pieces) answers
-all_in_cutting problem depth nodes pieces answers e few worked k d l =
+    → All (λ (a : PieceAnswer). IsWorked problem depth node_limit a) answers → All (λ (a : PieceAnswer). a.piece < most_pieces) answers
+all_in_cutting problem depth node_limit pieces answers e few worked k d l =
     let in_cutting = (worked k d l).in_cutting in
     omega (arith, e, few, in_cutting)
 

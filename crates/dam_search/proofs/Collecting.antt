@@ -1,29 +1,21 @@
 -- Conclusive answers give the result.
-use Rattle.std.proofs.Common.{◌≡◌, ℕ, ◌^◌, ◌-◌, ◌<◌, ◌≤◌, max, ◌⊎◌, inl, inr, ℤ, pos, ◌≤ℤ◌, Bool, true, Option, Some, None, List, [], ◌∷◌, ◌++◌}
-use Rattle.std.proofs.Common.{length, take, drop, ◌∙◌, ap, sym, subst, refl, arith}
-use Rattle.std.specs.List.{All, Contains}
-use Rattle.std.proofs.lemmas.Bool.{cases_lt}
-use Rattle.std.proofs.lemmas.Int.{ints}
+use Rattle.dam_search.proofs.Common.{◌≡◌, ℕ, ◌^◌, ◌-◌, ◌<◌, ◌≤◌, max, ◌⊎◌, inl, inr, ℤ, pos, ◌≤ℤ◌, Bool, true, Option, Some, None, List, [], ◌∷◌, ◌++◌}
+use Rattle.dam_search.proofs.Common.{length, take, drop, ◌∙◌, ap, sym, subst, refl, arith, All, cases_lt, ints, All-weaker, most_blocks, Solution}
+use Rattle.dam_search.proofs.Common.{ProblemState, IsProblem, choice, IsEligible, RanksAtOrBelow, IsCompletion, PieceAnswer, IsFind, IsMatched, Rises}
+use Rattle.dam_search.proofs.Common.{welfare_found, node_count, IsSpent, IsWorked, IsReached, greatest_found}
+use Rattle.std.specs.List.{Contains}
 use Rattle.std.proofs.lemmas.List.{length-take-le, take-append-drop}
-use Rattle.std.proofs.lemmas.List.Elements.{All-contains, All-head, All-tail, All-weaker}
-use Rattle.dam_book.specs.Limits.{most_blocks}
-use Rattle.dam_blocks.specs.declared.selection.Solution.{Solution}
-use Rattle.dam_blocks.specs.Problem.{ProblemState, IsProblem}
-use Rattle.dam_blocks.specs.Selection.{choice}
-use Rattle.dam_blocks.specs.Eligible.{IsEligible}
-use Rattle.dam_blocks.specs.Result.{RanksAtOrBelow, IsResult}
-use Rattle.dam_bound.specs.Prefix.{IsCompletion}
-use Rattle.dam_search.specs.declared.answer.PieceAnswer.{PieceAnswer}
-use Rattle.dam_search.specs.Piece.{IsFind, IsMatched, Rises, welfare_found, node_count, HasNeeded, IsSpent}
+use Rattle.std.proofs.lemmas.List.Elements.{All-contains, All-head, All-tail}
+use Rattle.dam_blocks.specs.Result.{IsResult}
+use Rattle.dam_search.specs.Piece.{HasNeeded}
 use Rattle.dam_search.specs.Search.{LimitHasNeeded}
-use Rattle.dam_search.specs.inside.Collect.{IsWorked}
+use Rattle.dam_search.specs.Answer.{IsSoundAnswer, AreAnswered, IsHighest}
 use Rattle.dam_search.proofs.Walks.{needed_more, all_needed}
-use Rattle.dam_search.specs.Answer.{IsSoundAnswer, AreAnswered, IsReached, greatest_found, IsHighest}
 use Rattle.dam_search.proofs.Ranks.{IsTransitive}
 
 -- the laws of dam_blocks that a problem has a result, and that each list of acceptances is a choice
 abbrev pub IsSolvable : Type 0
-IsSolvable = (problem : ProblemState) → IsProblem problem → (sel : List Bool) × ((w : ℤ) × IsResult problem sel w)
+IsSolvable = (problem : ProblemState) → IsProblem problem → (selection : List Bool) × ((welfare : ℤ) × IsResult problem selection welfare)
 
 abbrev pub AreChoices : Type 0
 AreChoices = (xs : List Bool) → (k : ℕ) × (k < 2 ^ length xs) × (choice (length xs) k ≡ xs)
@@ -39,45 +31,45 @@ sound_one problem depth answers a are here =
     All-contains (λ (x : PieceAnswer). IsSoundAnswer problem depth x) answers a are.sound here
 
 -- each selection is a completion of some piece
-pub some_piece : AreChoices → (depth : ℕ) (sel : List Bool) → depth ≤ most_blocks → length sel ≡ most_blocks
-    → (k : ℕ) × (k < 2 ^ depth) × IsCompletion (choice depth k) sel
-some_piece choices depth sel few long =
-    let prefix : length (take depth sel) ≡ depth = length-take-le depth sel (omega (arith, few, long)) in
-    let found = choices (take depth sel) in
-    let is : choice depth found.0 ≡ take depth sel = subst (λ (n : ℕ). choice n found.0 ≡ take depth sel) prefix found.2 in (
+pub some_piece : AreChoices → (depth : ℕ) (selection : List Bool) → depth ≤ most_blocks → length selection ≡ most_blocks
+    → (k : ℕ) × (k < 2 ^ depth) × IsCompletion (choice depth k) selection
+some_piece choices depth selection few long =
+    let prefix : length (take depth selection) ≡ depth = length-take-le depth selection (omega (arith, few, long)) in
+    let found = choices (take depth selection) in
+    let is : choice depth found.0 ≡ take depth selection = subst (λ (n : ℕ). choice n found.0 ≡ take depth selection) prefix found.2 in (
       found.0,
       subst (λ (n : ℕ). found.0 < 2 ^ n) prefix found.1,
       record {
         as_long = long;
-        rest = drop depth sel;
-        agrees = sym (take-append-drop depth sel) ∙ ap (λ (xs : List Bool). xs ++ drop depth sel) (sym is);
+        rest = drop depth selection;
+        agrees = sym (take-append-drop depth selection) ∙ ap (λ (xs : List Bool). xs ++ drop depth selection) (sym is);
       },
     )
 
 -- the result is matched by the selection that the answer about its piece found
-pub result_matched : (problem : ProblemState) (depth : ℕ) (answers : List PieceAnswer) (sel : List Bool) (w : ℤ) → AreChoices
+pub result_matched : (problem : ProblemState) (depth : ℕ) (answers : List PieceAnswer) (selection : List Bool) (welfare : ℤ) → AreChoices
     → depth ≤ most_blocks → AreAnswered problem depth answers
-    → AreReached problem answers → IsResult problem sel w
-    → (a : PieceAnswer) × Contains answers a × IsMatched w sel a.best
-result_matched problem depth answers sel w choices few are reached result =
-    let piece = some_piece choices depth sel few result.eligible.as_long in
+    → AreReached problem answers → IsResult problem selection welfare
+    → (a : PieceAnswer) × Contains answers a × IsMatched welfare selection a.best
+result_matched problem depth answers selection welfare choices few are reached result =
+    let piece = some_piece choices depth selection few result.eligible.as_long in
     let answer = are.each piece.0 piece.1 in
     let a = answer.0 in
     let sound = sound_one problem depth answers a are answer.1 in
     let done = All-contains (λ (x : PieceAnswer). x.done ≡ true) answers a are.done answer.1 in
     let read = All-contains (λ (x : PieceAnswer). IsReached problem x.incumbent_read) answers a reached answer.1 in
-    let here = subst (λ (k : ℕ). IsCompletion (choice depth k) sel) (sym answer.2) piece.2 in
+    let here = subst (λ (k : ℕ). IsCompletion (choice depth k) selection) (sym answer.2) piece.2 in
     let ranks = (result.others read.selection read.welfare read.eligible).by_welfare in
     let most = read.reaches in
-    elim (sound.others done sel w here result.eligible) [
+    elim (sound.others done selection welfare here result.eligible) [
       | inl less ↦ absurd (let no : 0 < 0 = omega (arith, ints, less, ranks, most) in omega (arith, no))
       | inr matched ↦ (a, answer.1, matched)
     ]
 
-matched_found : (w : ℤ) (sel : List Bool) (best : Option Solution) → IsMatched w sel best
-    → (c : Solution) × (best ≡ Some c) × RanksAtOrBelow w sel (pos c.welfare) c.selection
-matched_found w sel None h = absurd h
-matched_found w sel (Some c) h = (c, refl, h)
+matched_found : (welfare : ℤ) (selection : List Bool) (best : Option Solution) → IsMatched welfare selection best
+    → (c : Solution) × (best ≡ Some c) × RanksAtOrBelow welfare selection (pos c.welfare) c.selection
+matched_found welfare selection None h = absurd h
+matched_found welfare selection (Some c) h = (c, refl, h)
 
 found_eligible : (problem : ProblemState) (prefix : List Bool) (best : Option Solution) (b : Solution) → best ≡ Some b → IsFind problem prefix best
     → IsEligible problem b.selection (pos b.welfare)
@@ -87,25 +79,25 @@ pub collected : (problem : ProblemState) (depth : ℕ) (answers : List PieceAnsw
     → IsProblem problem → depth ≤ length problem.blocks
     → AreAnswered problem depth answers → AreReached problem answers → IsHighest answers b
     → IsResult problem b.selection (pos b.welfare)
-collected problem depth answers b solvable choices through is deep are reached highest =
+collected problem depth answers b solvable choices transitive is deep are reached highest =
     let few : depth ≤ most_blocks = omega (arith, deep, is.few_blocks) in
     let best = solvable problem is in
-    let sel = best.0 in let w = best.1.0 in let result = best.1.1 in
-    let answer = result_matched problem depth answers sel w choices few are reached result in
-    let found = matched_found w sel answer.0.best answer.2 in
+    let selection = best.0 in let welfare = best.1.0 in let result = best.1.1 in
+    let answer = result_matched problem depth answers selection welfare choices few are reached result in
+    let found = matched_found welfare selection answer.0.best answer.2 in
     let c = found.0 in
     let rises = All-contains (λ (x : PieceAnswer). Rises x.best (Some b)) answers answer.0 highest.others answer.1 in
     let c_below = subst (λ (o : Option Solution). Rises o (Some b)) found.1 rises in
     let sound = sound_one problem depth answers answer.0 are answer.1 in
     let c_eligible = found_eligible problem (choice depth answer.0.piece) answer.0.best c found.1 sound.found in
-    let top = highest.among in
-    let sound_top = sound_one problem depth answers top.0 are top.1 in
-    let eligible = found_eligible problem (choice depth top.0.piece) top.0.best b top.2 sound_top.found in
-    let below = through w (pos c.welfare) (pos b.welfare) sel c.selection b.selection result.eligible.as_long c_eligible.as_long
+    let found_by = highest.among in
+    let sound_answer = sound_one problem depth answers found_by.0 are found_by.1 in
+    let eligible = found_eligible problem (choice depth found_by.0.piece) found_by.0.best b found_by.2 sound_answer.found in
+    let below = transitive welfare (pos c.welfare) (pos b.welfare) selection c.selection b.selection result.eligible.as_long c_eligible.as_long
     eligible.as_long found.2 c_below in
     record {
       eligible = eligible;
-      others = λ ys v e. through v w (pos b.welfare) ys sel b.selection e.as_long result.eligible.as_long eligible.as_long
+      others = λ ys v e. transitive v welfare (pos b.welfare) ys selection b.selection e.as_long result.eligible.as_long eligible.as_long
           (result.others ys v e) below;
     }
 
@@ -157,8 +149,8 @@ reached_greatest problem depth (a ∷ answers) zero_reached sound =
     (All-head (λ (x : PieceAnswer). IsSoundAnswer problem depth x) a answers sound).found)
     (reached_greatest problem depth answers zero_reached (All-tail (λ (x : PieceAnswer). IsSoundAnswer problem depth x) a answers sound))
 
-pub reached_zero : (problem : ProblemState) (sel : List Bool) (w : ℤ) → IsEligible problem sel w → pos 0 ≤ℤ w → IsReached problem 0
-reached_zero problem sel w e h = record { selection = sel; welfare = w; eligible = e; reaches = h }
+pub reached_zero : (problem : ProblemState) (selection : List Bool) (welfare : ℤ) → IsEligible problem selection welfare → pos 0 ≤ℤ welfare → IsReached problem 0
+reached_zero problem selection welfare e h = record { selection = selection; welfare = welfare; eligible = e; reaches = h }
 
 -- no value read above a value that is reached
 pub all_reached : (problem : ProblemState) (answers : List PieceAnswer) (value : ℕ) → IsReached problem value
@@ -177,22 +169,22 @@ reached_at_most problem value b r result =
     omega (arith, ints, reaches, most)
 
 -- the limit allows as many nodes as the piece of an answer that is done needs
-pub answer_needed : (problem : ProblemState) (prefix : List Bool) (left nodes visited read : ℕ) (done : Bool) (b : Solution)
-    → (nodes < node_count left → IsSpent problem prefix left 0 nodes visited read done) → done ≡ true → IsReached problem read
-    → IsResult problem b.selection (pos b.welfare) → HasNeeded problem prefix left b.welfare nodes
-answer_needed problem prefix left nodes visited read done b spent is reached result = elim (cases_lt nodes (node_count left)) [
+pub answer_needed : (problem : ProblemState) (prefix : List Bool) (undecided_count node_limit visited read : ℕ) (done : Bool) (b : Solution)
+    → (node_limit < node_count undecided_count → IsSpent problem prefix undecided_count 0 node_limit visited read done) → done ≡ true → IsReached problem read
+    → IsResult problem b.selection (pos b.welfare) → HasNeeded problem prefix undecided_count b.welfare node_limit
+answer_needed problem prefix undecided_count node_limit visited read done b spent is reached result = elim (cases_lt node_limit (node_count undecided_count)) [
   | inl few ↦
       (let s = spent few in
-      needed_more problem prefix left read b.welfare visited nodes (reached_at_most problem read b reached result) s.within (s.needed is))
-  | inr many ↦ all_needed problem prefix left b.welfare nodes (omega (arith, many))
+      needed_more problem prefix undecided_count read b.welfare visited node_limit (reached_at_most problem read b reached result) s.within (s.needed is))
+  | inr many ↦ all_needed problem prefix undecided_count b.welfare node_limit (omega (arith, many))
 ]
 
-pub limit_needed : (problem : ProblemState) (depth nodes : ℕ) (answers : List PieceAnswer) (b : Solution)
-    → All (λ (a : PieceAnswer). IsWorked problem depth nodes a) answers → AreAnswered problem depth answers
-    → IsResult problem b.selection (pos b.welfare) → LimitHasNeeded problem depth nodes b.welfare
-limit_needed problem depth nodes answers b worked are result piece less =
-    let found = are.each piece less in let left = length problem.blocks - depth in
-    let work = All-contains (λ (a : PieceAnswer). IsWorked problem depth nodes a) answers found.0 worked found.1 in
+pub limit_needed : (problem : ProblemState) (depth node_limit : ℕ) (answers : List PieceAnswer) (b : Solution)
+    → All (λ (a : PieceAnswer). IsWorked problem depth node_limit a) answers → AreAnswered problem depth answers
+    → IsResult problem b.selection (pos b.welfare) → LimitHasNeeded problem depth node_limit b.welfare
+limit_needed problem depth node_limit answers b worked are result piece less =
+    let found = are.each piece less in let undecided_count = length problem.blocks - depth in
+    let work = All-contains (λ (a : PieceAnswer). IsWorked problem depth node_limit a) answers found.0 worked found.1 in
     let done = All-contains (λ (a : PieceAnswer). a.done ≡ true) answers found.0 are.done found.1 in
-    subst (λ (n : ℕ). HasNeeded problem (choice depth n) left b.welfare nodes) found.2
-    (answer_needed problem (choice depth found.0.piece) left nodes found.0.visited found.0.incumbent_read found.0.done b work.spent done work.reached result)
+    subst (λ (n : ℕ). HasNeeded problem (choice depth n) undecided_count b.welfare node_limit) found.2
+    (answer_needed problem (choice depth found.0.piece) undecided_count node_limit found.0.visited found.0.incumbent_read found.0.done b work.spent done work.reached result)

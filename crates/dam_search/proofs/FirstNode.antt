@@ -1,19 +1,12 @@
 -- The node that decides the blocks of a piece: its open selections are the completions that may be eligible.
-use Rattle.std.proofs.Common.{◌≡◌, ℕ, zero, suc, ◌-◌, ◌<◌, ◌≤◌, inl, inr, Bool, true, false, Option, Some, None, List, [], ◌∷◌, ◌++◌}
-use Rattle.std.proofs.Common.{◌==◌, ◌||◌, length, length-append, replicate, drop, ◌∙◌, ap, sym, subst, refl, arith}
-use Rattle.std.proofs.lemmas.Bool.{cases_lt}
-use Rattle.std.proofs.lemmas.Bool.Decides.{nat_tests}
+use Rattle.dam_search.proofs.Common.{◌≡◌, ℕ, zero, suc, ◌-◌, ◌<◌, ◌≤◌, inl, inr, Bool, true, false, Option, Some, None, List, [], ◌∷◌, ◌++◌, ◌==◌, ◌||◌}
+use Rattle.dam_search.proofs.Common.{length, length-append, replicate, drop, ◌∙◌, ap, sym, subst, refl, arith, cases_lt, length-replicate, most_blocks}
+use Rattle.dam_search.proofs.Common.{Solution, ProblemState, accepts, padded, choice, IsAdmissible, is_among, IsOpen, AreFree, IsCompletion, IsFind, IsSound}
+use Rattle.dam_search.proofs.Common.{AreDecisions}
 use Rattle.std.proofs.lemmas.Option.{slice_get_within}
-use Rattle.std.proofs.lemmas.List.{length-replicate}
-use Rattle.dam_book.specs.Limits.{most_blocks}
-use Rattle.dam_blocks.specs.declared.selection.Solution.{Solution}
-use Rattle.dam_blocks.specs.Problem.{ProblemState}
-use Rattle.dam_blocks.specs.Selection.{accepts, padded, choice, IsAdmissible}
-use Rattle.dam_bound.specs.Open.{is_among, IsOpen, AreFree}
-use Rattle.dam_bound.specs.Prefix.{IsCompletion}
-use Rattle.dam_search.specs.Piece.{IsFind, IsSound}
-use Rattle.dam_search.specs.inside.PriceWalk.{are_distinct, IsDecisionOrder, IsNode, IsOpenFind, FindsOpen, CoversOpen}
+use Rattle.dam_search.specs.inside.PriceWalk.{are_distinct, IsDecisionOrder, IsOpenFind, FindsOpen, CoversOpen}
 use Rattle.dam_search.proofs.Ordering.{distinct_parts}
+use Rattle.dam_search.proofs.Places.{among_first}
 use Rattle.dam_search.proofs.Prefixes.{length-choice}
 use Rattle.dam_search.proofs.Sets.{accepts-none}
 
@@ -39,12 +32,6 @@ or_right : (a b : Bool) → b ≡ true → (a || b) ≡ true
 or_right true b e = refl
 or_right false b e = e
 
-same_place : (place : ℕ) → (place == place) ≡ true
-same_place place = grind (arith, nat_tests)
-
-pub among_first : (place : ℕ) (places : List ℕ) → is_among place (place ∷ places) ≡ true
-among_first place places = ap (λ (b : Bool). b || is_among place places) (same_place place)
-
 free_from : (accepted : List Bool) (order : List ℕ) → are_distinct order ≡ true
     → ((place : ℕ) → is_among place order ≡ true → (place < most_blocks) × (accepts accepted place ≡ false)) → AreFree accepted order
 free_from accepted [] distinct h = tt
@@ -69,7 +56,7 @@ not_among_before depth count order place is less = elim (is_among place order) a
 pub first_node : (prefix rejected : List Bool) (count : ℕ) (order : List ℕ) → length prefix ≤ count → count ≤ most_blocks
     → IsDecisionOrder (length prefix) count order
     → ((place : ℕ) → accepts rejected place ≡ true → (place < length prefix) × (accepts (padded prefix) place ≡ false))
-    → IsNode (padded prefix) rejected order
+    → AreDecisions (padded prefix) rejected order
 first_node prefix rejected count order deep few is apart = record {
   as_long = long_padded prefix (omega (arith, deep, few));
   free = free_from (padded prefix) order is.distinct
@@ -81,10 +68,10 @@ first_node prefix rejected count order deep few is apart = record {
 
 pub piece_node : (depth piece count : ℕ) (accepted rejected : List Bool) (order : List ℕ) → accepted ≡ padded (choice depth piece) → depth ≤ count
     → count ≤ most_blocks → IsDecisionOrder depth count order
-    → ((place : ℕ) → accepts rejected place ≡ true → (place < depth) × (accepts accepted place ≡ false)) → IsNode accepted rejected order
+    → ((place : ℕ) → accepts rejected place ≡ true → (place < depth) × (accepts accepted place ≡ false)) → AreDecisions accepted rejected order
 piece_node depth piece count accepted rejected order is deep few ordered apart =
     let long = length-choice depth piece in
-    subst (λ (xs : List Bool). IsNode xs rejected order) (sym is)
+    subst (λ (xs : List Bool). AreDecisions xs rejected order) (sym is)
     (first_node (choice depth piece) rejected count order (omega (arith, long, deep)) few
     (subst (λ (n : ℕ). IsDecisionOrder n count order) (sym long) ordered)
     (λ place e. (let own = apart place e in let less = own.0 in
@@ -150,7 +137,7 @@ sound_from problem prefix order best read few is finds covers = record {
     | inl e ↦ subst (λ (o : Option Solution). IsFind problem prefix o) (sym e) tt
     | inr h ↦ find_completion problem prefix order best few is h
   ];
-  others = λ done sel w whole e. covers sel w (completion_open problem prefix sel order is e.admissible whole) e;
+  others = λ done selection welfare whole e. covers selection welfare (completion_open problem prefix selection order is e.admissible whole) e;
 }
 
 pub piece_sound : (problem : ProblemState) (depth piece : ℕ) (accepted : List Bool) (order : List ℕ) (best : Option Solution) (read : ℕ)

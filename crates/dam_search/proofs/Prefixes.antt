@@ -1,11 +1,9 @@
 -- A prefix of decisions, and the selection that accepts no other block.
-use Rattle.std.proofs.Common.{◌≡◌, ℕ, zero, suc, ◌+◌, ◌-◌, ◌^◌, ◌<◌, ◌≤◌, Bool, true}
-use Rattle.std.proofs.Common.{false, cond, nat_lt, List, [], ◌∷◌, ◌++◌, length, replicate, take, length-append, ap, ◌∙◌, sym, refl, arith}
-use Rattle.std.proofs.Math.ListN.{set}
-use Rattle.std.proofs.lemmas.List.{length-take-le, length-replicate}
+use Rattle.dam_search.proofs.Common.{◌≡◌, ℕ, zero, suc, ◌+◌, ◌-◌, ◌^◌, ◌<◌, ◌≤◌, Bool, true, false, cond, nat_lt, List, [], ◌∷◌, ◌++◌, length, replicate}
+use Rattle.dam_search.proofs.Common.{take, length-append, ap, ◌∙◌, sym, subst, refl, arith, set, length-replicate, most_blocks, Block, padded, choice}
+use Rattle.dam_search.proofs.Common.{IsAdmissible}
+use Rattle.std.proofs.lemmas.List.{length-take-le}
 use Rattle.std.proofs.Math.Seq.{take-append_seam}
-use Rattle.dam_book.specs.Limits.{most_blocks}
-use Rattle.dam_blocks.specs.Selection.{padded, choice}
 
 pub length-choice : (n k : ℕ) → length (choice n k) ≡ n
 length-choice zero k = refl
@@ -80,3 +78,9 @@ pub length_next : (prefix accepted : List Bool) (n : ℕ) (accept : Bool) → ta
     → n ≤ most_blocks → length (prefix ++ accept ∷ []) ≡ n + 1
 length_next prefix accepted n accept view is few =
     let long = (prefix_of accepted prefix n view is few).0 in omega (arith, length_more prefix accept, long)
+
+-- one block more that is rejected keeps a selection admissible
+pub still_rejected : (blocks : List Block) (front : List Bool) → length front < most_blocks → IsAdmissible blocks (padded front)
+    → IsAdmissible blocks (padded (front ++ false ∷ []))
+still_rejected blocks front few admissible =
+    subst (λ (xs : List Bool). IsAdmissible blocks xs) (padded-rejected front (padded front) refl few) admissible

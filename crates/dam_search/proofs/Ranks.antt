@@ -1,15 +1,9 @@
 -- The order of selections, and the selection found so far, which rises.
-use Rattle.std.proofs.Common.{◌≡◌, ℕ, ◌≤◌, ◌<◌, ◌⊎◌, inl, inr, ℤ, pos, Bool, true, false, not, Option, Some, None, List, [], ◌∷◌, ◌++◌}
-use Rattle.std.proofs.Common.{length, append_assoc, ◌∙◌, sym, subst, refl, arith}
-use Rattle.std.proofs.lemmas.Int.{ints}
-use Rattle.dam_book.specs.Limits.{most_blocks}
-use Rattle.dam_blocks.specs.declared.selection.Solution.{Solution}
-use Rattle.dam_blocks.specs.Problem.{ProblemState}
-use Rattle.dam_blocks.specs.Result.{accepts_first, RanksAbove, RanksAtOrBelow}
-use Rattle.dam_bound.specs.Prefix.{IsCompletion}
-use Rattle.dam_search.specs.Piece.{IsFind, IsMatched, Rises, welfare_found}
+use Rattle.dam_search.proofs.Common.{◌≡◌, ℕ, ◌≤◌, ◌<◌, ◌⊎◌, inl, inr, ℤ, pos, Bool, true, false, not, Option, Some, None, List, [], ◌∷◌, ◌++◌, length}
+use Rattle.dam_search.proofs.Common.{append_assoc, ◌∙◌, sym, subst, refl, arith, ints, most_blocks, Solution, ProblemState, RanksAtOrBelow, IsCompletion}
+use Rattle.dam_search.proofs.Common.{IsFind, IsMatched, Rises, welfare_found, IsLong}
+use Rattle.dam_blocks.specs.Result.{accepts_first, RanksAbove}
 use Rattle.dam_search.specs.inside.PrefixWalk.{Finds, Covers}
-use Rattle.dam_search.specs.inside.Collect.{IsLong}
 
 turned : (xs ys : List Bool) → accepts_first xs ys ≡ true → accepts_first ys xs ≡ false
 turned [] ys e = absurd (cc)
@@ -52,26 +46,26 @@ pub long_find : (problem : ProblemState) (prefix : List Bool) (best : Option Sol
 long_find problem prefix None h = tt
 long_find problem prefix (Some b) h = h.0.as_long
 
-pub matched_rises : (w : ℤ) (sel : List Bool) (a b : Option Solution) → IsTransitive → length sel ≡ most_blocks → IsLong a → IsLong b
-    → IsMatched w sel a → Rises a b → IsMatched w sel b
-matched_rises w sel None b through long la lb m h = absurd m
-matched_rises w sel (Some a) None through long la lb m h = absurd h
-matched_rises w sel (Some a) (Some b) through long la lb m h =
-    through w (pos a.welfare) (pos b.welfare) sel a.selection b.selection long la lb m h
+pub matched_rises : (welfare : ℤ) (selection : List Bool) (a b : Option Solution) → IsTransitive → length selection ≡ most_blocks → IsLong a → IsLong b
+    → IsMatched welfare selection a → Rises a b → IsMatched welfare selection b
+matched_rises welfare selection None b transitive long la lb m h = absurd m
+matched_rises welfare selection (Some a) None transitive long la lb m h = absurd h
+matched_rises welfare selection (Some a) (Some b) transitive long la lb m h =
+    transitive welfare (pos a.welfare) (pos b.welfare) selection a.selection b.selection long la lb m h
 
 pub rises_twice : (a b c : Option Solution) → IsTransitive → IsLong a → IsLong b → IsLong c → Rises a b → Rises b c → Rises a c
-rises_twice None b c through la lb lc h g = tt
-rises_twice (Some a) b c through la lb lc h g = matched_rises (pos a.welfare) a.selection b c through la lb lc h g
+rises_twice None b c transitive la lb lc h g = tt
+rises_twice (Some a) b c transitive la lb lc h g = matched_rises (pos a.welfare) a.selection b c transitive la lb lc h g
 
 -- the selection that is matched, with its welfare
-pub matched_as : (w v : ℤ) (sel found : List Bool) (best : Option Solution) → sel ≡ found → w ≡ v → IsMatched v found best → IsMatched w sel best
-matched_as w v sel found best e f m =
-    subst (λ (xs : List Bool). IsMatched w xs best) (sym e) (subst (λ (z : ℤ). IsMatched z found best) (sym f) m)
+pub matched_as : (welfare other : ℤ) (selection found : List Bool) (best : Option Solution) → selection ≡ found → welfare ≡ other → IsMatched other found best → IsMatched welfare selection best
+matched_as welfare other selection found best e f m =
+    subst (λ (xs : List Bool). IsMatched welfare xs best) (sym e) (subst (λ (z : ℤ). IsMatched z found best) (sym f) m)
 
 -- ---- the selection found among fewer completions
 
-pub shorter : (prefix extra sel : List Bool) → IsCompletion (prefix ++ extra) sel → IsCompletion prefix sel
-shorter prefix extra sel h = record { as_long = h.as_long; rest = extra ++ h.rest; agrees = h.agrees ∙ append_assoc prefix extra h.rest }
+pub shorter : (prefix extra selection : List Bool) → IsCompletion (prefix ++ extra) selection → IsCompletion prefix selection
+shorter prefix extra selection h = record { as_long = h.as_long; rest = extra ++ h.rest; agrees = h.agrees ∙ append_assoc prefix extra h.rest }
 
 pub any_find : (problem : ProblemState) (prefix : List Bool) (best : Option Solution) → IsFind problem prefix best → IsFind problem [] best
 any_find problem prefix None h = tt
@@ -100,7 +94,7 @@ finds_shorter problem prefix extra a b f =
 
 pub finds_twice : (problem : ProblemState) (prefix : List Bool) (a b c : Option Solution) → IsTransitive → IsFind problem [] a
     → Finds problem prefix a b → Finds problem prefix b c → Finds problem prefix a c
-finds_twice problem prefix a b c through find f g =
+finds_twice problem prefix a b c transitive find f g =
     let find_b = found_after problem prefix a b find f in
     let find_c = found_after problem prefix b c find_b g in
     record {
@@ -108,41 +102,41 @@ finds_twice problem prefix a b c through find f g =
         | inl e ↦ elim f.found [ inl d ↦ inl (e ∙ d) | inr h ↦ inr (subst (λ (o : Option Solution). IsFind problem prefix o) (sym e) h) ]
         | inr h ↦ inr h
       ];
-      rises = rises_twice a b c through (long_find problem [] a find) (long_find problem [] b find_b)
+      rises = rises_twice a b c transitive (long_find problem [] a find) (long_find problem [] b find_b)
           (long_find problem [] c find_c) f.rises g.rises;
     }
 
 -- the law of dam_bound on the completions of a prefix
 abbrev pub AreExtended : Type 0
-AreExtended = (prefix sel : List Bool) → length prefix < most_blocks → IsCompletion prefix sel
-    → IsCompletion (prefix ++ true ∷ []) sel ⊎ IsCompletion (prefix ++ false ∷ []) sel
+AreExtended = (prefix selection : List Bool) → length prefix < most_blocks → IsCompletion prefix selection
+    → IsCompletion (prefix ++ true ∷ []) selection ⊎ IsCompletion (prefix ++ false ∷ []) selection
 
 -- covered selections stay so as the value read and the selection found rise
 covers_rises : (problem : ProblemState) (prefix : List Bool) (a b : Option Solution) (read next : ℕ) → IsTransitive → IsFind problem [] a
     → IsFind problem [] b
     → Covers problem prefix a read → Rises a b → read ≤ next → Covers problem prefix b next
-covers_rises problem prefix a b read next through find find' covers h more sel w whole e =
-    elim (covers sel w whole e) [
+covers_rises problem prefix a b read next transitive find find' covers h more selection welfare whole e =
+    elim (covers selection welfare whole e) [
       | inl less ↦ inl (omega (arith, ints, less, more))
-      | inr m ↦ inr (matched_rises w sel a b through e.as_long (long_find problem [] a find) (long_find problem [] b find') m h)
+      | inr m ↦ inr (matched_rises welfare selection a b transitive e.as_long (long_find problem [] a find) (long_find problem [] b find') m h)
     ]
 
 -- of the two extensions, in either order
-extended_by : (first : Bool) (prefix sel : List Bool) → AreExtended → length prefix < most_blocks → IsCompletion prefix sel
-    → IsCompletion (prefix ++ first ∷ []) sel ⊎ IsCompletion (prefix ++ not first ∷ []) sel
-extended_by true prefix sel extended few whole = extended prefix sel few whole
-extended_by false prefix sel extended few whole =
-    elim (extended prefix sel few whole) [ inl accepted ↦ inr accepted | inr rejected ↦ inl rejected ]
+extended_by : (first : Bool) (prefix selection : List Bool) → AreExtended → length prefix < most_blocks → IsCompletion prefix selection
+    → IsCompletion (prefix ++ first ∷ []) selection ⊎ IsCompletion (prefix ++ not first ∷ []) selection
+extended_by true prefix selection extended few whole = extended prefix selection few whole
+extended_by false prefix selection extended few whole =
+    elim (extended prefix selection few whole) [ inl accepted ↦ inr accepted | inr rejected ↦ inl rejected ]
 
 pub covers_both : (problem : ProblemState) (prefix : List Bool) (first : Bool) (a b c : Option Solution) (read next : ℕ) → IsTransitive
     → AreExtended → length prefix < most_blocks → IsFind problem [] a
     → Finds problem (prefix ++ first ∷ []) a b → Covers problem (prefix ++ first ∷ []) b read
     → Finds problem (prefix ++ not first ∷ []) b c → Covers problem (prefix ++ not first ∷ []) c next → read ≤ next
     → Covers problem prefix c next
-covers_both problem prefix first a b c read next through extended few find f covers g covers' more sel w whole e =
+covers_both problem prefix first a b c read next transitive extended few find f covers g covers' more selection welfare whole e =
     let find_b = found_after problem (prefix ++ first ∷ []) a b find f in
     let find_c = found_after problem (prefix ++ not first ∷ []) b c find_b g in
-    elim (extended_by first prefix sel extended few whole) [
-      | inl one ↦ covers_rises problem (prefix ++ first ∷ []) b c read next through find_b find_c covers g.rises more sel w one e
-      | inr other ↦ covers' sel w other e
+    elim (extended_by first prefix selection extended few whole) [
+      | inl one ↦ covers_rises problem (prefix ++ first ∷ []) b c read next transitive find_b find_c covers g.rises more selection welfare one e
+      | inr other ↦ covers' selection welfare other e
     ]

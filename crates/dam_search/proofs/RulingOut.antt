@@ -1,19 +1,14 @@
 -- What accepting or rejecting a block rules out, block by block.
-use Rattle.std.proofs.Common.{◌≡◌, ◌≢◌, ◌⊎◌, ℕ, zero, suc, ℤ, ◌==◌, Bool, true, false, not, Option, Some, None, List, [], ◌∷◌, length, replicate, slice_set, ap, ◌∙◌, sym, subst, refl, inl, inr}
+use Rattle.dam_search.proofs.Common.{◌≡◌, ◌≢◌, ◌⊎◌, ℕ, zero, suc, ℤ, ◌==◌, Bool, true, false, not, Option, Some, None, List, [], ◌∷◌, length, replicate}
+use Rattle.dam_search.proofs.Common.{slice_set, ap, ◌∙◌, sym, subst, refl, inl, inr, cases_eq, eq-eqb, get_or-set_other, most_blocks, Block, ProblemState}
+use Rattle.dam_search.proofs.Common.{IsProblem, accepts, IsAdmissible, IsEligible, AreLimits, NetLimit, Excludes}
 use Rattle.std.specs.List.{slice_get}
-use Rattle.std.proofs.lemmas.Bool.{and_parts, cases_eq, eq-eqb}
-use Rattle.std.proofs.lemmas.List.{get_or-set_other}
-use Rattle.dam_book.specs.Limits.{most_blocks}
-use Rattle.dam_blocks.specs.declared.problem.Block.{Block}
-use Rattle.dam_blocks.specs.Problem.{ProblemState, IsProblem}
-use Rattle.dam_blocks.specs.Selection.{accepts, empty_selection, are_of_one_group, IsAdmissible}
+use Rattle.std.proofs.lemmas.Bool.{and_parts}
+use Rattle.dam_blocks.specs.Selection.{empty_selection, are_of_one_group}
 use Rattle.dam_blocks.specs.Family.{descends}
-use Rattle.dam_blocks.specs.Eligible.{IsEligible}
 use Rattle.dam_bound.specs.Relaxed.{without_rows}
-use Rattle.dam_bound.specs.NetLimits.{AreLimits}
-use Rattle.dam_bound.specs.declared.net_limits.NetLimit.{NetLimit}
 use Rattle.dam_search.specs.declared.conflicts.Conflicts.{Conflicts}
-use Rattle.dam_search.specs.inside.Conflicts.{AcceptsAll, AcceptsNone, Needs, IsNeededBy, Excludes, AreConflicts, IsSetOf, are_two_of_group, is_other_of_group}
+use Rattle.dam_search.specs.inside.Conflicts.{AcceptsAll, AcceptsNone, Needs, IsNeededBy, AreConflicts, IsSetOf, are_two_of_group, is_other_of_group}
 use Rattle.dam_search.proofs.Sets.{accepts-none, passes_test}
 
 -- what the laws of admissible selections say
@@ -63,24 +58,24 @@ pub no_conflicts : (problem : ProblemState) (conflicts : Conflicts) → conflict
     → conflicts.needed_by ≡ replicate most_blocks empty_selection → conflicts.excludes ≡ replicate most_blocks empty_selection
     → AreConflicts problem conflicts
 no_conflicts problem conflicts e f h = record {
-  needs = λ place places at selection w eligible on j among.
+  needs = λ place places at selection welfare eligible on j among.
       absurd (nothing_accepted j place places (ap (λ (rs : List (List Bool)). slice_get rs place) (sym e) ∙ at) among);
-  needed_by = λ place places at selection w eligible j among on.
+  needed_by = λ place places at selection welfare eligible j among on.
       absurd (nothing_accepted j place places (ap (λ (rs : List (List Bool)). slice_get rs place) (sym f) ∙ at) among);
-  excludes = λ place places at selection w eligible on j among.
+  excludes = λ place places at selection welfare eligible on j among.
       absurd (nothing_accepted j place places (ap (λ (rs : List (List Bool)). slice_get rs place) (sym h) ∙ at) among);
 }
 
 -- ---- the rows of one block more
 needs_ancestors : ConflictLaws → (problem : ProblemState) (place : ℕ) (row : List Bool) → IsProblem problem
     → IsSetOf (length problem.blocks) (λ at. descends problem.blocks at place) row → Needs problem place row
-needs_ancestors laws problem place row is set selection w eligible on j among =
+needs_ancestors laws problem place row is set selection welfare eligible on j among =
     laws.ancestors problem selection j place is eligible.admissible
     (passes_test (length problem.blocks) (λ at. descends problem.blocks at place) row j set among) on
 
 needed_by_descendants : ConflictLaws → (problem : ProblemState) (place : ℕ) (row : List Bool) → IsProblem problem
     → IsSetOf (length problem.blocks) (λ at. descends problem.blocks place at) row → IsNeededBy problem place row
-needed_by_descendants laws problem place row is set selection w eligible j among on =
+needed_by_descendants laws problem place row is set selection welfare eligible j among on =
     laws.ancestors problem selection place j is eligible.admissible
     (passes_test (length problem.blocks) (λ at. descends problem.blocks place at) row j set among) on
 
@@ -96,7 +91,7 @@ no_other laws blocks selection place at (Some a) (Some b) is e f apart two on = 
 
 excludes_others : ConflictLaws → (problem : ProblemState) (place : ℕ) (row : List Bool)
     → IsSetOf (length problem.blocks) (λ at. is_other_of_group problem.blocks place at) row → Excludes problem place row
-excludes_others laws problem place row set selection w eligible on j among =
+excludes_others laws problem place row set selection welfare eligible on j among =
     let is = and_parts (not (j == place)) (are_two_of_group (slice_get problem.blocks place) (slice_get problem.blocks j))
     (passes_test (length problem.blocks) (λ at. is_other_of_group problem.blocks place at) row j set among) in
     no_other laws problem.blocks selection place j (slice_get problem.blocks place) (slice_get problem.blocks j) eligible.admissible refl refl
@@ -108,9 +103,9 @@ not_true true never = absurd (never refl)
 not_true false never = refl
 
 -- the rows of a problem have no part in what is eligible
-without_rows_eligible : (problem : ProblemState) (selection : List Bool) (w : ℤ) → IsEligible (without_rows problem) selection w
-    → IsEligible problem selection w
-without_rows_eligible problem selection w is = record {
+without_rows_eligible : (problem : ProblemState) (selection : List Bool) (welfare : ℤ) → IsEligible (without_rows problem) selection welfare
+    → IsEligible problem selection welfare
+without_rows_eligible problem selection welfare is = record {
   as_long = is.as_long;
   admissible = is.admissible;
   prices = is.prices;
@@ -119,9 +114,9 @@ without_rows_eligible problem selection w is = record {
   welfare_is = is.welfare_is;
 }
 
-with_rows_eligible : (problem : ProblemState) (selection : List Bool) (w : ℤ) → IsEligible problem selection w
-    → IsEligible (without_rows problem) selection w
-with_rows_eligible problem selection w is = record {
+with_rows_eligible : (problem : ProblemState) (selection : List Bool) (welfare : ℤ) → IsEligible problem selection welfare
+    → IsEligible (without_rows problem) selection welfare
+with_rows_eligible problem selection welfare is = record {
   as_long = is.as_long;
   admissible = is.admissible;
   prices = is.prices;
@@ -130,16 +125,16 @@ with_rows_eligible problem selection w is = record {
   welfare_is = is.welfare_is;
 }
 
-pub excludes_without_rows : (problem priced : ProblemState) (place : ℕ) (places : List Bool) → priced ≡ without_rows problem
-    → Excludes problem place places → Excludes priced place places
-excludes_without_rows problem priced place places same is =
+pub excludes_without_rows : (problem rowless : ProblemState) (place : ℕ) (places : List Bool) → rowless ≡ without_rows problem
+    → Excludes problem place places → Excludes rowless place places
+excludes_without_rows problem rowless place places same is =
     subst (λ (p : ProblemState). Excludes p place places) (sym same)
-    (λ selection w eligible. is selection w (without_rows_eligible problem selection w eligible))
+    (λ selection welfare eligible. is selection welfare (without_rows_eligible problem selection welfare eligible))
 
-pub excludes_with_rows : (problem priced : ProblemState) (place : ℕ) (places : List Bool) → priced ≡ without_rows problem
-    → Excludes priced place places → Excludes problem place places
-excludes_with_rows problem priced place places same is selection w eligible =
-    (subst (λ (p : ProblemState). Excludes p place places) same is) selection w (with_rows_eligible problem selection w eligible)
+pub excludes_with_rows : (problem rowless : ProblemState) (place : ℕ) (places : List Bool) → rowless ≡ without_rows problem
+    → Excludes rowless place places → Excludes problem place places
+excludes_with_rows problem rowless place places same is selection welfare eligible =
+    (subst (λ (p : ProblemState). Excludes p place places) same is) selection welfare (with_rows_eligible problem selection welfare eligible)
 
 pub group_excluded : ConflictLaws → (problem : ProblemState) (blocks : List Block) (place : ℕ) (row : List Bool) → blocks ≡ problem.blocks
     → IsSetOf (length blocks) (λ at. is_other_of_group blocks place at) row → Excludes problem place row
@@ -147,19 +142,19 @@ group_excluded laws problem blocks place row same set =
     excludes_others laws problem place row
     (subst (λ (bs : List Block). IsSetOf (length bs) (λ at. is_other_of_group bs place at) row) same set)
 
-pub as_many_blocks : (problem priced : ProblemState) (blocks : List Block) → priced ≡ without_rows problem → blocks ≡ problem.blocks
-    → length blocks ≡ length priced.blocks
-as_many_blocks problem priced blocks same is =
+pub as_many_blocks : (problem rowless : ProblemState) (blocks : List Block) → rowless ≡ without_rows problem → blocks ≡ problem.blocks
+    → length blocks ≡ length rowless.blocks
+as_many_blocks problem rowless blocks same is =
     ap (λ (bs : List Block). length bs) is ∙ sym (ap (λ (p : ProblemState). length p.blocks) same)
 
 -- a rival more
 pub rival_more : (problem : ProblemState) (place at : ℕ) (places after : List Bool) → after ≡ slice_set places at true
-    → ((selection : List Bool) (w : ℤ) → IsEligible problem selection w → accepts selection place ≡ true → accepts selection at ≡ false)
+    → ((selection : List Bool) (welfare : ℤ) → IsEligible problem selection welfare → accepts selection place ≡ true → accepts selection at ≡ false)
     → Excludes problem place places → Excludes problem place after
-rival_more problem place at places after e rival is selection w eligible on j among = elim (cases_eq j at) [
-  | inl same ↦ ap (accepts selection) same ∙ rival selection w eligible on
+rival_more problem place at places after e rival is selection welfare eligible on j among = elim (cases_eq j at) [
+  | inl same ↦ ap (accepts selection) same ∙ rival selection welfare eligible on
   | inr apart ↦
-      is selection w eligible on j
+      is selection welfare eligible on j
       (sym (get_or-set_other places at j true false apart) ∙ ap (λ (r : List Bool). accepts r j) (sym e) ∙ among)
 ]
 
@@ -182,37 +177,37 @@ conflicts_more laws problem blocks before after place ancestors descendants othe
 }
 
 -- ---- what a row forbids
-pub lacks_one : (problem : ProblemState) (conflicts : Conflicts) (place j : ℕ) (places rejected selection : List Bool) (w : ℤ)
+pub lacks_one : (problem : ProblemState) (conflicts : Conflicts) (place j : ℕ) (places rejected selection : List Bool) (welfare : ℤ)
     → AreConflicts problem conflicts → slice_get conflicts.needs place ≡ Some places → accepts places j ≡ true → accepts rejected j ≡ true
-    → IsEligible problem selection w → AcceptsNone rejected selection → accepts selection place ≡ false
-lacks_one problem conflicts place j places rejected selection w are at among off eligible none =
+    → IsEligible problem selection welfare → AcceptsNone rejected selection → accepts selection place ≡ false
+lacks_one problem conflicts place j places rejected selection welfare are at among off eligible none =
     not_true (accepts selection place) (λ on.
-    (let here = are.needs place places at selection w eligible on j among in let there = none j off in cc))
+    (let here = are.needs place places at selection welfare eligible on j among in let there = none j off in cc))
 
-pub beside_one : (problem : ProblemState) (conflicts : Conflicts) (place j : ℕ) (places accepted selection : List Bool) (w : ℤ)
+pub beside_one : (problem : ProblemState) (conflicts : Conflicts) (place j : ℕ) (places accepted selection : List Bool) (welfare : ℤ)
     → AreConflicts problem conflicts → slice_get conflicts.excludes place ≡ Some places → accepts places j ≡ true → accepts accepted j ≡ true
-    → IsEligible problem selection w → AcceptsAll accepted selection → accepts selection place ≡ false
-beside_one problem conflicts place j places accepted selection w are at among on_too eligible all =
+    → IsEligible problem selection welfare → AcceptsAll accepted selection → accepts selection place ≡ false
+beside_one problem conflicts place j places accepted selection welfare are at among on_too eligible all =
     not_true (accepts selection place) (λ on.
-    (let here = are.excludes place places at selection w eligible on j among in let there = all j on_too in cc))
+    (let here = are.excludes place places at selection welfare eligible on j among in let there = all j on_too in cc))
 
-pub needed_by_one : (problem : ProblemState) (conflicts : Conflicts) (place j : ℕ) (places accepted selection : List Bool) (w : ℤ)
+pub needed_by_one : (problem : ProblemState) (conflicts : Conflicts) (place j : ℕ) (places accepted selection : List Bool) (welfare : ℤ)
     → AreConflicts problem conflicts → slice_get conflicts.needed_by place ≡ Some places → accepts places j ≡ true → accepts accepted j ≡ true
-    → IsEligible problem selection w → AcceptsAll accepted selection → accepts selection place ≡ true
-needed_by_one problem conflicts place j places accepted selection w are at among on_too eligible all =
-    are.needed_by place places at selection w eligible j among (all j on_too)
+    → IsEligible problem selection welfare → AcceptsAll accepted selection → accepts selection place ≡ true
+needed_by_one problem conflicts place j places accepted selection welfare are at among on_too eligible all =
+    are.needed_by place places at selection welfare eligible j among (all j on_too)
 
 -- ---- limits
 -- limits of the problem without its rows are those of the problem
-pub limits_with_rows : (problem priced : ProblemState) (limits : List NetLimit) → priced ≡ without_rows problem → AreLimits priced limits
+pub limits_with_rows : (problem rowless : ProblemState) (limits : List NetLimit) → rowless ≡ without_rows problem → AreLimits rowless limits
     → AreLimits problem limits
-limits_with_rows problem priced limits same are = record {
+limits_with_rows problem rowless limits same are = record {
   many = are.many;
   each = λ k l.
       (let is = are.each k l in record {
         long = is.long;
         small = is.small;
         slack_is = is.slack_is;
-        keeps = λ sel w e. is.keeps sel w (subst (λ (p : ProblemState). IsEligible p sel w) (sym same) (with_rows_eligible problem sel w e));
+        keeps = λ selection welfare e. is.keeps selection welfare (subst (λ (p : ProblemState). IsEligible p selection welfare) (sym same) (with_rows_eligible problem selection welfare e));
       });
 }

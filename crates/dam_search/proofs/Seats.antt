@@ -1,63 +1,54 @@
 -- Answers of a seat that draws one piece more, and of two seats that are joined.
-use Rattle.std.proofs.Common.{◌≡◌, ℕ, pos, cond, ◌==◌, ◌+◌, ◌<◌, ◌≤◌, ◌^◌, max, List, [], ◌∷◌, ◌++◌, map, length, slice_index_or, ◌∙◌}
-use Rattle.std.proofs.Common.{ap, ap₂, sym, subst, refl, arith, length-append}
-use Rattle.std.specs.List.{All}
-use Rattle.std.proofs.lemmas.Int.{ints}
-use Rattle.std.proofs.lemmas.Bool.Decides.{nat_tests}
+use Rattle.dam_search.proofs.Common.{◌≡◌, ℕ, pos, cond, ◌==◌, ◌+◌, ◌<◌, ◌≤◌, ◌^◌, max, List, [], ◌∷◌, ◌++◌, map, length, slice_index_or, ◌∙◌, ap, ap₂, sym}
+use Rattle.dam_search.proofs.Common.{subst, refl, arith, length-append, All, ints, nat_tests, All-push, All-weaker, ProblemState, PieceAnswer, View}
+use Rattle.dam_search.proofs.Common.{welfare_found, IsReached, greatest_found, IsWorked, answers_about, AreOneEach, Solution, IsEligible, times}
+use Rattle.dam_search.proofs.Common.{AreClosedWords, AreAnswersOf, AreJoined}
 use Rattle.std.proofs.lemmas.List.Sums.{sum_by-append}
 use Rattle.std.proofs.lemmas.List.{map-append, length-map}
-use Rattle.std.proofs.lemmas.List.Elements.{All-push, All-append, All-weaker}
-use Rattle.dam_blocks.specs.Problem.{ProblemState}
-use Rattle.dam_search.specs.declared.answer.PieceAnswer.{PieceAnswer}
-use Rattle.dam_search.specs.declared.view.View.{View}
-use Rattle.dam_search.specs.Piece.{welfare_found}
-use Rattle.dam_search.specs.Answer.{IsReached, greatest_found}
-use Rattle.dam_search.specs.inside.Collect.{IsWorked, answers_about, AreOneEach}
-use Rattle.dam_blocks.specs.declared.selection.Solution.{Solution}
-use Rattle.dam_blocks.specs.Eligible.{IsEligible}
-use Rattle.dam_search.specs.Words.{times, once_below, first_view, joined_view, standing, AreClosedWords}
-use Rattle.dam_search.specs.inside.Work.{IsWalkedPiece, AreAnswersOf}
-use Rattle.dam_search.specs.inside.Seats.{AreJoined, AreAllAnswers}
+use Rattle.std.proofs.lemmas.List.Elements.{All-append}
+use Rattle.dam_search.specs.Words.{once_below, first_view, joined_view, standing}
+use Rattle.dam_search.specs.inside.Work.{IsWalkedPiece}
+use Rattle.dam_search.specs.inside.Seats.{AreAllAnswers}
 use Rattle.dam_search.proofs.Collecting.{reached_less, reached_greater, reached_greatest}
 
 pub greatest_append : (xs ys : List PieceAnswer) → greatest_found (xs ++ ys) ≡ max (greatest_found xs) (greatest_found ys)
 greatest_append [] ys = omega arith
 greatest_append (x ∷ xs) ys = let rest = greatest_append xs ys in omega (arith, rest)
 
-read_more : (answers : List PieceAnswer) (told later : ℕ) → told ≤ later → All (λ (a : PieceAnswer). a.incumbent_read ≤ told) answers
+read_more : (answers : List PieceAnswer) (greatest_read later : ℕ) → greatest_read ≤ later → All (λ (a : PieceAnswer). a.incumbent_read ≤ greatest_read) answers
     → All (λ (a : PieceAnswer). a.incumbent_read ≤ later) answers
-read_more answers told later le all = All-weaker (λ (a : PieceAnswer). a.incumbent_read ≤ told) (λ (a : PieceAnswer). a.incumbent_read ≤ later)
-    (λ (a : PieceAnswer) (h : a.incumbent_read ≤ told). omega (arith, h, le)) answers all
+read_more answers greatest_read later le all = All-weaker (λ (a : PieceAnswer). a.incumbent_read ≤ greatest_read) (λ (a : PieceAnswer). a.incumbent_read ≤ later)
+    (λ (a : PieceAnswer) (h : a.incumbent_read ≤ greatest_read). omega (arith, h, le)) answers all
 
--- a seat with the view w that drew the piece of the answer after v
-pub one_more : (problem : ProblemState) (depth nodes besides : ℕ) (v w : View) (answers : List PieceAnswer) (a : PieceAnswer)
-    → AreAnswersOf problem depth nodes besides v answers
-    → w.drawn ≡ v.drawn ++ a.piece ∷ [] → w.greatest_read ≡ max v.greatest_read a.incumbent_read
-    → w.greatest_offer ≡ max v.greatest_offer (welfare_found a.best) → IsWalkedPiece problem depth nodes a
-    → AreAnswersOf problem depth nodes besides w (answers ++ a ∷ [])
-one_more problem depth nodes besides v w answers a h drawn told top walked = record {
+-- a seat with the view `other`, which drew the piece of the answer after `view`
+pub one_more : (problem : ProblemState) (depth node_limit besides : ℕ) (view other : View) (answers : List PieceAnswer) (a : PieceAnswer)
+    → AreAnswersOf problem depth node_limit besides view answers
+    → other.drawn ≡ view.drawn ++ a.piece ∷ [] → other.greatest_read ≡ max view.greatest_read a.incumbent_read
+    → other.greatest_offer ≡ max view.greatest_offer (welfare_found a.best) → IsWalkedPiece problem depth node_limit a
+    → AreAnswersOf problem depth node_limit besides other (answers ++ a ∷ [])
+one_more problem depth node_limit besides view other answers a h drawn greatest_read greatest_offer walked = record {
   pieces = map-append (λ (a : PieceAnswer). a.piece) answers (a ∷ []) ∙ ap (λ (xs : List ℕ). xs ++ a.piece ∷ []) h.pieces ∙ sym drawn;
-  walked = All-push (λ (a : PieceAnswer). IsWalkedPiece problem depth nodes a) answers a h.walked walked;
-  greatest_read = All-push (λ (a : PieceAnswer). a.incumbent_read ≤ w.greatest_read) answers a
-      (read_more answers v.greatest_read w.greatest_read (omega (arith, told)) h.greatest_read) (omega (arith, told));
-  offered = (let before = h.offered in let more = greatest_append answers (a ∷ []) in omega (arith, before, more, top));
+  walked = All-push (λ (a : PieceAnswer). IsWalkedPiece problem depth node_limit a) answers a h.walked walked;
+  greatest_read = All-push (λ (a : PieceAnswer). a.incumbent_read ≤ other.greatest_read) answers a
+      (read_more answers view.greatest_read other.greatest_read (omega (arith, greatest_read)) h.greatest_read) (omega (arith, greatest_read));
+  offered = (let before = h.offered in let more = greatest_append answers (a ∷ []) in omega (arith, before, more, greatest_offer));
 }
 
-pub both_answers : (problem : ProblemState) (depth nodes besides : ℕ) (v w : View) (xs ys : List PieceAnswer)
-    → AreAnswersOf problem depth nodes besides v xs → AreAnswersOf problem depth nodes 0 w ys
-    → AreAnswersOf problem depth nodes besides (joined_view v w) (xs ++ ys)
-both_answers problem depth nodes besides v w xs ys g h = record {
+pub both_answers : (problem : ProblemState) (depth node_limit besides : ℕ) (view other : View) (xs ys : List PieceAnswer)
+    → AreAnswersOf problem depth node_limit besides view xs → AreAnswersOf problem depth node_limit 0 other ys
+    → AreAnswersOf problem depth node_limit besides (joined_view view other) (xs ++ ys)
+both_answers problem depth node_limit besides view other xs ys g h = record {
   pieces = map-append (λ (a : PieceAnswer). a.piece) xs ys ∙ ap₂ (λ (m n : List ℕ). m ++ n) g.pieces h.pieces;
-  walked = All-append (λ (a : PieceAnswer). IsWalkedPiece problem depth nodes a) xs ys g.walked h.walked;
-  greatest_read = All-append (λ (a : PieceAnswer). a.incumbent_read ≤ max v.greatest_read w.greatest_read) xs ys
-      (read_more xs v.greatest_read (max v.greatest_read w.greatest_read) (omega arith) g.greatest_read)
-      (read_more ys w.greatest_read (max v.greatest_read w.greatest_read) (omega arith) h.greatest_read);
+  walked = All-append (λ (a : PieceAnswer). IsWalkedPiece problem depth node_limit a) xs ys g.walked h.walked;
+  greatest_read = All-append (λ (a : PieceAnswer). a.incumbent_read ≤ max view.greatest_read other.greatest_read) xs ys
+      (read_more xs view.greatest_read (max view.greatest_read other.greatest_read) (omega arith) g.greatest_read)
+      (read_more ys other.greatest_read (max view.greatest_read other.greatest_read) (omega arith) h.greatest_read);
   offered = (let left = g.offered in let right = h.offered in let more = greatest_append xs ys in omega (arith, left, right, more));
 }
 
-pub none_yet : (problem : ProblemState) (depth nodes : ℕ) (v : View) → v.drawn ≡ [] → v.greatest_offer ≡ 0
-    → AreAnswersOf problem depth nodes 0 v []
-none_yet problem depth nodes v undrawn unoffered = record {
+pub none_yet : (problem : ProblemState) (depth node_limit : ℕ) (view : View) → view.drawn ≡ [] → view.greatest_offer ≡ 0
+    → AreAnswersOf problem depth node_limit 0 view []
+none_yet problem depth node_limit view undrawn unoffered = record {
   pieces = sym undrawn;
   walked = λ k d l. absurd (omega arith);
   greatest_read = λ k d l. absurd (omega arith);
@@ -65,33 +56,33 @@ none_yet problem depth nodes v undrawn unoffered = record {
 }
 
 -- the answers are as many as the pieces drawn
-pub as_many : (problem : ProblemState) (depth nodes besides : ℕ) (v : View) (answers : List PieceAnswer)
-    → AreAnswersOf problem depth nodes besides v answers → length answers ≡ length v.drawn
-as_many problem depth nodes besides v answers h =
+pub as_many : (problem : ProblemState) (depth node_limit besides : ℕ) (view : View) (answers : List PieceAnswer)
+    → AreAnswersOf problem depth node_limit besides view answers → length answers ≡ length view.drawn
+as_many problem depth node_limit besides view answers h =
     sym (length-map answers (λ (a : PieceAnswer). a.piece)) ∙ ap (λ (xs : List ℕ). length xs) h.pieces
 
 -- a draw past the end changes nothing of the answers
-pub past_end : (problem : ProblemState) (depth nodes besides past : ℕ) (v w : View) (answers : List PieceAnswer)
-    → w ≡ record v { draws_past_the_end = past } → AreAnswersOf problem depth nodes besides v answers
-    → AreAnswersOf problem depth nodes besides w answers
-past_end problem depth nodes besides past v w answers e h = record {
-  pieces = h.pieces ∙ sym (ap (λ (u : View). u.drawn) e);
+pub past_end : (problem : ProblemState) (depth node_limit besides past : ℕ) (view other : View) (answers : List PieceAnswer)
+    → other ≡ record view { draws_past_the_end = past } → AreAnswersOf problem depth node_limit besides view answers
+    → AreAnswersOf problem depth node_limit besides other answers
+past_end problem depth node_limit besides past view other answers e h = record {
+  pieces = h.pieces ∙ sym (ap (λ (another : View). another.drawn) e);
   walked = h.walked;
-  greatest_read = (let same = ap (λ (u : View). u.greatest_read) e in read_more answers v.greatest_read w.greatest_read
+  greatest_read = (let same = ap (λ (another : View). another.greatest_read) e in read_more answers view.greatest_read other.greatest_read
       (omega (arith, same)) h.greatest_read);
-  offered = ap (λ (u : View). u.greatest_offer) e ∙ h.offered;
+  offered = ap (λ (another : View). another.greatest_offer) e ∙ h.offered;
 }
 
 -- a seat with the view v that drew a piece, and then w, and then walked the piece
-pub record IsNext (v u : View) (piece : ℕ) : Type 0 where
-  pub drawn : u.drawn ≡ v.drawn ++ piece ∷ []
-  pub draws_past_the_end : u.draws_past_the_end ≡ v.draws_past_the_end
-  pub pieces : u.pieces ≡ v.pieces
-  pub seats : u.seats ≡ v.seats
-  pub seats_left : u.seats_left ≡ v.seats_left
+pub record IsNext (view another : View) (piece : ℕ) : Type 0 where
+  pub drawn : another.drawn ≡ view.drawn ++ piece ∷ []
+  pub draws_past_the_end : another.draws_past_the_end ≡ view.draws_past_the_end
+  pub pieces : another.pieces ≡ view.pieces
+  pub seats : another.seats ≡ view.seats
+  pub seats_left : another.seats_left ≡ view.seats_left
 
-pub next_view : (v w u : View) (piece : ℕ) → w ≡ record v { drawn = v.drawn ++ piece ∷ [] } → standing u ≡ standing w → IsNext v u piece
-next_view v w u piece e f = record {
+pub next_view : (view other another : View) (piece : ℕ) → other ≡ record view { drawn = view.drawn ++ piece ∷ [] } → standing another ≡ standing other → IsNext view another piece
+next_view view other another piece e f = record {
   drawn = ap (λ (x : View). x.drawn) f ∙ ap (λ (x : View). x.drawn) e;
   draws_past_the_end = ap (λ (x : View). x.draws_past_the_end) f ∙ ap (λ (x : View). x.draws_past_the_end) e;
   pieces = ap (λ (x : View). x.pieces) f ∙ ap (λ (x : View). x.pieces) e;
@@ -100,14 +91,14 @@ next_view v w u piece e f = record {
 }
 
 -- a piece was drawn, and no more than there are
-pub one_drawn : (v w : View) (piece : ℕ) → w ≡ record v { drawn = v.drawn ++ piece ∷ [] } → length w.drawn ≤ w.pieces
-    → length v.drawn + 1 ≤ v.pieces
-one_drawn v w piece e few =
-    let long = ap (λ (x : View). length x.drawn) e in let more = length-append v.drawn (piece ∷ []) in
+pub one_drawn : (view other : View) (piece : ℕ) → other ≡ record view { drawn = view.drawn ++ piece ∷ [] } → length other.drawn ≤ other.pieces
+    → length view.drawn + 1 ≤ view.pieces
+one_drawn view other piece e few =
+    let long = ap (λ (x : View). length x.drawn) e in let more = length-append view.drawn (piece ∷ []) in
     let pieces = ap (λ (x : View). x.pieces) e in omega (arith, few, long, more, pieces)
 
-pub none_joined : (problem : ProblemState) (depth nodes : ℕ) (v : View) → v.drawn ≡ [] → AreJoined problem depth nodes v 0 v []
-none_joined problem depth nodes v undrawn = record {
+pub none_joined : (problem : ProblemState) (depth node_limit : ℕ) (view : View) → view.drawn ≡ [] → AreJoined problem depth node_limit view 0 view []
+none_joined problem depth node_limit view undrawn = record {
   are_answers = record {
     pieces = sym undrawn;
     walked = λ k d l. absurd (omega arith);
@@ -119,29 +110,29 @@ none_joined problem depth nodes v undrawn = record {
   draws_past_the_end = omega arith;
 }
 
-pub one_joined : (problem : ProblemState) (depth nodes : ℕ) (v : View) (workers : ℕ) (w u x : View) (xs ys : List PieceAnswer)
-    → AreJoined problem depth nodes v workers w xs → u.seats ≡ 1 → u.seats_left ≡ 0 → u.draws_past_the_end ≡ 1
-    → AreAnswersOf problem depth nodes 0 u ys → x ≡ joined_view w u → AreJoined problem depth nodes v (workers + 1) x (xs ++ ys)
-one_joined problem depth nodes v workers w u x xs ys h one none past are e =
+pub one_joined : (problem : ProblemState) (depth node_limit : ℕ) (view : View) (workers : ℕ) (other another x : View) (xs ys : List PieceAnswer)
+    → AreJoined problem depth node_limit view workers other xs → another.seats ≡ 1 → another.seats_left ≡ 0 → another.draws_past_the_end ≡ 1
+    → AreAnswersOf problem depth node_limit 0 another ys → x ≡ joined_view other another → AreJoined problem depth node_limit view (workers + 1) x (xs ++ ys)
+one_joined problem depth node_limit view workers other another x xs ys h one none past are e =
     let seats = h.seats in let left = h.seats_left in let pasts = h.draws_past_the_end in
-    subst (λ (y : View). AreJoined problem depth nodes v (workers + 1) y (xs ++ ys)) (sym e)
+    subst (λ (y : View). AreJoined problem depth node_limit view (workers + 1) y (xs ++ ys)) (sym e)
     (record {
-      are_answers = both_answers problem depth nodes v.greatest_offer w u xs ys h.are_answers are;
+      are_answers = both_answers problem depth node_limit view.greatest_offer other another xs ys h.are_answers are;
       seats = omega (arith, seats, one);
       seats_left = omega (arith, left, none);
       draws_past_the_end = omega (arith, pasts, past);
     })
 
 -- the first seat, which has offered at most
-pub record IsBegun (pieces : ℕ) (v : View) : Type 0 where
-  pub pieces_are : v.pieces ≡ pieces
-  pub undrawn : v.drawn ≡ []
-  pub going : v.draws_past_the_end ≡ 0
-  pub seats : v.seats ≡ 1
-  pub seats_left : v.seats_left ≡ 8
+pub record IsBegun (pieces : ℕ) (view : View) : Type 0 where
+  pub pieces_are : view.pieces ≡ pieces
+  pub undrawn : view.drawn ≡ []
+  pub going : view.draws_past_the_end ≡ 0
+  pub seats : view.seats ≡ 1
+  pub seats_left : view.seats_left ≡ 8
 
-pub begun : (pieces : ℕ) (v w : View) → v ≡ first_view pieces → standing w ≡ standing v → IsBegun pieces w
-begun pieces v w e f = record {
+pub begun : (pieces : ℕ) (view other : View) → view ≡ first_view pieces → standing other ≡ standing view → IsBegun pieces other
+begun pieces view other e f = record {
   pieces_are = ap (λ (x : View). x.pieces) f ∙ ap (λ (x : View). x.pieces) e;
   undrawn = ap (λ (x : View). x.drawn) f ∙ ap (λ (x : View). x.drawn) e;
   going = ap (λ (x : View). x.draws_past_the_end) f ∙ ap (λ (x : View). x.draws_past_the_end) e;
@@ -150,24 +141,24 @@ begun pieces v w e f = record {
 }
 
 -- at the close the answers are about every piece
-pub whole : (problem : ProblemState) (depth nodes first workers pieces : ℕ) (words : List ℕ) (v w : View) (answers : List PieceAnswer)
-    → AreJoined problem depth nodes v workers w answers → v.draws_past_the_end ≡ 0 → v.greatest_offer ≡ first → 1 ≤ workers
+pub whole : (problem : ProblemState) (depth node_limit first workers pieces : ℕ) (words : List ℕ) (view other : View) (answers : List PieceAnswer)
+    → AreJoined problem depth node_limit view workers other answers → view.draws_past_the_end ≡ 0 → view.greatest_offer ≡ first → 1 ≤ workers
     → pieces ≡ 2 ^ depth
-    → AreClosedWords pieces words w → AreAllAnswers problem depth nodes first answers
-whole problem depth nodes first workers pieces words v w answers h going top some e closed =
-    let past = h.draws_past_the_end in let told = closed.greatest_read in let offered = h.are_answers.offered in
+    → AreClosedWords pieces words other → AreAllAnswers problem depth node_limit first answers
+whole problem depth node_limit first workers pieces words view other answers h going greatest_offer some e closed =
+    let past = h.draws_past_the_end in let greatest_read = closed.greatest_read in let offered = h.are_answers.offered in
     record {
       each = λ x. ap (λ (xs : List ℕ). times x xs) h.are_answers.pieces ∙ closed.each (omega (arith, past, some)) x
           ∙ ap (λ (n : ℕ). once_below x n) e;
       walked = h.are_answers.walked;
-      greatest_read = read_more answers w.greatest_read (max first (greatest_found answers)) (omega (arith, told, offered, top))
+      greatest_read = read_more answers other.greatest_read (max first (greatest_found answers)) (omega (arith, greatest_read, offered, greatest_offer))
           h.are_answers.greatest_read;
     }
 
 -- the value read is at most the welfare of some eligible selection
-pub all_worked : (problem : ProblemState) (depth nodes first : ℕ) (answers : List PieceAnswer) → IsReached problem first
-    → AreAllAnswers problem depth nodes first answers → All (λ (a : PieceAnswer). IsWorked problem depth nodes a) answers
-all_worked problem depth nodes first answers reached h =
+pub all_worked : (problem : ProblemState) (depth node_limit first : ℕ) (answers : List PieceAnswer) → IsReached problem first
+    → AreAllAnswers problem depth node_limit first answers → All (λ (a : PieceAnswer). IsWorked problem depth node_limit a) answers
+all_worked problem depth node_limit first answers reached h =
     let greatest = reached_greatest problem depth answers (reached_less problem first 0 (omega arith) reached)
     (λ k d l. (h.walked k d l).sound) in
     let both = reached_greater problem first (greatest_found answers) reached greatest in
@@ -194,6 +185,6 @@ about_times (a ∷ answers) piece =
 below_once : (x bound : ℕ) → x < bound → once_below x bound ≡ 1
 below_once x bound less = grind (arith, nat_tests, less)
 
-pub one_each : (problem : ProblemState) (depth nodes first : ℕ) (answers : List PieceAnswer) → AreAllAnswers problem depth nodes first answers
+pub one_each : (problem : ProblemState) (depth node_limit first : ℕ) (answers : List PieceAnswer) → AreAllAnswers problem depth node_limit first answers
     → AreOneEach answers (2 ^ depth)
-one_each problem depth nodes first answers h piece less = about_times answers piece ∙ h.each piece ∙ below_once piece (2 ^ depth) less
+one_each problem depth node_limit first answers h piece less = about_times answers piece ∙ h.each piece ∙ below_once piece (2 ^ depth) less

@@ -1,8 +1,6 @@
 -- Sets of places, made place by place.
-use Rattle.std.proofs.Common.{◌≡◌, ℕ, zero, suc, ◌<◌, Bool, true, false, not, nat_lt, List, length, replicate, ◌∙◌, sym, refl}
+use Rattle.dam_search.proofs.Common.{◌≡◌, ℕ, zero, suc, ◌<◌, Bool, true, false, not, nat_lt, List, length, replicate, ◌∙◌, sym, refl, most_blocks, accepts}
 use Rattle.std.proofs.lemmas.Bool.{and_parts, ltb-true}
-use Rattle.dam_book.specs.Limits.{most_blocks}
-use Rattle.dam_blocks.specs.Selection.{accepts}
 use Rattle.dam_search.specs.inside.Conflicts.{IsSetOf}
 
 -- of the places below n, those that pass the test

@@ -1,18 +1,13 @@
 -- The cost of one step of a walk, and of two walks after one another.
-use Rattle.std.proofs.Common.{◌≡◌, ℕ, zero, suc, ◌+◌, ◌-◌, ◌^◌, ◌<◌, ◌≤◌, ◌⊎◌, inl, inr, ℤ, pos, negsuc, ◌<ℤ◌, ◌≤ℤ◌, Bool, true, false, not, Option, Some, None, List}
-use Rattle.std.proofs.Common.{[], ◌∷◌, ◌++◌, length, if◌then◌else◌, ◌∙◌, ap, sym, subst, refl, arith}
-use Rattle.std.proofs.lemmas.Bool.Decides.{nat_tests}
-use Rattle.std.proofs.lemmas.Int.{ints}
+use Rattle.dam_search.proofs.Common.{◌≡◌, ℕ, zero, suc, ◌+◌, ◌-◌, ◌^◌, ◌<◌, ◌≤◌, ◌⊎◌, inl, inr, ℤ, pos, negsuc, ◌<ℤ◌, ◌≤ℤ◌, Bool, true, false, not, Option}
+use Rattle.dam_search.proofs.Common.{Some, None, List, [], ◌∷◌, ◌++◌, length, if◌then◌else◌, ◌∙◌, ap, sym, subst, refl, arith, nat_tests, ints, ProblemState}
+use Rattle.dam_search.proofs.Common.{most_blocks, padded, IsAdmissible, node_count, IsSpent}
 use Rattle.std.proofs.lemmas.Nat.{pow_pos}
 use Rattle.std.proofs.Math.Nat.{two-pow-succ}
-use Rattle.dam_blocks.specs.Problem.{ProblemState}
-use Rattle.dam_book.specs.Limits.{most_blocks}
-use Rattle.dam_blocks.specs.Selection.{padded, IsAdmissible}
 use Rattle.dam_bound.specs.Relaxed.{relaxed_welfare, reaches, live_count}
-use Rattle.dam_search.specs.Piece.{node_count, needed_nodes, AdmitsOnly, HasNeeded, IsSpent}
+use Rattle.dam_search.specs.Piece.{needed_nodes, AdmitsOnly, HasNeeded}
 use Rattle.dam_search.specs.inside.PrefixWalk.{Spends, ReadsIncumbent}
-use Rattle.dam_search.proofs.LastBlock.{still_rejected}
-use Rattle.dam_search.proofs.Prefixes.{length_more}
+use Rattle.dam_search.proofs.Prefixes.{length_more, still_rejected}
 
 -- a power of two twice over
 doubled : (n : ℕ) → 2 ^ (n + 1) ≡ 2 ^ n + 2 ^ n
@@ -22,34 +17,34 @@ pub two_or_more : (n : ℕ) → 2 ≤ 2 ^ (n + 1)
 two_or_more n = omega (arith, doubled n, pow_pos n)
 
 -- a welfare that reaches a value reaches a lesser one
-pub reaches_less : (w : Option ℤ) (value less : ℕ) → less ≤ value → reaches w value ≡ true → reaches w less ≡ true
+pub reaches_less : (welfare : Option ℤ) (value less : ℕ) → less ≤ value → reaches welfare value ≡ true → reaches welfare less ≡ true
 reaches_less None value less h e = e
 reaches_less (Some (pos n)) value less h e = grind (arith, nat_tests)
 reaches_less (Some (negsuc n)) value less h e = absurd (cc)
 
-accepted_first : (problem : ProblemState) (prefix : List Bool) (value least left next : ℕ) → value ≤ least
-    → reaches (relaxed_welfare problem prefix) least ≡ true → left ≡ suc next
-    → live_count problem value prefix left ≡ live_count problem value (prefix ++ true ∷ []) next + live_count problem value
+accepted_first : (problem : ProblemState) (prefix : List Bool) (value least undecided_count next : ℕ) → value ≤ least
+    → reaches (relaxed_welfare problem prefix) least ≡ true → undecided_count ≡ suc next
+    → live_count problem value prefix undecided_count ≡ live_count problem value (prefix ++ true ∷ []) next + live_count problem value
     (prefix ++ false ∷ []) next + 1
-accepted_first problem prefix value least left next h r e =
+accepted_first problem prefix value least undecided_count next h r e =
     let alive = reaches_less (relaxed_welfare problem prefix) least value h r in
     ap (λ (n : ℕ). live_count problem value prefix n) e
     ∙ ap (λ (b : Bool). live_count problem value (prefix ++ true ∷ []) next + live_count problem value (prefix ++ false ∷ [])
     next + (if b then 1 else 0)) alive
 
 -- the node reaches the value, and its two extensions are counted in either order
-pub live_here : (problem : ProblemState) (prefix : List Bool) (first : Bool) (value least left next : ℕ) → value ≤ least
-    → reaches (relaxed_welfare problem prefix) least ≡ true → left ≡ suc next
-    → live_count problem value prefix left ≡ live_count problem value (prefix ++ first ∷ []) next + live_count problem value
+pub live_here : (problem : ProblemState) (prefix : List Bool) (first : Bool) (value least undecided_count next : ℕ) → value ≤ least
+    → reaches (relaxed_welfare problem prefix) least ≡ true → undecided_count ≡ suc next
+    → live_count problem value prefix undecided_count ≡ live_count problem value (prefix ++ first ∷ []) next + live_count problem value
     (prefix ++ not first ∷ []) next + 1
-live_here problem prefix true value least left next h r e = accepted_first problem prefix value least left next h r e
-live_here problem prefix false value least left next h r e = omega (arith, accepted_first problem prefix value least left next h r e)
+live_here problem prefix true value least undecided_count next h r e = accepted_first problem prefix value least undecided_count next h r e
+live_here problem prefix false value least undecided_count next h r e = omega (arith, accepted_first problem prefix value least undecided_count next h r e)
 
 -- the limit was met before the node
-pub spends_none : (problem : ProblemState) (prefix : List Bool) (left told nodes before : ℕ) → before ≡ nodes
-    → Spends problem prefix left told nodes before before false
-spends_none problem prefix left told nodes before e =
-    let some = two_or_more left in
+pub spends_none : {problem : ProblemState} {prefix : List Bool} {undecided_count greatest_read node_limit before : ℕ} → before ≡ node_limit
+    → Spends problem prefix undecided_count greatest_read node_limit before before false
+spends_none {problem} {prefix} {undecided_count} {greatest_read} {node_limit} {before} e =
+    let some = two_or_more undecided_count in
     record {
       grows = omega arith;
       within = omega (arith, e);
@@ -61,10 +56,10 @@ spends_none problem prefix left told nodes before e =
     }
 
 -- no node was visited
-pub spends_nothing : (problem : ProblemState) (prefix : List Bool) (left told nodes before : ℕ) → before ≤ nodes
-    → Spends problem prefix left told nodes before before true
-spends_nothing problem prefix left told nodes before h =
-    let some = two_or_more left in
+pub spends_nothing : {problem : ProblemState} {prefix : List Bool} {undecided_count greatest_read node_limit before : ℕ} → before ≤ node_limit
+    → Spends problem prefix undecided_count greatest_read node_limit before before true
+spends_nothing {problem} {prefix} {undecided_count} {greatest_read} {node_limit} {before} h =
+    let some = two_or_more undecided_count in
     record {
       grows = omega arith;
       within = h;
@@ -76,10 +71,10 @@ spends_nothing problem prefix left told nodes before h =
     }
 
 -- the node alone was visited
-pub spends_one : (problem : ProblemState) (prefix : List Bool) (left told nodes before : ℕ) → before < nodes
-    → Spends problem prefix left told nodes before (before + 1) true
-spends_one problem prefix left told nodes before h =
-    let some = two_or_more left in
+pub spends_one : {problem : ProblemState} {prefix : List Bool} {undecided_count greatest_read node_limit before : ℕ} → before < node_limit
+    → Spends problem prefix undecided_count greatest_read node_limit before (before + 1) true
+spends_one {problem} {prefix} {undecided_count} {greatest_read} {node_limit} {before} h =
+    let some = two_or_more undecided_count in
     record {
       grows = omega arith;
       within = omega (arith, h);
@@ -91,9 +86,9 @@ spends_one problem prefix left told nodes before h =
     }
 
 -- nothing was read
-pub reads_nothing : (left before after read told told' : ℕ) → read ≤ told → told' ≡ told → (after ≡ before) ⊎ (left ≡ 0)
-    → ReadsIncumbent left before after read read told told'
-reads_nothing left before after read told told' h e none = record {
+pub reads_nothing : {undecided_count before after read greatest_read greatest_read_after : ℕ} → read ≤ greatest_read → greatest_read_after ≡ greatest_read → (after ≡ before) ⊎ (undecided_count ≡ 0)
+    → ReadsIncumbent undecided_count before after read read greatest_read greatest_read_after
+reads_nothing {undecided_count} {before} {after} {read} {greatest_read} {greatest_read_after} h e none = record {
   grows = omega arith;
   greatest_read = omega (arith, h, e);
   asked = λ more some. absurd (omega (arith, none, more, some));
@@ -102,10 +97,10 @@ reads_nothing left before after read told told' h e none = record {
 }
 
 -- the incumbent was read
-pub reads_asked : (left before after read_before read_after told_before told_after : ℕ) → 0 < left → before < after
-    → read_before ≤ told_before → told_before ≤ read_after → told_after ≡ read_after
-    → ReadsIncumbent left before after read_before read_after told_before told_after
-reads_asked left before after read_before read_after told_before told_after some more h h' e = record {
+pub reads_asked : {undecided_count before after read_before read_after greatest_read_before greatest_read_after : ℕ} → 0 < undecided_count → before < after
+    → read_before ≤ greatest_read_before → greatest_read_before ≤ read_after → greatest_read_after ≡ read_after
+    → ReadsIncumbent undecided_count before after read_before read_after greatest_read_before greatest_read_after
+reads_asked {undecided_count} {before} {after} {read_before} {read_after} {greatest_read_before} {greatest_read_after} some more h h' e = record {
   grows = omega (arith, h, h');
   greatest_read = omega (arith, h', e);
   asked = λ m n. omega (arith, e);
@@ -126,11 +121,11 @@ twice_over n prefix b h = ap (λ (k : ℕ). 2 ^ (k + 1)) (one_less n prefix b h)
     more k = omega arith
 
 -- the node and the first of its extensions, at which the limit was met
-pub spends_first : (problem : ProblemState) (prefix : List Bool) (first : Bool) (n told least nodes before after : ℕ) → length prefix < n
-    → told ≤ least → reaches (relaxed_welfare problem prefix) least ≡ true
-    → Spends problem (prefix ++ first ∷ []) (n - length (prefix ++ first ∷ [])) least nodes (before + 1) after false
-    → Spends problem prefix (n - length prefix) told nodes before after false
-spends_first problem prefix first n told least nodes before after few h r s =
+pub spends_first : (first : Bool) {problem : ProblemState} {prefix : List Bool} {n greatest_read least node_limit before after : ℕ} → length prefix < n
+    → greatest_read ≤ least → reaches (relaxed_welfare problem prefix) least ≡ true
+    → Spends problem (prefix ++ first ∷ []) (n - length (prefix ++ first ∷ [])) least node_limit (before + 1) after false
+    → Spends problem prefix (n - length prefix) greatest_read node_limit before after false
+spends_first first {problem} {prefix} {n} {greatest_read} {least} {node_limit} {before} {after} few h r s =
     let next = n - length (prefix ++ first ∷ []) in
     let less = one_less n prefix first few in
     let twice = twice_over n prefix first few in
@@ -149,17 +144,17 @@ spends_first problem prefix first n told least nodes before after few h r s =
     }
 
 -- the node and both of its extensions
-pub spends_both : (problem : ProblemState) (prefix : List Bool) (first : Bool) (n told least later nodes before middle after : ℕ)
-    (done : Bool) → length prefix < n → told ≤ least → least ≤ later
+pub spends_both : (first : Bool) {problem : ProblemState} {prefix : List Bool} {n greatest_read least later node_limit before middle after : ℕ}
+    {done : Bool} → length prefix < n → greatest_read ≤ least → least ≤ later
     → reaches (relaxed_welfare problem prefix) least ≡ true
-    → Spends problem (prefix ++ first ∷ []) (n - length (prefix ++ first ∷ [])) least nodes (before + 1) middle true
-    → Spends problem (prefix ++ not first ∷ []) (n - length (prefix ++ not first ∷ [])) later nodes middle after done
-    → Spends problem prefix (n - length prefix) told nodes before after done
-spends_both problem prefix first n told least later nodes before middle after done few h h' r s t' =
+    → Spends problem (prefix ++ first ∷ []) (n - length (prefix ++ first ∷ [])) least node_limit (before + 1) middle true
+    → Spends problem (prefix ++ not first ∷ []) (n - length (prefix ++ not first ∷ [])) later node_limit middle after done
+    → Spends problem prefix (n - length prefix) greatest_read node_limit before after done
+spends_both first {problem} {prefix} {n} {greatest_read} {least} {later} {node_limit} {before} {middle} {after} {done} few h h' r s t' =
     let next = n - length (prefix ++ first ∷ []) in
     let same : n - length (prefix ++ not first ∷ []) ≡ next = omega
     (arith, one_less n prefix first few, one_less n prefix (not first) few) in
-    let t = subst (λ (k : ℕ). Spends problem (prefix ++ not first ∷ []) k later nodes middle after done) same t' in
+    let t = subst (λ (k : ℕ). Spends problem (prefix ++ not first ∷ []) k later node_limit middle after done) same t' in
     let less = one_less n prefix first few in
     let twice = twice_over n prefix first few in
     let grows = s.grows in let grows' = t.grows in let all = s.all in let all' = t.all in
@@ -179,26 +174,26 @@ spends_both problem prefix first n told least later nodes before middle after do
 
 -- ---- the nodes that a walk needs
 
-pub needed_more : (problem : ProblemState) (prefix : List Bool) (left read later nodes more : ℕ) → read ≤ later → nodes ≤ more
-    → HasNeeded problem prefix left read nodes → HasNeeded problem prefix left later more
-needed_more problem prefix left read later nodes more h h' needed admissible admits value only le =
+pub needed_more : (problem : ProblemState) (prefix : List Bool) (undecided_count read later node_limit more : ℕ) → read ≤ later → node_limit ≤ more
+    → HasNeeded problem prefix undecided_count read node_limit → HasNeeded problem prefix undecided_count later more
+needed_more problem prefix undecided_count read later node_limit more h h' needed admissible admits value only le =
     let least = needed admissible admits value only (omega (arith, h, le)) in omega (arith, least, h')
 
 -- a relaxed welfare that doesn't reach the value reaches no greater one
-pub unreached : (w : Option ℤ) (value least : ℕ) → reaches w least ≡ false → least ≤ value → reaches w value ≡ false
+pub unreached : (welfare : Option ℤ) (value least : ℕ) → reaches welfare least ≡ false → least ≤ value → reaches welfare value ≡ false
 unreached None value least e h = refl
 unreached (Some (pos n)) value least e h = let less : n < least = grind (arith, nat_tests) in grind (arith, nat_tests)
 unreached (Some (negsuc n)) value least e h = refl
 
 -- and no welfare under it
-pub less : (w bound : ℤ) (value : ℕ) → w ≤ℤ bound → reaches (Some bound) value ≡ false → w <ℤ pos value
-less w (pos n) value h e = let under : n < value = grind (arith, nat_tests) in omega (arith, ints)
-less w (negsuc n) value h e = omega (arith, ints)
+pub less : (welfare bound : ℤ) (value : ℕ) → welfare ≤ℤ bound → reaches (Some bound) value ≡ false → welfare <ℤ pos value
+less welfare (pos n) value h e = let under : n < value = grind (arith, nat_tests) in omega (arith, ints)
+less welfare (negsuc n) value h e = omega (arith, ints)
 
 -- the nodes that both extensions of a prefix need
 abbrev further_nodes : ProblemState → (List Bool → Bool) → ℕ → List Bool → ℕ → ℕ
-further_nodes problem admits value prefix left = needed_nodes problem admits value (prefix ++ false ∷ []) left
-    + (if admits (padded (prefix ++ true ∷ [])) then needed_nodes problem admits value (prefix ++ true ∷ []) left else 0)
+further_nodes problem admits value prefix undecided_count = needed_nodes problem admits value (prefix ++ false ∷ []) undecided_count
+    + (if admits (padded (prefix ++ true ∷ [])) then needed_nodes problem admits value (prefix ++ true ∷ []) undecided_count else 0)
 
 one_unless : (b : Bool) (n : ℕ) → b ≡ false → 1 + (if b then n else 0) ≤ 1
 one_unless true n e = absurd (cc)
@@ -209,17 +204,17 @@ one_and_more true n total h = h
 one_and_more false n total h = omega (arith, h)
 
 -- a prefix needs its own node alone if it decides every block, or doesn't reach the value
-one_needed : (problem : ProblemState) (admits : List Bool → Bool) (value left : ℕ) (prefix : List Bool)
-    → (left ≡ 0) ⊎ (reaches (relaxed_welfare problem prefix) value ≡ false) → needed_nodes problem admits value prefix left ≤ 1
+one_needed : (problem : ProblemState) (admits : List Bool → Bool) (value undecided_count : ℕ) (prefix : List Bool)
+    → (undecided_count ≡ 0) ⊎ (reaches (relaxed_welfare problem prefix) value ≡ false) → needed_nodes problem admits value prefix undecided_count ≤ 1
 one_needed problem admits value zero prefix h = omega arith
-one_needed problem admits value (suc left) prefix (inl e) = absurd (omega (arith, e))
-one_needed problem admits value (suc left) prefix (inr e) =
-    one_unless (reaches (relaxed_welfare problem prefix) value) (further_nodes problem admits value prefix left) e
+one_needed problem admits value (suc undecided_count) prefix (inl e) = absurd (omega (arith, e))
+one_needed problem admits value (suc undecided_count) prefix (inr e) =
+    one_unless (reaches (relaxed_welfare problem prefix) value) (further_nodes problem admits value prefix undecided_count) e
 
-if_admitted : (problem : ProblemState) (admits : List Bool → Bool) (sel : List Bool) (n most : ℕ) → AdmitsOnly problem admits
-    → (IsAdmissible problem.blocks sel → n ≤ most) → (if admits sel then n else 0) ≤ most
-if_admitted problem admits sel n most only h = elim (admits sel) as (λ (b : Bool). admits sel ≡ b → (if b then n else 0) ≤ most) [
-  | true ↦ λ e. h (only sel e)
+if_admitted : (problem : ProblemState) (admits : List Bool → Bool) (selection : List Bool) (n most : ℕ) → AdmitsOnly problem admits
+    → (IsAdmissible problem.blocks selection → n ≤ most) → (if admits selection then n else 0) ≤ most
+if_admitted problem admits selection n most only h = elim (admits selection) as (λ (b : Bool). admits selection ≡ b → (if b then n else 0) ≤ most) [
+  | true ↦ λ e. h (only selection e)
   | false ↦ λ e. omega arith
 ] refl
 
@@ -243,13 +238,13 @@ both_needed problem prefix false admits value next x y total h only rejected a b
 
 -- the node alone was visited: it decides every block, or its relaxed welfare is under the value
 -- read
-pub needed_one : (problem : ProblemState) (prefix : List Bool) (left read before after : ℕ) → after ≡ before + 1
-    → (left ≡ 0) ⊎ ((value : ℕ) → read ≤ value → reaches (relaxed_welfare problem prefix) value ≡ false)
-    → HasNeeded problem prefix left read (after - before)
-needed_one problem prefix left read before after e (inl full) admissible admits value only le =
-    let one = one_needed problem admits value left prefix (inl full) in omega (arith, e, one)
-needed_one problem prefix left read before after e (inr under) admissible admits value only le =
-    let one = one_needed problem admits value left prefix (inr (under value le)) in omega (arith, e, one)
+pub needed_one : (problem : ProblemState) (prefix : List Bool) (undecided_count read before after : ℕ) → after ≡ before + 1
+    → (undecided_count ≡ 0) ⊎ ((value : ℕ) → read ≤ value → reaches (relaxed_welfare problem prefix) value ≡ false)
+    → HasNeeded problem prefix undecided_count read (after - before)
+needed_one problem prefix undecided_count read before after e (inl full) admissible admits value only le =
+    let one = one_needed problem admits value undecided_count prefix (inl full) in omega (arith, e, one)
+needed_one problem prefix undecided_count read before after e (inr under) admissible admits value only le =
+    let one = one_needed problem admits value undecided_count prefix (inr (under value le)) in omega (arith, e, one)
 
 -- the node and both of its extensions
 pub needed_both : (problem : ProblemState) (prefix : List Bool) (first : Bool) (n read later before middle after : ℕ) → length prefix < n
@@ -268,9 +263,9 @@ needed_both problem prefix first n read later before middle after few fits more 
     (λ fine. one fine admits value only (omega (arith, h, le))) (λ fine. two fine admits value only le))
 
 -- no more than there are
-twice_all : (left : ℕ) → 1 + ((2 ^ (left + 1) - 1) + (2 ^ (left + 1) - 1)) ≤ 2 ^ (suc left + 1) - 1
-twice_all left = let e : suc left + 1 ≡ (left + 1) + 1 = omega arith in let same = ap (λ (k : ℕ). 2 ^ k) e in
-    let twice = doubled (left + 1) in let some = two_or_more left in omega (arith, same, twice, some)
+twice_all : (undecided_count : ℕ) → 1 + ((2 ^ (undecided_count + 1) - 1) + (2 ^ (undecided_count + 1) - 1)) ≤ 2 ^ (suc undecided_count + 1) - 1
+twice_all undecided_count = let e : suc undecided_count + 1 ≡ (undecided_count + 1) + 1 = omega arith in let same = ap (λ (k : ℕ). 2 ^ k) e in
+    let twice = doubled (undecided_count + 1) in let some = two_or_more undecided_count in omega (arith, same, twice, some)
 
 some_of : (reached admitted : Bool) (a b most total : ℕ) → a ≤ most → b ≤ most → 1 + (most + most) ≤ total
     → 1 + (if reached then a + (if admitted then b else 0) else 0) ≤ total
@@ -278,26 +273,26 @@ some_of true true a b most total h h' le = omega (arith, h, h', le)
 some_of true false a b most total h h' le = omega (arith, h, h', le)
 some_of false admitted a b most total h h' le = omega (arith, le)
 
-pub needed_at_most : (problem : ProblemState) (admits : List Bool → Bool) (value : ℕ) (prefix : List Bool) (left : ℕ)
-    → needed_nodes problem admits value prefix left ≤ node_count left
+pub needed_at_most : (problem : ProblemState) (admits : List Bool → Bool) (value : ℕ) (prefix : List Bool) (undecided_count : ℕ)
+    → needed_nodes problem admits value prefix undecided_count ≤ node_count undecided_count
 needed_at_most problem admits value prefix zero = omega arith
-needed_at_most problem admits value prefix (suc left) =
+needed_at_most problem admits value prefix (suc undecided_count) =
     some_of (reaches (relaxed_welfare problem prefix) value) (admits (padded (prefix ++ true ∷ [])))
-    (needed_nodes problem admits value (prefix ++ false ∷ []) left) (needed_nodes problem admits value (prefix ++ true ∷ []) left)
-    (node_count left) (node_count (suc left)) (needed_at_most problem admits value (prefix ++ false ∷ []) left)
-    (needed_at_most problem admits value (prefix ++ true ∷ []) left) (twice_all left)
+    (needed_nodes problem admits value (prefix ++ false ∷ []) undecided_count) (needed_nodes problem admits value (prefix ++ true ∷ []) undecided_count)
+    (node_count undecided_count) (node_count (suc undecided_count)) (needed_at_most problem admits value (prefix ++ false ∷ []) undecided_count)
+    (needed_at_most problem admits value (prefix ++ true ∷ []) undecided_count) (twice_all undecided_count)
 
 -- a limit of as many nodes as there are
-pub all_needed : (problem : ProblemState) (prefix : List Bool) (left read nodes : ℕ) → node_count left ≤ nodes → HasNeeded problem prefix left read nodes
-all_needed problem prefix left read nodes h admissible admits value only le =
-    let most = needed_at_most problem admits value prefix left in omega (arith, most, h)
+pub all_needed : (problem : ProblemState) (prefix : List Bool) (undecided_count read node_limit : ℕ) → node_count undecided_count ≤ node_limit → HasNeeded problem prefix undecided_count read node_limit
+all_needed problem prefix undecided_count read node_limit h admissible admits value only le =
+    let most = needed_at_most problem admits value prefix undecided_count in omega (arith, most, h)
 
 -- a whole walk, before which nothing was visited
-pub spent_from : (problem : ProblemState) (prefix : List Bool) (left told nodes visited read : ℕ) (done : Bool)
-    → Spends problem prefix left told nodes 0 visited done → (done ≡ true → HasNeeded problem prefix left read (visited - 0))
-    → IsSpent problem prefix left told nodes visited read done
-spent_from problem prefix left told nodes visited read done s needed =
-    let all = s.all in let some = two_or_more left in
+pub spent_from : (problem : ProblemState) (prefix : List Bool) (undecided_count greatest_read node_limit visited read : ℕ) (done : Bool)
+    → Spends problem prefix undecided_count greatest_read node_limit 0 visited done → (done ≡ true → HasNeeded problem prefix undecided_count read (visited - 0))
+    → IsSpent problem prefix undecided_count greatest_read node_limit visited read done
+spent_from problem prefix undecided_count greatest_read node_limit visited read done s needed =
+    let all = s.all in let some = two_or_more undecided_count in
     record {
       within = s.within;
       all = omega (arith, all, some);
@@ -305,7 +300,7 @@ spent_from problem prefix left told nodes visited read done s needed =
       unfinished = s.unfinished;
       done_by_all = λ h. true_unless done (λ f. (let over = s.over_all f in omega (arith, over, h, some)));
       done_by_live = λ v m h. true_unless done (λ f. (let over = s.over_live f v m in omega (arith, over, h)));
-      needed = λ f. needed_more problem prefix left read read (visited - 0) visited (omega arith) (omega arith) (needed f);
+      needed = λ f. needed_more problem prefix undecided_count read read (visited - 0) visited (omega arith) (omega arith) (needed f);
     }
   where
     true_unless : (b : Bool) → (b ≡ false → 0 < 0) → b ≡ true

@@ -9,16 +9,16 @@ use Rattle.dam_search.specs.Piece.{Rises, welfare_found, IsSound}
 
 -- a sound answer about its piece of a cutting of this depth
 abbrev pub IsSoundAnswer : ProblemState → ℕ → PieceAnswer → Type 0
-IsSoundAnswer problem depth a =
-    IsSound problem (choice depth a.piece) a.best a.incumbent_read a.done
+IsSoundAnswer problem depth answer =
+    IsSound problem (choice depth answer.piece) answer.best answer.incumbent_read answer.done
 
 -- sound answers, all of them done, and one about each piece of a cutting of this depth
 pub record AreAnswered (problem : ProblemState) (depth : ℕ) (answers : List PieceAnswer)
     : Type 0 where
-  pub sound : All (λ (a : PieceAnswer). IsSoundAnswer problem depth a) answers
-  pub done : All (λ (a : PieceAnswer). a.done ≡ true) answers
+  pub sound : All (λ (answer : PieceAnswer). IsSoundAnswer problem depth answer) answers
+  pub done : All (λ (answer : PieceAnswer). answer.done ≡ true) answers
   pub each : (piece : ℕ) → piece < 2 ^ depth
-      → (a : PieceAnswer) × Contains answers a × (a.piece ≡ piece)
+      → (answer : PieceAnswer) × Contains answers answer × (answer.piece ≡ piece)
 
 -- some eligible selection has at least this welfare
 pub record IsReached (problem : ProblemState) (value : ℕ) : Type 0 where
@@ -34,14 +34,14 @@ pub record AreConclusive (problem : ProblemState) (depth : ℕ) (answers : List 
   pub is_problem : IsProblem problem
   pub in_blocks : depth ≤ length problem.blocks
   pub answered : AreAnswered problem depth answers
-  pub reached : All (λ (a : PieceAnswer). IsReached problem a.incumbent_read) answers
+  pub reached : All (λ (answer : PieceAnswer). IsReached problem answer.incumbent_read) answers
 
 -- the greatest welfare that the answers found, 0 if they found none
 abbrev pub greatest_found : List PieceAnswer → ℕ
 greatest_found [] = 0
-greatest_found (a ∷ answers) = max (welfare_found a.best) (greatest_found answers)
+greatest_found (answer ∷ answers) = max (welfare_found answer.best) (greatest_found answers)
 
 -- one of the selections that the answers found, and the others rank at or below it
-pub record IsHighest (answers : List PieceAnswer) (b : Solution) : Type 0 where
-  pub among : (a : PieceAnswer) × Contains answers a × (a.best ≡ Some b)
-  pub others : All (λ (a : PieceAnswer). Rises a.best (Some b)) answers
+pub record IsHighest (answers : List PieceAnswer) (best : Solution) : Type 0 where
+  pub among : (answer : PieceAnswer) × Contains answers answer × (answer.best ≡ Some best)
+  pub others : All (λ (answer : PieceAnswer). Rises answer.best (Some best)) answers

@@ -15,23 +15,23 @@ use Rattle.dam_bound.specs.Relaxed.{relaxed_welfare, reaches, live_count}
 -- a find: none, or an eligible completion of the prefix with its welfare
 abbrev pub IsFind : ProblemState → List Bool → Option Solution → Type 0
 IsFind problem prefix None = Unit {0}
-IsFind problem prefix (Some b) =
-    IsCompletion prefix b.selection × IsEligible problem b.selection (pos b.welfare)
+IsFind problem prefix (Some best) =
+    IsCompletion prefix best.selection × IsEligible problem best.selection (pos best.welfare)
 
 -- the selection ranks at or below the one that was found
 abbrev pub IsMatched : ℤ → List Bool → Option Solution → Type 0
-IsMatched welfare sel None = ⊥
-IsMatched welfare sel (Some b) = RanksAtOrBelow welfare sel (pos b.welfare) b.selection
+IsMatched welfare selection None = ⊥
+IsMatched welfare selection (Some best) = RanksAtOrBelow welfare selection (pos best.welfare) best.selection
 
 -- the find rises: there was none before, or it ranks at or below the next one
 abbrev pub Rises : Option Solution → Option Solution → Type 0
 Rises None next = Unit {0}
-Rises (Some b) next = IsMatched (pos b.welfare) b.selection next
+Rises (Some best) next = IsMatched (pos best.welfare) best.selection next
 
 -- the welfare of the selection that was found, 0 if there was none
 abbrev pub welfare_found : Option Solution → ℕ
 welfare_found None = 0
-welfare_found (Some b) = b.welfare
+welfare_found (Some best) = best.welfare
 
 -- a sound answer about the completions of this prefix: the selection that was found is one of them,
 -- and if the answer is done, each eligible one ranks at or below it or has less welfare than the
@@ -39,18 +39,18 @@ welfare_found (Some b) = b.welfare
 pub record IsSound (problem : ProblemState) (prefix : List Bool) (best : Option Solution) (read : ℕ)
     (done : Bool) : Type 0 where
   pub found : IsFind problem prefix best
-  pub others : done ≡ true → (sel : List Bool) (welfare : ℤ) → IsCompletion prefix sel
-      → IsEligible problem sel welfare
-      → (welfare <ℤ pos read) ⊎ IsMatched welfare sel best
+  pub others : done ≡ true → (selection : List Bool) (welfare : ℤ) → IsCompletion prefix selection
+      → IsEligible problem selection welfare
+      → (welfare <ℤ pos read) ⊎ IsMatched welfare selection best
 
 -- how many nodes there are at most if this number of blocks is undecided
 abbrev pub node_count : ℕ → ℕ
-node_count left = 2 ^ (left + 1) - 1
+node_count undecided_count = 2 ^ (undecided_count + 1) - 1
 
 -- how many nodes are visited at most if this number of blocks is undecided and the value was read
 -- before
 abbrev pub live_nodes : ProblemState → ℕ → List Bool → ℕ → ℕ
-live_nodes problem value prefix left = 1 + 2 * live_count problem value prefix left
+live_nodes problem value prefix undecided_count = 1 + 2 * live_count problem value prefix undecided_count
 
 -- the number of nodes that a walk from an admissible prefix visits at least, with this number of blocks
 -- undecided, if it never reads a greater value: the prefix, and if its relaxed welfare reaches the
@@ -58,34 +58,34 @@ live_nodes problem value prefix left = 1 + 2 * live_count problem value prefix l
 -- it, if the test admits that one
 abbrev pub needed_nodes : ProblemState → (List Bool → Bool) → ℕ → List Bool → ℕ → ℕ
 needed_nodes problem admits value prefix zero = 1
-needed_nodes problem admits value prefix (suc left) =
+needed_nodes problem admits value prefix (suc undecided_count) =
     1 + (if reaches (relaxed_welfare problem prefix) value
-    then needed_nodes problem admits value (prefix ++ false ∷ []) left
+    then needed_nodes problem admits value (prefix ++ false ∷ []) undecided_count
     + (if admits (padded (prefix ++ true ∷ []))
-    then needed_nodes problem admits value (prefix ++ true ∷ []) left else 0)
+    then needed_nodes problem admits value (prefix ++ true ∷ []) undecided_count else 0)
     else 0)
 
 -- the test admits only selections that the links and the groups admit
 abbrev pub AdmitsOnly : ProblemState → (List Bool → Bool) → Type 0
-AdmitsOnly problem admits = (sel : List Bool) → admits sel ≡ true → IsAdmissible problem.blocks sel
+AdmitsOnly problem admits = (selection : List Bool) → admits selection ≡ true → IsAdmissible problem.blocks selection
 
 -- the number of nodes is at least the number needed: the number that a walk over the completions of the
 -- prefix visits even if it reads this value from the start and never a greater one. This is a necessary
 -- number, not a sufficient one
 abbrev pub HasNeeded : ProblemState → List Bool → ℕ → ℕ → ℕ → Type 0
-HasNeeded problem prefix left read nodes = IsAdmissible problem.blocks (padded prefix)
+HasNeeded problem prefix undecided_count read nodes = IsAdmissible problem.blocks (padded prefix)
     → (admits : List Bool → Bool) (value : ℕ) → AdmitsOnly problem admits → read ≤ value
-    → needed_nodes problem admits value prefix left ≤ nodes
+    → needed_nodes problem admits value prefix undecided_count ≤ nodes
 
 -- the cost of a walk over the completions of this prefix, if the greatest value read before it is
 -- this, it may visit this number of nodes, and the greatest value read on the way is that one
 pub record IsSpent (problem : ProblemState) (prefix : List Bool)
-    (left greatest_read nodes visited read : ℕ) (done : Bool) : Type 0 where
-  pub within : visited ≤ nodes
-  pub all : visited ≤ node_count left
-  pub live : (value : ℕ) → value ≤ greatest_read → visited ≤ live_nodes problem value prefix left
-  pub unfinished : done ≡ false → visited ≡ nodes
-  pub done_by_all : node_count left ≤ nodes → done ≡ true
+    (undecided_count greatest_read node_limit visited read : ℕ) (done : Bool) : Type 0 where
+  pub within : visited ≤ node_limit
+  pub all : visited ≤ node_count undecided_count
+  pub live : (value : ℕ) → value ≤ greatest_read → visited ≤ live_nodes problem value prefix undecided_count
+  pub unfinished : done ≡ false → visited ≡ node_limit
+  pub done_by_all : node_count undecided_count ≤ node_limit → done ≡ true
   pub done_by_live : (value : ℕ) → value ≤ greatest_read
-      → live_nodes problem value prefix left ≤ nodes → done ≡ true
-  pub needed : done ≡ true → HasNeeded problem prefix left read visited
+      → live_nodes problem value prefix undecided_count ≤ node_limit → done ≡ true
+  pub needed : done ≡ true → HasNeeded problem prefix undecided_count read visited

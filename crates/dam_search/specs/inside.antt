@@ -2,7 +2,7 @@
 pub mod PrefixWalk
 pub mod Conflicts
 pub mod PriceWalk
-pub mod Way
+pub mod WalkMethod
 pub mod DecisionOrder
 pub mod Work
 pub mod Seats

@@ -3,7 +3,7 @@
 ghost use Rattle.std.specs.Prelude.{◌≡◌, None, true};
 
 use dam_blocks::Solution;
-use dam_plan::Nodes;
+use dam_plan::NodeCount;
 
 /// The answer of a walk over one piece.
 ///
@@ -19,8 +19,8 @@ pub struct PieceAnswer {
     /// of a MW; 0 if nothing was read.
     pub incumbent_read: u64,
     /// The nodes visited: those whose bound was compared with the incumbent read, and selections whose welfare
-    /// was looked at. No clause bounds it for a walk by prices.
-    pub visited: Nodes,
+    /// was looked at. Only tests read it of a walk by prices, and no clause bounds it then.
+    pub visited: NodeCount,
     /// Whether no node is left to visit. It is false only if `visited` is the limit.
     pub done: bool,
 }

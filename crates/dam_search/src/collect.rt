@@ -11,11 +11,10 @@ ghost use Rattle.dam_search.specs.Words.{most_pieces};
 
 use crate::answer::PieceAnswer;
 use crate::fault::SearchFault;
-use crate::invariant::use_invariant;
 use crate::laws;
 use crate::walk_state::ranks_above_found;
 use dam_blocks::{Problem, Solution};
-use dam_plan::{MOST_CUT, Nodes};
+use dam_plan::{MOST_CUT, NodeCount};
 use std::alloc::Allocator;
 
 /// The most pieces that a search is cut into.
@@ -81,8 +80,8 @@ fn least_unfinished(answers: &[PieceAnswer]) -> Option<PieceAnswer>
     least
 }
 
-/// The earlier selection or the answer's, whichever ranks higher.
-fn higher(best: Option<Solution>, answer: &PieceAnswer) -> Option<Solution>
+/// The highest selection after this answer, if it was `best` before.
+fn highest_after(best: Option<Solution>, answer: &PieceAnswer) -> Option<Solution>
     ensures either { (result ≡ best) ⊎ (result ≡ answer.now.best) }
     ensures before { Rises best result }
     ensures answer { Rises answer.now.best result }
@@ -98,35 +97,35 @@ fn higher(best: Option<Solution>, answer: &PieceAnswer) -> Option<Solution>
 }
 
 /// The highest of the selections that the answers found.
-fn highest(answers: &[PieceAnswer]) -> Option<Solution>
+fn highest_found(answers: &[PieceAnswer]) -> Option<Solution>
     requires { All (λ a. IsLong a.best) answers.now }
     ensures { IsHighestFound answers.now result }
 {
     dam_blocks::laws::ranking_is_total();
     let mut best = None;
     for answer in answers {
-        best = higher(best, answer);
+        best = highest_after(best, answer);
     }
     best
 }
 
 /// The result of the workers' answers, or the first fault. The first piece that lacks an answer or
 /// has several comes before the least one that is unfinished.
-pub(crate) fn collected<A: Allocator>(
+pub(crate) fn result_of_answers<A: Allocator>(
     problem: &Problem<A>,
     depth: usize,
-    nodes: Nodes,
+    node_limit: NodeCount,
     answers: &[PieceAnswer],
 ) -> Result<Solution, SearchFault>
     requires depth { depth ≤ length problem.now.blocks }
     requires few { depth ≤ most_cut }
-    requires worked { All (λ a. IsWorked problem.now depth nodes a) answers.now }
+    requires worked { All (λ a. IsWorked problem.now depth node_limit a) answers.now }
     ensures collected { IsCollected depth answers.now result }
     ensures searched { AreOneEach answers.now (2 ^ depth)
-        → IsSearched problem.now depth nodes result }
+        → IsSearched problem.now depth node_limit result }
 {
     laws::conclusive_answers_give_result();
-    use_invariant(problem);
+    let _invariant = problem.periods(); // for the proof: the invariant of a problem
     if let Some(piece) = first_faulty(answers, piece_count(depth)) {
         return Err(SearchFault::AnswerMissingOrRepeated { piece });
     }
@@ -136,7 +135,7 @@ pub(crate) fn collected<A: Allocator>(
             visited: answer.visited,
         });
     }
-    match highest(answers) {
+    match highest_found(answers) {
         Some(best) => Ok(best),
         None => unreachable!(),
     }

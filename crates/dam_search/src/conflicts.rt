@@ -1,4 +1,4 @@
-//! For each block the blocks that it needs or excludes, as sets, so that a walk asks for them at every node.
+//! For each block the blocks that it needs or excludes, as sets, which a walk asks for at every node.
 
 ghost use Rattle.std.specs.Prelude.{◌≡◌, ◌<◌, ◌≤◌, ℤ, true, false, List, Bool, length};
 ghost use Rattle.dam_book.specs.Limits.{most_blocks};
@@ -8,7 +8,7 @@ ghost use Rattle.dam_blocks.specs.Eligible.{IsEligible};
 ghost use Rattle.dam_bound.specs.Relaxed.{without_rows};
 ghost use Rattle.dam_search.specs.inside.Conflicts.{AcceptsAll, AcceptsNone, AreConflicts, Excludes, IsSetOf, is_other_of_group};
 
-use crate::priced_problem::PricedProblem;
+use crate::price_oracle::PriceOracle;
 use dam_blocks::{Block, Problem, Selection, are_of_one_group};
 use dam_book::MOST_BLOCKS;
 use dam_bound::{ancestors_of, descendants_of};
@@ -27,9 +27,9 @@ pub(crate) struct Conflicts {
 }
 
 impl Conflicts {
-    /// The conflicts of a problem's blocks. The priced problem says which blocks are rivals.
-    pub(crate) fn of<A: Allocator, P: PricedProblem>(problem: &Problem<A>, priced: &P) -> Conflicts
-        requires { P.problem priced.now ≡ without_rows problem.now }
+    /// The conflicts of a problem's blocks. The oracle says which blocks are rivals.
+    pub(crate) fn of<A: Allocator, P: PriceOracle>(problem: &Problem<A>, oracle: &P) -> Conflicts
+        requires { P.problem oracle.now ≡ without_rows problem.now }
         ensures { AreConflicts problem.now result }
     {
         dam_blocks::laws::admissible_keeps_ancestors_and_groups();
@@ -43,7 +43,7 @@ impl Conflicts {
             conflicts.needs[place] = ancestors_of(blocks, place);
             conflicts.needed_by[place] = descendants_of(blocks, place);
             conflicts.excludes[place] = with_rivals(
-                priced,
+                oracle,
                 place,
                 blocks.len(),
                 others_of_group(blocks, place),
@@ -81,25 +81,25 @@ impl Conflicts {
     }
 }
 
-/// Whether the block at `at` is another one of the exclusive group of the block at `place`.
-fn is_other_of_group(blocks: &[Block], place: usize, at: usize) -> bool
+/// Whether the block at `other` is another one of the exclusive group of the block at `place`.
+fn is_other_of_group(blocks: &[Block], place: usize, other: usize) -> bool
     requires place { place < length blocks.now }
-    requires at { at < length blocks.now }
-    ensures { result ≡ is_other_of_group blocks.now place at }
+    requires other { other < length blocks.now }
+    ensures { result ≡ is_other_of_group blocks.now place other }
 {
-    at != place && are_of_one_group(&blocks[place], &blocks[at])
+    other != place && are_of_one_group(&blocks[place], &blocks[other])
 }
 
 /// The places of the other blocks in the exclusive group of the block at `place`.
 fn others_of_group(blocks: &[Block], place: usize) -> Selection
     requires few { length blocks.now ≤ most_blocks }
     requires place { place < length blocks.now }
-    ensures { IsSetOf (length blocks.now) (λ at. is_other_of_group blocks.now place at) result }
+    ensures { IsSetOf (length blocks.now) (is_other_of_group blocks.now place) result }
 {
     let mut others = Selection::none();
-    for at in 0..blocks.len() {
-        if is_other_of_group(blocks, place, at) {
-            others = others.with(at);
+    for other in 0..blocks.len() {
+        if is_other_of_group(blocks, place, other) {
+            others = others.with(other);
         }
     }
     others
@@ -107,33 +107,33 @@ fn others_of_group(blocks: &[Block], place: usize) -> Selection
 
 /// Whether no eligible selection accepts the blocks at both places, since one of them would then lose. It may be `false`
 /// even if none does.
-fn are_rivals_either_way<P: PricedProblem>(priced: &P, place: usize, at: usize) -> bool
-    requires place { place < length (P.problem priced.now).blocks }
-    requires at { at < length (P.problem priced.now).blocks }
+fn are_rivals_either_way<P: PriceOracle>(oracle: &P, place: usize, other: usize) -> bool
+    requires place { place < length (P.problem oracle.now).blocks }
+    requires other { other < length (P.problem oracle.now).blocks }
     ensures { result ≡ true → (selection : List Bool) (w : ℤ)
-        → IsEligible (P.problem priced.now) selection w
-        → accepts selection place ≡ true → accepts selection at ≡ false }
+        → IsEligible (P.problem oracle.now) selection w
+        → accepts selection place ≡ true → accepts selection other ≡ false }
 {
-    priced.are_rivals(place, at) || priced.are_rivals(at, place)
+    oracle.are_rivals(place, other) || oracle.are_rivals(other, place)
 }
 
 /// `others`, and the rivals by prices of the block at `place` among the first `count` blocks.
-fn with_rivals<P: PricedProblem>(
-    priced: &P,
+fn with_rivals<P: PriceOracle>(
+    oracle: &P,
     place: usize,
     count: usize,
     others: Selection,
 ) -> Selection
     requires few { count ≤ most_blocks }
-    requires count { count ≤ length (P.problem priced.now).blocks }
-    requires place { place < length (P.problem priced.now).blocks }
-    requires others { Excludes (P.problem priced.now) place others }
-    ensures { Excludes (P.problem priced.now) place result }
+    requires count { count ≤ length (P.problem oracle.now).blocks }
+    requires place { place < length (P.problem oracle.now).blocks }
+    requires others { Excludes (P.problem oracle.now) place others }
+    ensures { Excludes (P.problem oracle.now) place result }
 {
     let mut excluded = others;
-    for at in 0..count {
-        if are_rivals_either_way(priced, place, at) {
-            excluded = excluded.with(at);
+    for other in 0..count {
+        if are_rivals_either_way(oracle, place, other) {
+            excluded = excluded.with(other);
         }
     }
     excluded

@@ -1,6 +1,6 @@
 //! Why a search has no result: no memory, a piece without just one answer, or a piece that is unfinished.
 
-use dam_plan::Nodes;
+use dam_plan::NodeCount;
 use std::alloc::AllocError;
 use thiserror::Error;
 
@@ -25,7 +25,7 @@ pub enum SearchFault {
         /// The least such piece, from 0.
         piece: u32,
         /// The number of its nodes that were visited: the plan's limit.
-        visited: Nodes,
+        visited: NodeCount,
     },
 }
 

@@ -8,14 +8,14 @@ ghost use Rattle.std.specs.Prelude.{◌≡◌, ◌≤◌, ℕ, max};
 /// An incumbent keeps two numbers, in cents per MWh times tenths of a MW: the greatest value that
 /// was read of it and the greatest welfare that was offered to it, each 0 if there was none.
 /// The values read may differ from the values offered to it: workers that share one read each other's offers.
-pub trait Incumbent {
+pub(crate) trait Incumbent {
     /// The greatest value read so far.
     ghost greatest_read: { Self → ℕ };
 
     /// The greatest welfare offered so far.
     ghost greatest_offer: { Self → ℕ };
 
-    /// The part that neither a read nor an offer changes.
+    /// The rest of the incumbent, which neither a read nor an offer changes.
     ghost Kept: { Type 0 } = { Unit {0} };
 
     ghost kept: { Self → Self.Kept };
@@ -41,17 +41,17 @@ pub trait Incumbent {
 
 /// The incumbent of one worker alone: it reads the greatest welfare offered to it, or 0 if none was.
 #[derive(Clone, Copy, PartialEq, Eq, Debug)]
-pub struct OwnIncumbent {
+pub(crate) struct OwnIncumbent {
     /// The greatest value read, in cents per MWh times tenths of a MW; 0 if none was.
-    pub greatest_read: u64,
+    pub(crate) greatest_read: u64,
     /// The greatest welfare offered, in cents per MWh times tenths of a MW; 0 if none was.
-    pub greatest_offer: u64,
+    pub(crate) greatest_offer: u64,
     ghost known: { greatest_read ≤ greatest_offer },
 }
 
 impl OwnIncumbent {
     /// An incumbent of which nothing was read and to which nothing was offered.
-    pub fn new() -> OwnIncumbent
+    pub(crate) fn new() -> OwnIncumbent
         ensures greatest_read { result.greatest_read ≡ 0 }
         ensures greatest_offer { result.greatest_offer ≡ 0 }
     {
@@ -59,14 +59,6 @@ impl OwnIncumbent {
             greatest_read: 0,
             greatest_offer: 0,
         }
-    }
-}
-
-impl Default for OwnIncumbent {
-    ghost is_default = { λ p. (p.greatest_read ≡ 0) × (p.greatest_offer ≡ 0) };
-
-    fn default() -> OwnIncumbent {
-        OwnIncumbent::new()
     }
 }
 

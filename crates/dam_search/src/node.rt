@@ -11,15 +11,15 @@ use dam_bound::{Pricing, Slack};
 
 /// A node of a walk by prices: decisions on some blocks, and the places of the others.
 ///
-/// Its open selections are those that accept the accepted blocks, any of the blocks that are left, and nothing else.
+/// Its open selections are those that accept the accepted blocks, any of the undecided ones, and nothing else.
 #[derive(Drop)]
 pub(crate) struct Node<'a> {
     /// The blocks that are accepted.
     pub(crate) accepted: Selection,
     /// The blocks that are rejected.
     pub(crate) rejected: Selection,
-    /// The places that are left, in the order of the decisions on them.
-    pub(crate) left: &'a [u8],
+    /// The places of the undecided blocks, in the order of the decisions on them.
+    pub(crate) undecided: &'a [u8],
     /// At least the welfare of each open selection.
     pub(crate) bound: i64,
     /// The prices that give the bound.
@@ -54,23 +54,23 @@ fn bound_after(accept: bool, bound: i64, gain: i64) -> i64
 }
 
 impl Node<'_> {
-    /// The open selection that accepts every block that is left. None ranks above it in the order of ties.
+    /// The open selection that accepts every undecided block. None ranks above it in the order of ties.
     pub(crate) fn highest_selection(&self) -> Selection
-        requires { All (λ place. place < most_blocks) self.now.left.now }
-        ensures { result ≡ with_all self.now.accepted self.now.left.now }
+        requires { All (λ place. place < most_blocks) self.now.undecided.now }
+        ensures { result ≡ with_all self.now.accepted self.now.undecided.now }
     {
-        let mut top = self.accepted;
-        for place in self.left {
-            top = top.with(usize::from(*place));
+        let mut highest = self.accepted;
+        for place in self.undecided {
+            highest = highest.with(usize::from(*place));
         }
-        top
+        highest
     }
 
-    /// The node with a decision on the block at `place`, which has this gain, and `left` and `slack` left.
+    /// The node with a decision on the block at `place`, which has this gain, and with `undecided` and `slack` left.
     pub(crate) fn after_decision<'b>(
         &'b self,
         place: usize,
-        left: &'b [u8],
+        undecided: &'b [u8],
         accept: bool,
         gain: i64,
         slack: &'b Slack,
@@ -80,7 +80,7 @@ impl Node<'_> {
         requires gain { IsWithin greatest_priced_gain gain }
         ensures accepted { result.accepted ≡ with_place_if accept self.now.accepted place }
         ensures rejected { result.rejected ≡ with_place_if (not accept) self.now.rejected place }
-        ensures left { result.left.now ≡ left.now }
+        ensures undecided { result.undecided.now ≡ undecided.now }
         ensures bound { result.bound ≡ bound_after accept self.now.bound gain }
         ensures pricing { result.pricing.now ≡ self.now.pricing.now }
         ensures slack { result.slack.now ≡ slack.now }
@@ -88,7 +88,7 @@ impl Node<'_> {
         Node {
             accepted: with_place_if(accept, self.accepted, place),
             rejected: with_place_if(!accept, self.rejected, place),
-            left,
+            undecided,
             bound: bound_after(accept, self.bound, gain),
             pricing: self.pricing,
             slack,

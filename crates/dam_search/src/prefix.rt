@@ -6,7 +6,6 @@ ghost use Rattle.dam_book.specs.Limits.{most_blocks};
 ghost use Rattle.dam_blocks.specs.Selection.{choice, padded, IsAdmissible};
 ghost use Rattle.dam_bound.specs.Prefix.{IsCompletion};
 
-use crate::invariant::use_invariant;
 use dam_blocks::{Problem, Selection, admissible};
 use std::alloc::Allocator;
 use std::marker::Model;
@@ -85,7 +84,7 @@ impl Prefix {
             → ¬ (IsAdmissible problem.now.blocks sel) }
     {
         dam_blocks::laws::fronts_are_admissible();
-        use_invariant(problem);
+        let _invariant = problem.periods(); // for the proof: the invariant of a problem
         admissible(problem, self.accepted)
     }
 }

@@ -8,25 +8,24 @@ ghost use Rattle.dam_search.specs.inside.PrefixWalk.{Finds, Covers, IsGoing, IsW
 
 use crate::answer::PieceAnswer;
 use crate::incumbent::Incumbent;
-use crate::invariant::use_invariant;
 use crate::prefix::Prefix;
 use crate::walk_state::{WalkState, bound_equals, bound_reaches, ranks_above_found};
 use dam_blocks::{Problem, Solution, Verdict, score};
 use dam_bound::Relaxed;
-use dam_plan::Nodes;
+use dam_plan::NodeCount;
 use std::alloc::Allocator;
 
 /// A problem, and the relaxed welfares by which its prefixes are walked.
 #[derive(Drop)]
-pub struct PrefixWalk<'a, A: Allocator, B: Allocator> {
-    pub problem: &'a Problem<A>,
-    pub relaxed: &'a Relaxed<B>,
+pub(crate) struct PrefixWalk<'a, A: Allocator, B: Allocator> {
+    pub(crate) problem: &'a Problem<A>,
+    pub(crate) relaxed: &'a Relaxed<B>,
     ghost same: { relaxed.now ≡ without_rows problem.now },
 }
 
 impl<'a, A: Allocator, B: Allocator> PrefixWalk<'a, A, B> {
     /// The walks of a problem's pieces, with its relaxed welfares.
-    pub fn new(problem: &'a Problem<A>, relaxed: &'a Relaxed<B>) -> PrefixWalk<'a, A, B>
+    pub(crate) fn new(problem: &'a Problem<A>, relaxed: &'a Relaxed<B>) -> PrefixWalk<'a, A, B>
         requires { relaxed.now ≡ without_rows problem.now }
         ensures { result.problem.now ≡ problem.now }
     {
@@ -53,31 +52,31 @@ impl<A: Allocator, B: Allocator> PrefixWalk<'_, A, B> {
 
     /// Takes the selection of a prefix that decides every block, and offers its welfare, if it is eligible, has at
     /// least the welfare that was read, and is the best so far.
-    fn offer_if_best<I: Incumbent>(&self, prefix: &Prefix, incumbent: &mut I, found: &mut WalkState)
+    fn offer_if_best<I: Incumbent>(&self, prefix: &Prefix, incumbent: &mut I, state: &mut WalkState)
         requires full { length self.now.problem.now.blocks ≡ length prefix.now }
-        requires offered { welfare_found found.old.best ≤ I.greatest_offer incumbent.old }
-        ensures finds { Finds self.now.problem.now prefix.now found.old.best found.new.best }
+        requires offered { welfare_found state.old.best ≤ I.greatest_offer incumbent.old }
+        ensures finds { Finds self.now.problem.now prefix.now state.old.best state.new.best }
         ensures covers { Covers self.now.problem.now prefix.now
-            found.new.best found.new.incumbent_read }
+            state.new.best state.new.incumbent_read }
         ensures offered { I.greatest_offer incumbent.new
-            ≡ max (I.greatest_offer incumbent.old) (welfare_found found.new.best) }
+            ≡ max (I.greatest_offer incumbent.old) (welfare_found state.new.best) }
         ensures greatest_read { I.greatest_read incumbent.new ≡ I.greatest_read incumbent.old }
         ensures kept { I.kept incumbent.new ≡ I.kept incumbent.old }
-        ensures read { found.new.incumbent_read ≡ found.old.incumbent_read }
-        ensures visited { found.new.visited ≡ found.old.visited }
+        ensures read { state.new.incumbent_read ≡ state.old.incumbent_read }
+        ensures visited { state.new.visited ≡ state.old.visited }
     {
         dam_blocks::laws::verdict_tells_eligibility();
         dam_bound::laws::completions_split();
-        use_invariant(self.problem);
+        let _invariant = self.problem.periods(); // for the proof: the invariant of a problem
         let selection = prefix.selection();
         let Verdict::Eligible(welfare) = score(self.problem, selection) else {
             return;
         };
         let candidate = Solution { selection, welfare };
-        if welfare < found.incumbent_read || !ranks_above_found(&candidate, &found.best) {
+        if welfare < state.incumbent_read || !ranks_above_found(&candidate, &state.best) {
             return;
         }
-        found.best = Some(candidate);
+        state.best = Some(candidate);
         incumbent.offer(welfare);
     }
 
@@ -90,18 +89,18 @@ impl<A: Allocator, B: Allocator> PrefixWalk<'_, A, B> {
     /// order of ties counts: 'accepted' comes first in it, and is walked first.
     fn visit<I: Incumbent>(
         &self,
-        nodes: Nodes,
+        node_limit: NodeCount,
         prefix: &Prefix,
         incumbent: &mut I,
-        found: &mut WalkState,
+        state: &mut WalkState,
     ) -> bool
         requires depth { length prefix.now ≤ length self.now.problem.now.blocks }
-        requires going { IsGoing self.now.problem.now nodes
-            (I.greatest_read incumbent.old) (I.greatest_offer incumbent.old) found.old }
-        ensures walked { IsWalked self.now.problem.now prefix.now nodes
+        requires going { IsGoing self.now.problem.now node_limit
+            (I.greatest_read incumbent.old) (I.greatest_offer incumbent.old) state.old }
+        ensures walked { IsWalked self.now.problem.now prefix.now node_limit
             (I.greatest_read incumbent.old) (I.greatest_offer incumbent.old)
             (I.greatest_read incumbent.new) (I.greatest_offer incumbent.new)
-            found.old found.new result }
+            state.old state.new result }
         ensures kept { I.kept incumbent.new ≡ I.kept incumbent.old }
     {
         dam_blocks::laws::ranking_is_total();
@@ -110,23 +109,23 @@ impl<A: Allocator, B: Allocator> PrefixWalk<'_, A, B> {
         if !prefix.is_admissible(self.problem) {
             return true;
         }
-        if found.visited == nodes {
+        if state.visited == node_limit {
             return false;
         }
-        found.visited += 1;
+        state.visited += 1;
         if prefix.depth() == self.problem.block_count() {
-            self.offer_if_best(prefix, incumbent, found);
+            self.offer_if_best(prefix, incumbent, state);
             return true;
         }
-        found.incumbent_read = incumbent.read();
-        let Some(bound) = self.live_bound(prefix, found.incumbent_read) else {
+        state.incumbent_read = incumbent.read();
+        let Some(bound) = self.live_bound(prefix, state.incumbent_read) else {
             return true;
         };
-        let accept = bound_equals(bound, found.incumbent_read);
-        if !self.visit(nodes, &prefix.extended(accept), incumbent, found) {
+        let accept = bound_equals(bound, state.incumbent_read);
+        if !self.visit(node_limit, &prefix.extended(accept), incumbent, state) {
             return false;
         }
-        self.visit(nodes, &prefix.extended(!accept), incumbent, found)
+        self.visit(node_limit, &prefix.extended(!accept), incumbent, state)
     }
 }
 
@@ -138,12 +137,12 @@ impl<A: Allocator, B: Allocator> PrefixWalk<'_, A, B> {
     /// `depth` - 1 - i is 0. A node is a prefix that extends the piece's. If the links and the groups admit
     /// it, it is visited when its bound is compared with the value read, or, if it decides every block, when
     /// its welfare is looked at; otherwise it is passed over without a visit. A node is never visited twice,
-    /// and the answer isn't `done` if it takes more than `nodes` nodes. The search takes no memory.
-    pub fn walk_by_prefixes<I: Incumbent>(
+    /// and the answer isn't `done` if it takes more than `node_limit` nodes. The search takes no memory.
+    pub(crate) fn walk_by_prefixes<I: Incumbent>(
         &self,
         piece: u32,
         depth: usize,
-        nodes: Nodes,
+        node_limit: NodeCount,
         incumbent: &mut I,
     ) -> PieceAnswer
         requires depth { depth ≤ length self.now.problem.now.blocks }
@@ -152,8 +151,8 @@ impl<A: Allocator, B: Allocator> PrefixWalk<'_, A, B> {
         ensures sound { IsSound self.now.problem.now (choice depth piece)
             result.best result.incumbent_read result.done }
         ensures spent { IsSpent self.now.problem.now (choice depth piece)
-            (length self.now.problem.now.blocks - depth)
-            (I.greatest_read incumbent.old) nodes result.visited result.incumbent_read result.done }
+            (length self.now.problem.now.blocks - depth) (I.greatest_read incumbent.old)
+            node_limit result.visited result.incumbent_read result.done }
 
         // The incumbent after the call.
         ensures offered { I.greatest_offer incumbent.new
@@ -168,19 +167,19 @@ impl<A: Allocator, B: Allocator> PrefixWalk<'_, A, B> {
         ensures unread { (result.visited ≡ 0) ⊎ (depth ≡ length self.now.problem.now.blocks)
             → result.incumbent_read ≡ 0 }
     {
-        use_invariant(self.problem);
-        let mut found = WalkState {
+        let _invariant = self.problem.periods(); // for the proof: the invariant of a problem
+        let mut state = WalkState {
             best: None,
             incumbent_read: 0,
             visited: 0,
         };
         let prefix = Prefix::of_piece(depth, piece);
-        let done = self.visit(nodes, &prefix, incumbent, &mut found);
+        let done = self.visit(node_limit, &prefix, incumbent, &mut state);
         PieceAnswer {
             piece,
-            best: found.best,
-            incumbent_read: found.incumbent_read,
-            visited: found.visited,
+            best: state.best,
+            incumbent_read: state.incumbent_read,
+            visited: state.visited,
             done,
         }
     }

@@ -10,56 +10,55 @@ ghost use Rattle.dam_bound.specs.Open.{IsOpen};
 ghost use Rattle.dam_bound.specs.NetLimits.{AreLimits};
 ghost use Rattle.dam_search.specs.Piece.{IsMatched, Rises, welfare_found, IsSound};
 ghost use Rattle.dam_search.specs.inside.Conflicts.{AcceptsAll, AcceptsNone, AreConflicts, IsSetOf};
-ghost use Rattle.dam_search.specs.inside.PriceWalk.{IsNode, IsBounded, IsReady, IsSlack, IsWalkedOpen, IsDecisionOrder, with_place_if};
+ghost use Rattle.dam_search.specs.inside.PriceWalk.{AreDecisions, IsBounded, IsNode, IsReady, IsWalkedOpen, IsDecisionOrder, with_place_if};
 
 use crate::answer::PieceAnswer;
 use crate::conflicts::Conflicts;
 use crate::incumbent::Incumbent;
-use crate::invariant::use_invariant;
 use crate::node::Node;
-use crate::priced_problem::PricedProblem;
-use crate::root::{slack_of_piece, write_pricing_of_piece};
+use crate::piece_start::{slack_of_piece, write_pricing_of_piece};
+use crate::price_oracle::PriceOracle;
 use crate::walk_state::{WalkState, bound_equals, bound_reaches, ranks_above_found};
 use crate::welfare::{signed_welfare, solution_of};
 use dam_blocks::{Problem, Selection, Solution, admissible, ranks_above};
 use dam_bound::{ClassPrices, NetLimits, Pricing, Slack};
 use std::alloc::Allocator;
 
-/// The least number of places left for which a node gets prices of its own.
-const LEAST_LEFT_TO_REPRICE: usize = 10;
+/// The least number of undecided blocks for which a node gets prices of its own.
+const LEAST_UNDECIDED_TO_REPRICE: usize = 10;
 
 /// A problem, and the input of its walks by prices for the pieces of one cutting.
 #[derive(Drop)]
-pub(crate) struct PriceWalk<'a, A: Allocator, P: PricedProblem> {
+pub(crate) struct PriceWalk<'a, A: Allocator, P: PriceOracle> {
     pub(crate) problem: &'a Problem<A>,
-    pub(crate) priced: &'a P,
+    pub(crate) oracle: &'a P,
     pub(crate) conflicts: &'a Conflicts,
-    /// Limits on the net volumes of eligible selections.
-    pub(crate) limits: &'a NetLimits,
+    /// Limits that the net volumes of eligible selections keep to.
+    pub(crate) net_limits: &'a NetLimits,
     /// The depth of the cutting.
     pub(crate) depth: usize,
     /// The places from the depth on, in the order in which they are decided.
-    pub(crate) order: &'a [u8],
-    ghost same: { P.problem priced.now ≡ without_rows problem.now },
+    pub(crate) decision_order: &'a [u8],
+    ghost same: { P.problem oracle.now ≡ without_rows problem.now },
     ghost are_conflicts: { AreConflicts problem.now conflicts.now },
-    ghost are_limits: { AreLimits (P.problem priced.now) limits.now.limits },
-    ghost is_order: { IsDecisionOrder depth (length problem.now.blocks) order.now },
+    ghost are_limits: { AreLimits (P.problem oracle.now) net_limits.now.limits },
+    ghost is_order: { IsDecisionOrder depth (length problem.now.blocks) decision_order.now },
 }
 
 /// The selection with its welfare, if that is at least the value read and the selection, if it is eligible, is the best
 /// so far. The welfare of an eligible selection is never below 0.
-fn solution_if_better(selection: Selection, welfare: i64, found: &WalkState) -> Option<Solution>
+fn solution_if_better(selection: Selection, welfare: i64, state: &WalkState) -> Option<Solution>
     ensures none { IfNone result
-        ((welfare <ℤ pos found.now.incumbent_read)
-        ⊎ IsMatched welfare selection found.now.best) }
+        ((welfare <ℤ pos state.now.incumbent_read)
+        ⊎ IsMatched welfare selection state.now.best) }
     ensures some { IfSome result (λ b. (b.selection ≡ selection) × (pos b.welfare ≡ welfare)
-        × Rises found.now.best (Some b)) }
+        × Rises state.now.best (Some b)) }
 {
     if welfare < 0 {
         return None;
     }
     let best = solution_of(selection, welfare);
-    if found.incumbent_read <= best.welfare && ranks_above_found(&best, &found.best) {
+    if state.incumbent_read <= best.welfare && ranks_above_found(&best, &state.best) {
         Some(best)
     } else {
         None
@@ -68,32 +67,32 @@ fn solution_if_better(selection: Selection, welfare: i64, found: &WalkState) -> 
 
 /// Whether a node is passed over, since no open selection can change the find: its bound is less than the value read,
 /// or it is the welfare of the selection found, and no open selection ranks above that one in the order of ties.
-fn is_passed(node: &Node, found: &WalkState) -> bool
-    requires { IsNode node.now.accepted node.now.rejected node.now.left.now }
+fn is_passed(node: &Node, state: &WalkState) -> bool
+    requires { AreDecisions node.now.accepted node.now.rejected node.now.undecided.now }
     ensures passed { result ≡ true → (selection : List Bool) (w : ℤ)
-        → IsOpen node.now.accepted node.now.left.now selection → w ≤ℤ node.now.bound
-        → (w <ℤ pos found.now.incumbent_read) ⊎ IsMatched w selection found.now.best }
+        → IsOpen node.now.accepted node.now.undecided.now selection → w ≤ℤ node.now.bound
+        → (w <ℤ pos state.now.incumbent_read) ⊎ IsMatched w selection state.now.best }
     ensures reached { result ≡ false
-        → (pos found.now.incumbent_read ≤ℤ node.now.bound)
-        × (found.now.incumbent_read < 2 ^ 63) }
+        → (pos state.now.incumbent_read ≤ℤ node.now.bound)
+        × (state.now.incumbent_read < 2 ^ 63) }
 {
-    if !bound_reaches(node.bound, found.incumbent_read) {
+    if !bound_reaches(node.bound, state.incumbent_read) {
         return true;
     }
-    let Some(best) = found.best else {
+    let Some(best) = state.best else {
         return false;
     };
     if !bound_equals(node.bound, best.welfare) {
         return false;
     }
-    let top = Solution {
+    let highest = Solution {
         selection: node.highest_selection(),
         welfare: best.welfare,
     };
-    !ranks_above(top, best)
+    !ranks_above(highest, best)
 }
 
-impl<A: Allocator, P: PricedProblem> PriceWalk<'_, A, P> {
+impl<A: Allocator, P: PriceOracle> PriceWalk<'_, A, P> {
     /// Takes the selection of a node that leaves no place, and offers its welfare, if it is eligible and the best so
     /// far.
     fn offer_if_best<I: Incumbent>(
@@ -101,44 +100,44 @@ impl<A: Allocator, P: PricedProblem> PriceWalk<'_, A, P> {
         selection: Selection,
         pricing: &Pricing,
         incumbent: &mut I,
-        found: &mut WalkState,
+        state: &mut WalkState,
     )
         requires long { length selection ≡ most_blocks }
-        requires fits { found.old.incumbent_read < 2 ^ 63 }
+        requires fits { state.old.incumbent_read < 2 ^ 63 }
         requires bounded { (bound : ℤ)
-            × IsBounded (P.problem self.now.priced.now) pricing.now selection [] bound }
+            × IsBounded (P.problem self.now.oracle.now) pricing.now selection [] bound }
         requires ready { IsReady
-            (I.greatest_read incumbent.old) (I.greatest_offer incumbent.old) found.old }
+            (I.greatest_read incumbent.old) (I.greatest_offer incumbent.old) state.old }
         ensures walked { IsWalkedOpen self.now.problem.now selection []
             (I.greatest_offer incumbent.old)
             (I.greatest_read incumbent.new) (I.greatest_offer incumbent.new)
-            found.old found.new }
+            state.old state.new }
         ensures kept { I.kept incumbent.new ≡ I.kept incumbent.old }
     {
         dam_blocks::laws::ranking_is_total();
         dam_bound::laws::balanced_selections_have_prices();
-        use_invariant(self.problem);
+        let _invariant = self.problem.periods(); // for the proof: the invariant of a problem
         let mut prices = ClassPrices::placeholder();
-        let Some(welfare) = self.priced.clear_selection(
+        let Some(welfare) = self.oracle.clear_selection(
             selection,
             pricing,
-            signed_welfare(found.incumbent_read),
+            signed_welfare(state.incumbent_read),
             &mut prices,
         )
         else {
             return;
         };
-        let Some(best) = solution_if_better(selection, welfare, found) else {
+        let Some(best) = solution_if_better(selection, welfare, state) else {
             return;
         };
         if !admissible(self.problem, selection) {
             return;
         }
-        if self.priced.has_loss(selection, &prices) {
+        if self.oracle.has_loss(selection, &prices) {
             return;
         }
         let offer = best.welfare;
-        found.best = Some(best);
+        state.best = Some(best);
         incumbent.offer(offer);
     }
 
@@ -161,31 +160,28 @@ impl<A: Allocator, P: PricedProblem> PriceWalk<'_, A, P> {
     /// Visits a node: reads the incumbent, and walks the node unless it is passed over.
     #[cycle(visit)]
     #[inline(always)]
-    fn visit<I: Incumbent>(&self, node: &Node, incumbent: &mut I, found: &mut WalkState)
-        requires node { IsNode node.now.accepted node.now.rejected node.now.left.now }
-        requires bounded { IsBounded (P.problem self.now.priced.now) node.now.pricing.now
-            node.now.accepted node.now.left.now node.now.bound }
-        requires slack { IsSlack self.now.problem.now self.now.limits.now.limits
-            node.now.accepted node.now.left.now node.now.slack.now }
+    fn visit<I: Incumbent>(&self, node: &Node, incumbent: &mut I, state: &mut WalkState)
+        requires node { IsNode self.now.problem.now (P.problem self.now.oracle.now)
+            self.now.net_limits.now.limits node.now }
         requires ready { IsReady
-            (I.greatest_read incumbent.old) (I.greatest_offer incumbent.old) found.old }
-        ensures walked { IsWalkedOpen self.now.problem.now node.now.accepted node.now.left.now
+            (I.greatest_read incumbent.old) (I.greatest_offer incumbent.old) state.old }
+        ensures walked { IsWalkedOpen self.now.problem.now node.now.accepted node.now.undecided.now
             (I.greatest_offer incumbent.old)
             (I.greatest_read incumbent.new) (I.greatest_offer incumbent.new)
-            found.old found.new }
+            state.old state.new }
         ensures kept { I.kept incumbent.new ≡ I.kept incumbent.old }
     {
         dam_bound::laws::pricing_bounds_open_selections();
-        found.visited = found.visited.saturating_add(1);
-        found.incumbent_read = incumbent.read();
-        if is_passed(node, found) {
+        state.visited = state.visited.saturating_add(1);
+        state.incumbent_read = incumbent.read();
+        if is_passed(node, state) {
             return;
         }
-        if node.left.len() < LEAST_LEFT_TO_REPRICE {
-            self.branch(node, incumbent, found);
+        if node.undecided.len() < LEAST_UNDECIDED_TO_REPRICE {
+            self.branch(node, incumbent, state);
             return;
         }
-        self.branch_repriced(node, incumbent, found);
+        self.branch_repriced(node, incumbent, state);
     }
 
     /// Walks a node with prices of its own, if they give it a lesser bound.
@@ -193,112 +189,104 @@ impl<A: Allocator, P: PricedProblem> PriceWalk<'_, A, P> {
     /// It isn't inlined, since the prices take space on the stack.
     #[cycle(visit)]
     #[inline(never)]
-    fn branch_repriced<I: Incumbent>(&self, node: &Node, incumbent: &mut I, found: &mut WalkState)
-        requires node { IsNode node.now.accepted node.now.rejected node.now.left.now }
-        requires bounded { IsBounded (P.problem self.now.priced.now) node.now.pricing.now
-            node.now.accepted node.now.left.now node.now.bound }
-        requires slack { IsSlack self.now.problem.now self.now.limits.now.limits
-            node.now.accepted node.now.left.now node.now.slack.now }
-        requires reached { (pos found.old.incumbent_read ≤ℤ node.now.bound)
-            × (found.old.incumbent_read < 2 ^ 63) }
+    fn branch_repriced<I: Incumbent>(&self, node: &Node, incumbent: &mut I, state: &mut WalkState)
+        requires node { IsNode self.now.problem.now (P.problem self.now.oracle.now)
+            self.now.net_limits.now.limits node.now }
+        requires reached { (pos state.old.incumbent_read ≤ℤ node.now.bound)
+            × (state.old.incumbent_read < 2 ^ 63) }
         requires ready { IsReady
-            (I.greatest_read incumbent.old) (I.greatest_offer incumbent.old) found.old }
-        ensures walked { IsWalkedOpen self.now.problem.now node.now.accepted node.now.left.now
+            (I.greatest_read incumbent.old) (I.greatest_offer incumbent.old) state.old }
+        ensures walked { IsWalkedOpen self.now.problem.now node.now.accepted node.now.undecided.now
             (I.greatest_offer incumbent.old)
             (I.greatest_read incumbent.new) (I.greatest_offer incumbent.new)
-            found.old found.new }
+            state.old state.new }
         ensures kept { I.kept incumbent.new ≡ I.kept incumbent.old }
     {
         dam_bound::laws::pricing_bounds_open_selections();
         let mut own_pricing = Pricing::placeholder();
-        self.priced
-            .write_pricing(node.accepted, node.left, &mut own_pricing);
-        let bound = own_pricing.bound(node.accepted, node.left);
+        self.oracle
+            .write_pricing(node.accepted, node.undecided, &mut own_pricing);
+        let bound = own_pricing.bound(node.accepted, node.undecided);
         if bound >= node.bound {
-            self.branch(node, incumbent, found);
+            self.branch(node, incumbent, state);
             return;
         }
         let node = Node {
             accepted: node.accepted,
             rejected: node.rejected,
-            left: node.left,
+            undecided: node.undecided,
             bound,
             pricing: &own_pricing,
             slack: node.slack,
         };
-        if is_passed(&node, found) {
+        if is_passed(&node, state) {
             return;
         }
-        self.branch(&node, incumbent, found);
+        self.branch(&node, incumbent, state);
     }
 
     /// Walks both decisions on the next place, first the one that the sign of the block's gain is for. If no place
     /// is left, it tries the selection.
     #[cycle(visit)]
-    fn branch<I: Incumbent>(&self, node: &Node, incumbent: &mut I, found: &mut WalkState)
-        requires node { IsNode node.now.accepted node.now.rejected node.now.left.now }
-        requires bounded { IsBounded (P.problem self.now.priced.now) node.now.pricing.now
-            node.now.accepted node.now.left.now node.now.bound }
-        requires slack { IsSlack self.now.problem.now self.now.limits.now.limits
-            node.now.accepted node.now.left.now node.now.slack.now }
-        requires reached { (pos found.old.incumbent_read ≤ℤ node.now.bound)
-            × (found.old.incumbent_read < 2 ^ 63) }
+    fn branch<I: Incumbent>(&self, node: &Node, incumbent: &mut I, state: &mut WalkState)
+        requires node { IsNode self.now.problem.now (P.problem self.now.oracle.now)
+            self.now.net_limits.now.limits node.now }
+        requires reached { (pos state.old.incumbent_read ≤ℤ node.now.bound)
+            × (state.old.incumbent_read < 2 ^ 63) }
         requires ready { IsReady
-            (I.greatest_read incumbent.old) (I.greatest_offer incumbent.old) found.old }
-        ensures walked { IsWalkedOpen self.now.problem.now node.now.accepted node.now.left.now
+            (I.greatest_read incumbent.old) (I.greatest_offer incumbent.old) state.old }
+        ensures walked { IsWalkedOpen self.now.problem.now node.now.accepted node.now.undecided.now
             (I.greatest_offer incumbent.old)
             (I.greatest_read incumbent.new) (I.greatest_offer incumbent.new)
-            found.old found.new }
+            state.old state.new }
         ensures kept { I.kept incumbent.new ≡ I.kept incumbent.old }
     {
         dam_blocks::laws::ranking_is_total();
-        let Some((place, left)) = node.left.split_first() else {
-            self.offer_if_best(node.accepted, node.pricing, incumbent, found);
+        let Some((place, rest)) = node.undecided.split_first() else {
+            self.offer_if_best(node.accepted, node.pricing, incumbent, state);
             return;
         };
         let place = usize::from(*place);
         let accept = node.pricing.gains[place] >= 0;
-        self.decide(node, place, left, accept, incumbent, found);
-        self.decide(node, place, left, !accept, incumbent, found);
+        self.walk_decision(node, place, rest, accept, incumbent, state);
+        self.walk_decision(node, place, rest, !accept, incumbent, state);
     }
 
     /// Walks the node with this decision on the block at `place`, unless no eligible selection has it, by the conflicts
-    /// or by the slack that it leaves. `left` are the places that are left then.
+    /// or by the slack that it leaves. `rest` are the places after `place`.
     #[cycle(visit)]
-    fn decide<I: Incumbent>(
+    fn walk_decision<I: Incumbent>(
         &self,
         node: &Node,
         place: usize,
-        left: &[u8],
+        rest: &[u8],
         accept: bool,
         incumbent: &mut I,
-        found: &mut WalkState,
+        state: &mut WalkState,
     )
-        requires split { node.now.left.now ≡ place ∷ left.now }
-        requires node { IsNode node.now.accepted node.now.rejected node.now.left.now }
-        requires bounded { IsBounded (P.problem self.now.priced.now) node.now.pricing.now
-            node.now.accepted node.now.left.now node.now.bound }
-        requires slack { IsSlack self.now.problem.now self.now.limits.now.limits
-            node.now.accepted node.now.left.now node.now.slack.now }
+        requires split { node.now.undecided.now ≡ place ∷ rest.now }
+        requires node { IsNode self.now.problem.now (P.problem self.now.oracle.now)
+            self.now.net_limits.now.limits node.now }
         requires reached { pos 0 ≤ℤ node.now.bound }
         requires ready { IsReady
-            (I.greatest_read incumbent.old) (I.greatest_offer incumbent.old) found.old }
+            (I.greatest_read incumbent.old) (I.greatest_offer incumbent.old) state.old }
         ensures walked { IsWalkedOpen self.now.problem.now
-            (with_place_if accept node.now.accepted place) left.now
+            (with_place_if accept node.now.accepted place) rest.now
             (I.greatest_offer incumbent.old)
             (I.greatest_read incumbent.new) (I.greatest_offer incumbent.new)
-            found.old found.new }
+            state.old state.new }
         ensures kept { I.kept incumbent.new ≡ I.kept incumbent.old }
     {
+        dam_bound::laws::gains_add_up();
         if self.forbids(node, place, accept) {
             return;
         }
-        let Some(slack) = self.limits.slack_after(node.slack, place, accept) else {
+        let Some(slack) = self.net_limits.slack_after(node.slack, place, accept) else {
             return;
         };
         let gain = node.pricing.gains[place];
-        let next = (&*node).after_decision(place, &*left, accept, gain, &slack);
-        self.visit(&next, incumbent, found);
+        let next = (&*node).after_decision(place, &*rest, accept, gain, &slack);
+        self.visit(&next, incumbent, state);
     }
 }
 
@@ -316,7 +304,7 @@ fn rejected_under(depth: usize, selection: Selection) -> Selection
     rejected
 }
 
-impl<A: Allocator, P: PricedProblem> PriceWalk<'_, A, P> {
+impl<A: Allocator, P: PriceOracle> PriceWalk<'_, A, P> {
     /// Walks a piece of the cutting, and finds its best eligible selection, apart from those with less welfare than was
     /// read of the incumbent. The answer is always done. A node is visited when the incumbent is read for it, and its bound
     /// is compared with that.
@@ -336,41 +324,41 @@ impl<A: Allocator, P: PricedProblem> PriceWalk<'_, A, P> {
         ensures kept { I.kept incumbent.new ≡ I.kept incumbent.old }
     {
         dam_blocks::laws::fronts_are_admissible();
-        use_invariant(self.problem);
+        let _invariant = self.problem.periods(); // for the proof: the invariant of a problem
         let accepted = Selection::choice(self.depth, piece);
         if !admissible(self.problem, accepted) {
             return PieceAnswer::nothing_in(piece);
         }
-        let Some(slack) = slack_of_piece(self.limits, accepted, self.depth) else {
+        let Some(slack) = slack_of_piece(self.net_limits, accepted, self.depth) else {
             return PieceAnswer::nothing_in(piece);
         };
         let mut pricing = Pricing::placeholder();
         let bound = write_pricing_of_piece(
-            self.priced,
+            self.oracle,
             accepted,
-            self.order,
+            self.decision_order,
             self.depth,
             &mut pricing,
         );
         let node = Node {
             accepted,
             rejected: rejected_under(self.depth, accepted),
-            left: self.order,
+            undecided: self.decision_order,
             bound,
             pricing: &pricing,
             slack: &slack,
         };
-        let mut found = WalkState {
+        let mut state = WalkState {
             best: None,
             incumbent_read: incumbent.read(),
             visited: 0,
         };
-        self.visit(&node, incumbent, &mut found);
+        self.visit(&node, incumbent, &mut state);
         PieceAnswer {
             piece,
-            best: found.best,
-            incumbent_read: found.incumbent_read,
-            visited: found.visited,
+            best: state.best,
+            incumbent_read: state.incumbent_read,
+            visited: state.visited,
             done: true,
         }
     }

@@ -5,15 +5,17 @@ ghost use Rattle.dam_search.specs.Piece.{IsMatched, Rises};
 
 use crate::welfare::unsigned_welfare;
 use dam_blocks::{Solution, ranks_above};
-use dam_plan::Nodes;
+use dam_plan::NodeCount;
 
-/// The state of a walk: its finding, reads and visits so far.
+/// The state of a walk so far.
 #[derive(Drop)]
 pub(crate) struct WalkState {
+    /// The best selection found.
     pub(crate) best: Option<Solution>,
     /// The greatest value read.
     pub(crate) incumbent_read: u64,
-    pub(crate) visited: Nodes,
+    /// The nodes visited. A limit on nodes stops a walk by prefixes at them; those of a walk by prices are only for tests.
+    pub(crate) visited: NodeCount,
 }
 
 /// Whether the candidate ranks above the selection found.

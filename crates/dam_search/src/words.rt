@@ -1,10 +1,10 @@
-//! The two words that the workers of a search share, and the rule that every step on them keeps.
+//! The two words that the workers of a search share, and the rule that every operation on them keeps.
 //!
 //! The claim word counts the draws, of pieces and past the last one; the incumbent word is the greatest
 //! welfare that was offered. `NOTES.md` has the rule in words and a drawing.
 ghost use Rattle.std.specs.Prelude.{◌≡◌, ◌+◌, ◌≤◌, [], ◌∷◌, IfOk};
 ghost use Rattle.dam_search.specs.Words.{most_pieces, most_seats, AreWords, IsDrawn, IsIncumbentRead, IsOffered};
-ghost use Rattle.dam_search.specs.Words.{view_of, first_view, spent_view, cut_left, cut_right, joined_view, AreClosedWords};
+ghost use Rattle.dam_search.specs.Words.{view_of, first_view, spent_view, view_after_split, split_off_view, joined_view, AreClosedWords};
 
 use crate::view::View;
 use atomic_table::{Join, Play, Split, Table, TableRule};
@@ -28,43 +28,43 @@ impl TableRule<(), View, u64> for WordRule {
 /// The two words.
 pub(crate) type Words = Table<(), View, u64, WordRule, Global>;
 
-/// The right of one thread to step on the words, with its knowledge of them.
+/// The right of one thread to operate on the words, with its knowledge of them.
 pub(crate) type Seat = atomic_table::Seat<(), View>;
 
 /// A draw: 1 is added to the claim word.
-pub(crate) struct Draw;
+pub(crate) struct DrawPiece;
 
-impl Play<(), View> for Draw {
+impl Play<(), View> for DrawPiece {
     ghost then = { λ _. IsDrawn };
 }
 
 /// A load of the incumbent word.
-pub(crate) struct Read;
+pub(crate) struct ReadIncumbent;
 
-impl Play<(), View> for Read {
+impl Play<(), View> for ReadIncumbent {
     ghost then = { λ _. IsIncumbentRead };
 }
 
 /// The incumbent word becomes the greater of itself and the offer.
-pub(crate) struct Offer;
+pub(crate) struct OfferWelfare;
 
-impl Play<(), View> for Offer {
+impl Play<(), View> for OfferWelfare {
     ghost then = { IsOffered };
 }
 
 /// A new seat is split off.
-pub(crate) struct SplitOff;
+pub(crate) struct SplitSeat;
 
-impl Split<View> for SplitOff {
-    ghost left = { cut_left };
+impl Split<View> for SplitSeat {
+    ghost left = { view_after_split };
 
-    ghost right = { cut_right };
+    ghost right = { split_off_view };
 }
 
 /// A seat is joined into another.
-pub(crate) struct JoinIn;
+pub(crate) struct JoinSeats;
 
-impl Join<View> for JoinIn {
+impl Join<View> for JoinSeats {
     ghost both = { joined_view };
 
     ghost spent = { spent_view };

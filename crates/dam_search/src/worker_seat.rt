@@ -1,12 +1,14 @@
-//! Each step of a worker on the shared words is one atomic operation, for which its view accounts.
+//! A worker takes each piece and offers each welfare by one atomic operation, for which its view accounts.
 
 ghost use Rattle.std.specs.Prelude.{◌≡◌, ◌<◌, ◌≤◌, length, [], ◌∷◌, ◌++◌, None, IfSome};
 ghost use Rattle.atomic_table.specs.Seated.{TableId};
 ghost use Rattle.dam_search.specs.declared.view.View.{View};
-ghost use Rattle.dam_search.specs.Words.{view_of, first_view, cut_left, cut_right, joined_view, standing};
+ghost use Rattle.dam_search.specs.Words.{view_of, first_view, view_after_split, split_off_view, joined_view, standing};
 
 use crate::incumbent::Incumbent;
-use crate::words::{CLAIM, Draw, INCUMBENT, JoinIn, Offer, Read, Seat, SplitOff, Words};
+use crate::words::{
+    CLAIM, DrawPiece, INCUMBENT, JoinSeats, OfferWelfare, ReadIncumbent, Seat, SplitSeat, Words,
+};
 
 /// A worker's seat at the two words of a search: it draws pieces, and it is the incumbent that prunes the worker's
 /// pieces. A contract sees its knowledge as `view_of seat`.
@@ -17,13 +19,13 @@ use crate::words::{CLAIM, Draw, INCUMBENT, JoinIn, Offer, Read, Seat, SplitOff, 
 /// all of them. And a seat that drew past the last piece draws no more.
 ///
 /// A draw is one `fetch_add`, a read one load and an offer one `fetch_max`, all of them sequentially
-/// consistent. That is enough, because the steps on both words then have one order, and each step in
-/// it keeps the rule of the words. The words pass nothing else from thread to thread. The problem and
+/// consistent. That is enough, because the operations on both words then have one order, and each of
+/// them keeps the rule of the words. The words pass nothing else from thread to thread. The problem and
 /// its bounds were there before the threads began, and a thread's answers are read when it has ended.
 #[derive(Drop)]
 pub(crate) struct WorkerSeat<'a> {
     words: &'a Words,
-    /// The right to step on the words, and its knowledge of them.
+    /// The right to operate on the words, and its knowledge of them.
     pub(crate) seat: Seat,
     pieces: u32,
     ghost seated: { seat.table_id ≡ words.now.shared.table_id },
@@ -53,10 +55,10 @@ impl<'a> WorkerSeat<'a> {
         requires { 0 < (view_of self.old.seat).seats_left }
         ensures table { self.new.seat.table_id ≡ self.old.seat.table_id }
         ensures same { result.seat.table_id ≡ self.old.seat.table_id }
-        ensures left { view_of self.new.seat ≡ cut_left (view_of self.old.seat) }
-        ensures right { view_of result.seat ≡ cut_right (view_of self.old.seat) }
+        ensures after { view_of self.new.seat ≡ view_after_split (view_of self.old.seat) }
+        ensures split_off { view_of result.seat ≡ split_off_view (view_of self.old.seat) }
     {
-        let seat = self.words.shared.split_seat::<SplitOff>(&mut self.seat);
+        let seat = self.words.shared.split_seat::<SplitSeat>(&mut self.seat);
         WorkerSeat {
             words: self.words,
             seat,
@@ -72,10 +74,12 @@ impl<'a> WorkerSeat<'a> {
             ≡ joined_view (view_of self.old.seat) (view_of other.entry.seat) }
     {
         let seat = other.into_seat();
-        self.words.shared.join_seat::<JoinIn>(&mut self.seat, seat);
+        self.words
+            .shared
+            .join_seat::<JoinSeats>(&mut self.seat, seat);
     }
 
-    /// The right to step on the words, once nobody needs them.
+    /// The right to operate on the words, for the close.
     pub(crate) fn into_seat(self) -> Seat
         ensures { result ≡ self.entry.seat }
     {
@@ -110,7 +114,7 @@ impl<'a> WorkerSeat<'a> {
         let next = self
             .words
             .shared
-            .fetch_add::<Draw>(&mut self.seat, CLAIM, 1);
+            .fetch_add::<DrawPiece>(&mut self.seat, CLAIM, 1);
         if next < u64::from(self.pieces) {
             Some(next as u32)
         } else {
@@ -129,12 +133,14 @@ impl Incumbent for WorkerSeat<'_> {
     ghost kept = { λ s. (standing (view_of s.seat), s.seat.table_id) };
 
     fn read(&mut self) -> u64 {
-        self.words.shared.load::<Read>(&mut self.seat, INCUMBENT)
+        self.words
+            .shared
+            .load::<ReadIncumbent>(&mut self.seat, INCUMBENT)
     }
 
     fn offer(&mut self, welfare: u64) {
         self.words
             .shared
-            .fetch_max::<Offer>(&mut self.seat, INCUMBENT, welfare);
+            .fetch_max::<OfferWelfare>(&mut self.seat, INCUMBENT, welfare);
     }
 }

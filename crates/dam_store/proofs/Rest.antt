@@ -53,12 +53,6 @@ module _ (file : List ℕ) (end : ℕ) (lines : List (List ℕ)) (r : IsAtRest f
   pub rest_length : length file ≡ end + 1 + length (drop (end + 1) file)
   rest_length = omega (arith, ap length r.split, length-append (bytes_on_disk lines) (45 ∷ drop (end + 1) file), r.end_is)
 
-  pub rest_stands : StandsFor lines file
-  rest_stands =
-      subst (StandsFor lines) (sym r.split)
-      (stands_on_disk lines (45 ∷ drop (end + 1) file) r.whole (inl refl) (omega (arith, rest_length, r.short, r.end_is))
-      (omega (arith, ap length r.split, r.short)))
-
   split_after_mark : file ≡ (bytes_on_disk lines ++ 45 ∷ []) ++ drop (end + 1) file
   split_after_mark = r.split ∙ sym (append_assoc (bytes_on_disk lines) (45 ∷ []) (drop (end + 1) file))
 

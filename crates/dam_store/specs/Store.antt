@@ -2,7 +2,7 @@
 use Rattle.std.specs.Prelude.{◌≡◌, Bool, false, List, ℕ, ◌∷◌, ◌++◌}
 use Rattle.sqlite_disk.specs.declared.Disk.{Ghosts}
 use Rattle.dam_store.specs.FileLines.{lines_in, bytes_on_disk, has_byte, StandsFor}
-use Rattle.dam_store.specs.declared.open.Found.{Found}
+use Rattle.dam_store.specs.declared.found_store.FoundStore.{FoundStore}
 use Rattle.dam_store.specs.declared.store.Store.{Store}
 
 -- the disk that a store writes to
@@ -10,7 +10,7 @@ abbrev pub disk_of : {D : Type 0} {g : Ghosts D} → Store D g → D
 disk_of store = store.disk
 
 -- the disk on which a store was found
-abbrev pub found_on : {D : Type 0} {g : Ghosts D} → Found D g → D
+abbrev pub found_on : {D : Type 0} {g : Ghosts D} → FoundStore D g → D
 found_on found = found.disk
 
 -- a write or a sync has failed

@@ -11,8 +11,8 @@ ghost use Rattle.dam_store.specs.declared.fault.StoreFault.TheVariants.{Memory};
 use crate::disk::read_file;
 use crate::fault::StoreFault;
 use crate::limits::MOST_FILE_BYTES;
+use crate::marked_lines::read_marked_lines;
 use crate::recovery::{HEAD_LINE, is_unmade};
-use crate::scan::read_lines;
 use sqlite_disk::Disk;
 use std::alloc::Global;
 
@@ -26,7 +26,7 @@ pub(crate) struct FileLines {
 }
 
 /// The lines that a file's bytes stand for.
-pub(crate) fn file_lines(alloc: Global, file: &[u8]) -> Result<FileLines, StoreFault>
+pub(crate) fn lines_of_file_bytes(alloc: Global, file: &[u8]) -> Result<FileLines, StoreFault>
     requires { length file.now ≤ most_file_bytes }
     ensures text { IfOk result (λ found. (lines : List (List ℕ))
         × StandsFor lines file.now × (found.text.items ≡ text_of lines)) }
@@ -41,7 +41,7 @@ pub(crate) fn file_lines(alloc: Global, file: &[u8]) -> Result<FileLines, StoreF
             Err(StoreFault::NotAStore)
         };
     }
-    let found = read_lines(alloc, &file[HEAD_LINE.len()..])?;
+    let found = read_marked_lines(alloc, &file[HEAD_LINE.len()..])?;
     let end = HEAD_LINE.len() + found.end;
     if end >= MOST_FILE_BYTES {
         return Err(StoreFault::Full);
@@ -61,7 +61,7 @@ pub fn text_of_file_bytes(alloc: Global, file: &[u8]) -> Result<Vec<u8>, StoreFa
     if file.len() > MOST_FILE_BYTES {
         return Err(StoreFault::TooLong);
     }
-    let found = file_lines(alloc, file)?;
+    let found = lines_of_file_bytes(alloc, file)?;
     Ok(found.text)
 }
 
@@ -86,17 +86,22 @@ fn keep_after_lines(file: &mut Vec<u8>, end: Option<usize>)
     }
 }
 
-/// Syncs the file, and reads it. Returns the bytes from the end of its lines on, and the lines.
-pub(crate) fn sync_and_read<D: Disk>(
-    alloc: Global,
-    disk: &mut D,
-) -> Result<(Vec<u8>, FileLines), StoreFault>
+/// The lines of a file that was read from its disk.
+#[derive(Drop)]
+pub(crate) struct FoundLines {
+    pub(crate) lines: FileLines,
+    /// The bytes of the file from the end of its lines on; all, if it was never made whole.
+    pub(crate) rest: Vec<u8>,
+}
+
+/// Syncs the file, and reads it.
+pub(crate) fn sync_and_read<D: Disk>(alloc: Global, disk: &mut D) -> Result<FoundLines, StoreFault>
     requires usable { IsTrue (D.Disk.is_usable disk.old) }
     ensures synced { OnOk result (IsSynced D.Disk disk.new) }
-    ensures rest { IfOk result (λ found. IsRest D.Disk disk.new found.1.end found.0.items) }
+    ensures rest { IfOk result (λ found. IsRest D.Disk disk.new found.lines.end found.rest.items) }
     ensures text { IfOk result (λ found. IsTrue (D.Disk.is_clean disk.new)
         → (lines : List (List ℕ)) × StandsFor lines (D.Disk.seen disk.old)
-        × (found.1.text.items ≡ text_of lines)) }
+        × (found.lines.text.items ≡ text_of lines)) }
     ensures reads { OnlyReads D.Disk disk.old disk.new result }
     ensures no_other { IfErr result (λ fault. (is_failed_read fault ≡ true)
         ⊎ (is_failed_sync fault ≡ true) ⊎ (is_refused_file fault ≡ true) ⊎ (fault ≡ Memory)) }
@@ -104,8 +109,8 @@ pub(crate) fn sync_and_read<D: Disk>(
         (λ fault. D.Disk.is_usable disk.new ≡ not (is_failed_sync fault)) }
 {
     disk.sync().map_err(StoreFault::Sync)?;
-    let mut bytes = read_file(alloc, disk)?;
-    let lines = file_lines(alloc, &bytes)?;
-    keep_after_lines(&mut bytes, lines.end);
-    Ok((bytes, lines))
+    let mut rest = read_file(alloc, disk)?;
+    let lines = lines_of_file_bytes(alloc, &rest)?;
+    keep_after_lines(&mut rest, lines.end);
+    Ok(FoundLines { lines, rest })
 }

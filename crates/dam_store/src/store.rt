@@ -82,7 +82,6 @@ impl<D: Disk> Store<D> {
         ensures no_other { IfErr result
             (λ fault. (is_failed_write fault ≡ true) ⊎ (fault ≡ Full)
             ⊎ ((fault ≡ Broken) × (is_broken self.old ≡ true))) }
-        // A sync failed exactly if the disk can't be used any more.
         ensures usable { is_broken self.old ≡ false → MatchResult result
             (λ _. IsTrue (D.Disk.is_usable (disk_of self.new)))
             (λ fault. D.Disk.is_usable (disk_of self.new) ≡ not (is_failed_sync fault)) }

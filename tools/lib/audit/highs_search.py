@@ -10,13 +10,17 @@ that its finds are better is checked."""
 import contextlib
 import itertools
 import os
+from collections.abc import Callable, Iterator, Sequence
 
 import numpy
 from scipy import optimize, sparse
 
 from ..base import rules
+from ..journal.journal import Order, Volumes
+from ..process.progress import Progress
 from ..results import selection
 from . import recursive_enumeration
+from .recursive_enumeration import Curve, Selection
 
 EUR, MW = 100, 10  # cents and tenths: the program is reckoned in EUR per MWh and MW, for moderate numbers
 
@@ -30,7 +34,7 @@ LIMIT, NO_SOLUTION = 1, 2  # statuses of scipy's
 
 
 @contextlib.contextmanager
-def discarding_stdout():
+def discarding_stdout() -> Iterator[None]:
     """Discards the output of HiGHS itself on standard output."""
     print(end="", flush=True)
     kept, nowhere = os.dup(1), os.open(os.devnull, os.O_WRONLY)
@@ -50,25 +54,29 @@ class GaveUp(Exception):
 class Program:
     """Columns with a cost and bounds, and rows with bounds, as HiGHS takes them."""
 
-    def __init__(self):
-        self.costs, self.lower, self.upper, self.whole = [], [], [], []
-        self.at, self.rows = [], []
+    def __init__(self) -> None:
+        self.costs: list[float] = []
+        self.lower: list[float] = []
+        self.upper: list[float] = []
+        self.whole: list[bool] = []
+        self.terms: list[tuple[int, int, float]] = []  # a row, a column and a factor
+        self.rows: list[tuple[float, float]] = []
 
-    def add_and_return_column(self, cost=0.0, lower=0.0, upper=numpy.inf, whole=False):
+    def add_column(self, cost: float = 0.0, lower: float = 0.0, upper: float = numpy.inf, whole: bool = False) -> int:
         self.costs.append(cost)
         self.lower.append(lower)
         self.upper.append(upper)
         self.whole.append(whole)
         return len(self.costs) - 1
 
-    def add_and_return_row(self, terms, lower=-numpy.inf, upper=numpy.inf):
+    def add_row(self, terms: Sequence[tuple[int, float]], lower: float = -numpy.inf, upper: float = numpy.inf) -> int:
         """Terms are pairs of a column and a factor. Answers the row's number."""
-        self.at += [(len(self.rows), column, factor) for column, factor in terms]
+        self.terms += [(len(self.rows), column, factor) for column, factor in terms]
         self.rows.append((lower, upper))
         return len(self.rows) - 1
 
-    def solve(self, seconds, presolve):
-        rows, columns, factors = zip(*self.at)
+    def solve(self, seconds: float, presolve: bool) -> optimize.OptimizeResult:
+        rows, columns, factors = zip(*self.terms)
         matrix = sparse.csc_matrix((factors, (rows, columns)), shape=(len(self.rows), len(self.costs)))
         lower, upper = zip(*self.rows)
         with discarding_stdout():
@@ -88,26 +96,28 @@ class Model:
     all buys less the cost of the part that is taken; the gain of all steps and accepted blocks together is never less, and equal exactly
     if the prices support the execution, which is the one row over the whole day."""
 
-    def __init__(self, problem):
+    def __init__(self, problem: selection.Problem) -> None:
         self.problem = problem
         self.program = Program()
         curves = recursive_enumeration.curves_by_period(problem)
-        self.accepted = [self.program.add_and_return_column(whole=True, upper=1) for _ in problem.blocks]
-        self.welfare, self.duality, self.value = [], [], 0
+        self.accepted = [self.program.add_column(whole=True, upper=1) for _ in problem.blocks]
+        self.value = 0.0
+        self.welfare: list[tuple[int, float]] = []
+        self.duality: list[tuple[int, float]] = []
         self.size = 1.0  # of the greatest sum, by which the slack goes
-        self.prices = {number: self.add_period_and_return_price_column(number, curve) for number, curve in curves.items()}
-        gains = [self.add_gain_and_return_column(place, block.order) for place, block in enumerate(problem.blocks)]
+        self.prices = {number: self.add_period(number, curve) for number, curve in curves.items()}
+        gains = [self.add_gain(place, block.order) for place, block in enumerate(problem.blocks)]
         for place, gain in enumerate(gains):
             gains_of_rescuers = [(gains[other], 1) for other in problem.rescuers[place]]
-            self.program.add_and_return_row([(gain, 1), *gains_of_rescuers], lower=0)
+            self.program.add_row([(gain, 1), *gains_of_rescuers], lower=0)
         self.add_links_and_groups()
         self.slack = max(HALF, ROUNDING * self.size)
-        self.program.add_and_return_row(self.duality, upper=ROOM * self.slack)
-        self.least = self.program.add_and_return_row(self.welfare)
+        self.program.add_row(self.duality, upper=ROOM * self.slack)
+        self.least = self.program.add_row(self.welfare)
         for column, factor in self.welfare:
             self.program.costs[column] -= factor
 
-    def add_period_and_return_price_column(self, number, curve):
+    def add_period(self, number: int, curve: Curve) -> int:
         """The rows of a period; its price's column."""
         nets = [
             (place, volume)
@@ -118,25 +128,24 @@ class Model:
         least = max(sum(min(volume, 0) for _, volume in nets), curve.least)
         most = min(sum(max(volume, 0) for _, volume in nets), curve.most)
         lower, upper = least_and_greatest_price(curve, least, most)
-        lower, upper = lower / EUR, upper / EUR
-        price = self.program.add_and_return_column(lower=lower, upper=upper)
+        price = self.program.add_column(lower=lower / EUR, upper=upper / EUR)
         taken = []
-        for limit, volume in zip(curve.limits, curve.volumes):
-            limit, volume = limit / EUR, volume / MW
-            take = self.program.add_and_return_column(upper=volume)
-            gain = self.program.add_and_return_column()
-            self.program.add_and_return_row([(gain, 1), (price, -volume)], lower=-limit * volume)
+        for cents, tenths in zip(curve.limits, curve.volumes):
+            limit, volume = cents / EUR, tenths / MW
+            take = self.program.add_column(upper=volume)
+            gain = self.program.add_column()
+            self.program.add_row([(gain, 1), (price, -volume)], lower=-limit * volume)
             self.welfare.append((take, -limit))
             self.duality += [(take, limit), (gain, 1)]
             self.size += abs(limit * volume)
             taken.append((take, 1))
-        balance = [(self.accepted[place], volume / MW) for place, volume in nets]
-        self.program.add_and_return_row(taken + balance, lower=curve.most / MW, upper=curve.most / MW)
+        balance = [(self.accepted[place], tenths / MW) for place, tenths in nets]
+        self.program.add_row(taken + balance, lower=curve.most / MW, upper=curve.most / MW)
         self.duality.append((price, -curve.most / MW))
         self.value += curve.value / (EUR * MW)
         return price
 
-    def add_gain_and_return_column(self, place, order):
+    def add_gain(self, place: int, order: Order) -> int:
         """The column of a block's gain: its surplus if it is accepted, else 0."""
         accepted, limit = self.accepted[place], order.price / EUR
         volumes = [(number, volume / MW) for number, volume in selection.net_volumes(order)]
@@ -144,40 +153,40 @@ class Model:
             [net * (bound[self.prices[number]] - limit) for bound in (self.program.lower, self.program.upper)]
             for number, net in volumes
         ]
-        least, most = min(0, sum(map(min, ends))), max(0, sum(map(max, ends)))
-        gain = self.program.add_and_return_column(lower=least, upper=most)
-        self.program.add_and_return_row([(gain, 1), (accepted, -most)], upper=0)
-        self.program.add_and_return_row([(gain, 1), (accepted, -least)], lower=0)
+        least, most = min(0, sum(min(pair) for pair in ends)), max(0, sum(max(pair) for pair in ends))
+        gain = self.program.add_column(lower=least, upper=most)
+        self.program.add_row([(gain, 1), (accepted, -most)], upper=0)
+        self.program.add_row([(gain, 1), (accepted, -least)], lower=0)
         surplus = [(self.prices[number], -net) for number, net in volumes]
         total = sum(net for _, net in volumes)
         # At least the surplus at the price, if it is accepted.
-        self.program.add_and_return_row([(gain, 1), *surplus, (accepted, -most)], lower=-limit * total - most)
+        self.program.add_row([(gain, 1), *surplus, (accepted, -most)], lower=-limit * total - most)
         self.welfare.append((accepted, -limit * total))
         self.duality += [(gain, 1), (accepted, limit * total)]
         self.size += max(abs(limit * total), most, -least)
         return gain
 
-    def add_links_and_groups(self):
+    def add_links_and_groups(self) -> None:
         for place, parent in enumerate(self.problem.parents):
             if parent is not None:
-                self.program.add_and_return_row([(self.accepted[place], -1), (self.accepted[parent], 1)], lower=0)
+                self.program.add_row([(self.accepted[place], -1), (self.accepted[parent], 1)], lower=0)
         for members in self.problem.groups().values():
-            self.program.add_and_return_row([(self.accepted[place], 1) for place in members], upper=rules.MOST_OF_GROUP)
+            self.program.add_row([(self.accepted[place], 1) for place in members], upper=rules.MOST_OF_GROUP)
         for one, other in pairs_of_equal_blocks(self.problem):
-            self.program.add_and_return_row([(self.accepted[one], 1), (self.accepted[other], -1)], lower=0)
+            self.program.add_row([(self.accepted[one], 1), (self.accepted[other], -1)], lower=0)
 
-    def restrict(self, welfare, fixed, room):
+    def restrict(self, welfare: int, fixed: Sequence[int], room: float) -> None:
         """From now on solutions have at least a welfare, and accept or reject the blocks at the first places as in a list."""
         self.program.rows[self.least] = (welfare / (EUR * MW) - self.value - room * self.slack, numpy.inf)
         for place, column in enumerate(self.accepted):
             self.program.lower[column] = fixed[place] if place < len(fixed) else 0
             self.program.upper[column] = fixed[place] if place < len(fixed) else 1
 
-    def forbid(self, accepted):
+    def forbid(self, accepted: frozenset[int]) -> None:
         terms = [(column, -1 if place in accepted else 1) for place, column in enumerate(self.accepted)]
-        self.program.add_and_return_row(terms, lower=1 - len(accepted))
+        self.program.add_row(terms, lower=1 - len(accepted))
 
-    def solve_for_selection_or_none(self, seconds):
+    def solve_for_selection(self, seconds: float) -> frozenset[int] | None:
         """A selection that isn't forbidden; None if there is none. Fails if HiGHS doesn't say.
 
         For books with equal prices HiGHS sometimes says wrongly that there is none, with its presolve or without; if it is
@@ -193,7 +202,7 @@ class Model:
         return None
 
 
-def least_and_greatest_price(curve, least, most):
+def least_and_greatest_price(curve: Curve, least: int, most: int) -> tuple[int, int]:
     """Between which prices the rule's price lies, for the net volumes from `least` to `most`: between supporting prices, and
     never beyond the limits of all orders but where no order or every one is taken."""
     edges = [rules.price_and_case(*curve.supporting_prices(net))[0] for net in (curve.least, curve.most)]
@@ -201,13 +210,13 @@ def least_and_greatest_price(curve, least, most):
     return max(lower, curve.supporting_prices(most)[0]), min(upper, curve.supporting_prices(least)[1])
 
 
-def pairs_of_equal_blocks(problem):
+def pairs_of_equal_blocks(problem: selection.Problem) -> Iterator[tuple[int, int]]:
     """Pairs of blocks that differ in name alone, without links and groups: the best selection doesn't accept the later one
     alone, since the earlier one in its place would rank above."""
     named = {place for place, parent in enumerate(problem.parents) if parent is not None}
     named |= {parent for parent in problem.parents if parent is not None}
     named |= {place for members in problem.groups().values() for place in members}
-    last = {}
+    last: dict[tuple[str, int, Volumes], int] = {}
     for place, block in enumerate(problem.blocks):
         if place not in named:
             key = block.order.side, block.order.price, block.order.volumes
@@ -216,7 +225,7 @@ def pairs_of_equal_blocks(problem):
             last[key] = place
 
 
-def questions_to_highs(accepted, welfare, blocks):
+def questions_to_highs(accepted: frozenset[int], welfare: int, blocks: int) -> Iterator[tuple[int, list[int]]]:
     """The question to HiGHS: the least welfare, and how the blocks at the first places are decided."""
     flags = [int(place in accepted) for place in range(blocks)]
     yield welfare + 1, []
@@ -225,22 +234,28 @@ def questions_to_highs(accepted, welfare, blocks):
             yield welfare, flags[:place] + [1]
 
 
-def search_with_highs(problem, accepted, welfare, progress, tell=lambda words: None):
+def search_with_highs(
+    problem: selection.Problem,
+    accepted: frozenset[int],
+    welfare: int,
+    progress: Progress,
+    tell: Callable[[str], object] = lambda words: None,
+) -> tuple[Selection | None, str]:
     """A selection that ranks above this eligible one, or None if HiGHS has none; and how that was found. `tell` gets in words how far
     the search is."""
     model = Model(problem)
     model.forbid(accepted)
     looked = 0
-    tell(progress_words(looked))
+    tell(progress_text(looked))
     for least, fixed in questions_to_highs(accepted, welfare, len(problem.blocks)):
         for count in itertools.count():
             model.restrict(least, fixed, ROOM if count < TOO_MANY else 1)
-            other = solve_in_time_or_none(model, progress, looked)
+            other = solve_in_time(model, progress, looked)
             if other is None:
                 break
             looked += 1
-            tell(progress_words(looked))
-            value = selection.eligible_welfare_or_none(problem, other)
+            tell(progress_text(looked))
+            value = selection.eligible_welfare(problem, other)
             if value is not None and selection.ranks_above(len(problem.blocks), value, other, welfare, accepted):
                 return recursive_enumeration.Selection(other, value), "found by HiGHS"
             model.forbid(other)
@@ -248,18 +263,18 @@ def search_with_highs(problem, accepted, welfare, progress, tell=lambda words: N
     return None, f"HiGHS offers {looked} other{'s' * (looked > 1)}, {kind}" if looked else "HiGHS found none better"
 
 
-def progress_words(looked):
+def progress_text(looked: int) -> str:
     """How far the search is, in words, as long as nothing better was offered."""
     found = f", and has offered {looked} other selection{'s' * (looked > 1)}" if looked else ""
     return f"HiGHS is still searching{found}"
 
 
-def solve_in_time_or_none(model, progress, looked):
+def solve_in_time(model: Model, progress: Progress, looked: int) -> frozenset[int] | None:
     """The next selection that HiGHS offers, or None. Fails if no time is left."""
     left = progress.seconds_left()
     try:
         if left > 0:
-            return model.solve_for_selection_or_none(left)
+            return model.solve_for_selection(left)
     except TimeoutError:
         pass
-    raise TimeoutError(progress.timeout_message(progress_words(looked)))
+    raise TimeoutError(progress.timeout_message(progress_text(looked)))

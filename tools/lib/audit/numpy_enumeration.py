@@ -15,14 +15,18 @@ All numbers are whole, of 64 bits, which no sum exceeds (`greatest_sum`)."""
 
 import itertools
 import threading
+from collections.abc import Iterable, Sequence
 from concurrent.futures import ThreadPoolExecutor
 
 import numpy
 
 from ..base import rules
+from ..process.progress import Progress
 from ..results import selection
-from .recursive_enumeration import Curve, Selection, tried_words
+from ..results.period import Orders
+from .recursive_enumeration import Curve, Selection, tried_text
 
+Numbers = numpy.ndarray
 LOW_BITS = 14
 # The welfare of a period that doesn't balance. It is so low that a sum with it is under every welfare, and 100 of it are a number.
 NEVER = -(2**56)
@@ -30,7 +34,7 @@ NEVER = -(2**56)
 MOST_SELECTIONS, FEW_SELECTIONS = 2**14, 2**10
 
 
-def subset_sums(parts):
+def subset_sums(parts: Sequence[int]) -> Numbers:
     """The sum of each subset of these numbers, by the subset's number; the first part has the highest bit."""
     sums = numpy.zeros(1, dtype=numpy.int64)
     for part in reversed(parts):
@@ -41,7 +45,7 @@ def subset_sums(parts):
 class Period:
     """The tables of a period, by how many tenths of a MW its hourly orders take."""
 
-    def __init__(self, orders, takes, low_bits):
+    def __init__(self, orders: Orders, takes: Sequence[int], low_bits: int) -> None:
         """`takes` has the tenths that each block takes, if it is accepted; a sell's are under 0."""
         self.curve = Curve(orders)
         self.limits, self.ends, self.buys = self.curve.limits, self.curve.ends, self.curve.most
@@ -53,20 +57,20 @@ class Period:
         self.most = self.buys + int(self.high.max() + self.low.max())
         self.first, self.last = max(self.least, 0), min(self.most, self.ends[-1])
         self.lock = threading.Lock()
-        self.coded = None
+        self.coded: tuple[Numbers, Numbers] | None = None
 
-    def welfares(self):
+    def welfares(self) -> Numbers:
         """The welfare by the volume that is taken, from `least` to `most`."""
         table = numpy.full(self.most - self.least + 1, NEVER, dtype=numpy.int64)
         balanced = table[self.first - self.least : self.last - self.least + 1]
-        balanced[0] = self.curve.welfare_or_none(self.buys - self.first)
+        balanced[0] = self.curve.welfare_at(self.buys - self.first)
         # The welfare that each further tenth adds.
         counts = numpy.diff(numpy.clip(self.ends, self.first, self.last))
         balanced[1:] = numpy.repeat(-numpy.array(self.limits, dtype=numpy.int64), counts)
         numpy.cumsum(balanced, out=balanced)
         return table
 
-    def prices(self, highs, lows):
+    def prices(self, highs: Numbers, lows: Numbers) -> Numbers:
         """The period's price for each of these pairs of numbers of high and of low bits, for which it balances."""
         with self.lock:
             if self.coded is None:
@@ -77,7 +81,7 @@ class Period:
         taken += self.buys - self.first
         return prices.take(codes.take(taken))
 
-    def codes_and_prices(self):
+    def codes_and_prices(self) -> tuple[Numbers, Numbers]:
         """For each number of tenths from `first` to `last` the place of its price in a list, and that list.
 
         The last tenth taken and the next one have the ends of the supporting prices. So the price changes only where the limits
@@ -94,10 +98,10 @@ class Period:
         return codes, numpy.array(prices[:-1], dtype=numpy.int64)[there]
 
 
-class Links:
+class Admissibility:
     """Which numbers links and groups admit."""
 
-    def __init__(self, problem):
+    def __init__(self, problem: selection.Problem) -> None:
         count = len(problem.blocks)
         bit = [1 << (count - 1 - place) for place in range(count)]
         # A child's bit needs its parent's, which is higher; too many bits of a group don't go together.
@@ -109,7 +113,7 @@ class Links:
             for places in itertools.combinations(members, too_many)
         ]
 
-    def admitted_within(self, bits, numbers):
+    def admitted_within(self, bits: int, numbers: Numbers) -> Numbers:
         """Those of these numbers, which have some of these bits alone, that no link or group among the bits forbids."""
         admitted = numpy.ones(len(numbers), dtype=bool)
         for child, parent in self.needs:
@@ -120,7 +124,7 @@ class Links:
                 admitted &= numbers & these != these
         return numbers[admitted]
 
-    def are_admitted_across(self, low_bits, numbers, high):
+    def are_admitted_across(self, low_bits: int, numbers: Numbers, high: int) -> Numbers:
         """Whether each number of low bits is admitted together with one of high bits."""
         admitted = numpy.ones(len(numbers), dtype=bool)
         for child, parent in self.needs:
@@ -136,14 +140,13 @@ class Links:
 class Floor:
     """The published selection, or the best one found above it: its welfare and its number."""
 
-    def __init__(self, welfare, number):
+    def __init__(self, welfare: int, number: int) -> None:
         self.welfare, self.number = welfare, number
 
-    def are_above(self, welfares, numbers):
-        """Which selections rank above it."""
+    def are_above(self, welfares: Numbers, numbers: Numbers) -> Numbers:
         return (welfares > self.welfare) | ((welfares == self.welfare) & (numbers > self.number))
 
-    def lift_to_best(self, welfares, numbers):
+    def lift_to_best(self, welfares: Numbers, numbers: Numbers) -> None:
         """The best of these selections, which rank above it, takes its place."""
         if len(numbers):
             self.welfare = int(welfares.max())
@@ -153,11 +156,11 @@ class Floor:
 class Selections:
     """All selections of a problem, to be tried in some rows at a time."""
 
-    def __init__(self, problem, low_bits=LOW_BITS):
+    def __init__(self, problem: selection.Problem, low_bits: int = LOW_BITS) -> None:
         self.problem = problem
         self.count = len(problem.blocks)
         self.low_bits = min(low_bits, self.count)
-        self.links = Links(problem)
+        self.admissibility = Admissibility(problem)
         takes = {number: [0] * self.count for number in problem.orders}
         for place, block in enumerate(problem.blocks):
             for number, net in selection.net_volumes(block.order):
@@ -169,21 +172,20 @@ class Selections:
         high_bits = self.count - self.low_bits
         self.high_own, self.low_own = subset_sums(self.own[:high_bits]), subset_sums(self.own[high_bits:])
         self.all_low = (1 << self.low_bits) - 1
-        self.lows = self.links.admitted_within(self.all_low, numpy.arange(1 << self.low_bits))
-        self.highs = self.links.admitted_within((1 << self.count) - 1 - self.all_low, numpy.arange(1 << high_bits) << self.low_bits)
+        self.lows = self.admissibility.admitted_within(self.all_low, numpy.arange(1 << self.low_bits))
+        self.highs = self.admissibility.admitted_within((1 << self.count) - 1 - self.all_low, numpy.arange(1 << high_bits) << self.low_bits)
         greatest = greatest_sum(problem)
         if greatest >= -NEVER or (len(self.periods) + 1) * -NEVER >= 2**63:
             raise AssertionError(f"sums up to {greatest} don't fit")
 
-    def prices(self, number, numbers):
+    def prices(self, number: int, numbers: Numbers) -> Numbers:
         """The price of a period that follows from each of these selections, for which it balances."""
         return self.periods[number].prices(numbers >> self.low_bits, numbers & self.all_low)
 
-    def are_accepted(self, numbers, place):
-        """Which of these selections accept a block."""
+    def are_accepted(self, numbers: Numbers, place: int) -> Numbers:
         return numbers & self.bit_of(place) != 0
 
-    def surpluses(self, place, numbers):
+    def surpluses(self, place: int, numbers: Numbers) -> Numbers:
         """The surplus of a block that follows from each of these selections."""
         volumes = selection.net_volumes(self.problem.blocks[place].order)
         total = numpy.full(len(numbers), self.own[place], dtype=numpy.int64)
@@ -191,14 +193,14 @@ class Selections:
             total += net * self.prices(number, numbers)
         return total
 
-    def are_losing(self, place, numbers):
+    def are_losing(self, place: int, numbers: Numbers) -> Numbers:
         """Whether a block loses, together with its accepted descendants, in each of these selections, which accept it."""
         gain = self.surpluses(place, numbers)
         for other in self.problem.rescuers[place]:
             gain += self.surpluses(other, numbers) * self.are_accepted(numbers, other)
         return gain < 0
 
-    def are_all_losing(self, numbers):
+    def are_all_losing(self, numbers: Numbers) -> Numbers:
         """For each block, whether it is accepted and loses in each of these selections: by families, from the last block to the
         first."""
         prices = numpy.array([self.prices(number, numbers) for number in self.periods])
@@ -210,17 +212,17 @@ class Selections:
                 gains[parent] += gains[place]
         return gains < 0
 
-    def bit_of(self, place):
+    def bit_of(self, place: int) -> int:
         return 1 << (self.count - 1 - place)
 
-    def number_of(self, accepted):
+    def number_of(self, accepted: Iterable[int]) -> int:
         return sum(self.bit_of(place) for place in accepted)
 
-    def accepted_places(self, number):
+    def accepted_places(self, number: int) -> frozenset[int]:
         return frozenset(place for place in range(self.count) if number & self.bit_of(place))
 
 
-def greatest_sum(problem):
+def greatest_sum(problem: selection.Problem) -> int:
     """No sum of the enumeration is greater, of either sign: each order at the limits of prices, with its whole volume."""
     volumes = sum(volume for row in problem.rows for _, volume in row.order.volumes)
     return 2 * volumes * max(rules.HIGHEST_PRICE, -rules.LOWEST_PRICE)
@@ -229,14 +231,14 @@ def greatest_sum(problem):
 class Rows:
     """Some rows of selections: their welfares, and the ones that rank above the published selection and have no loss."""
 
-    def __init__(self, every, highs, floor, progress):
+    def __init__(self, every: Selections, highs: Numbers, floor: Floor, progress: Progress) -> None:
         self.every, self.highs, self.progress = every, highs, progress
         self.floor = Floor(floor.welfare, floor.number)
         self.looked = self.admitted = 0
         # In which order blocks are looked at for a loss: those first that have lost most often, else from the last one.
         self.lost = dict.fromkeys(reversed(range(every.count)), 0)
 
-    def lift_and_return_floor(self):
+    def lift(self) -> Floor:
         """The best of them that ranks above the floor, as a new floor."""
         welfares = self.welfares()
         waiting, held = [], 0
@@ -249,7 +251,7 @@ class Rows:
                 waiting, held = [], 0
         return self.floor
 
-    def welfares(self):
+    def welfares(self) -> Numbers:
         """The welfare of each selection, a row for each number of high bits; NEVER or about that if a period doesn't balance."""
         every, rows = self.every, self.highs >> self.every.low_bits
         welfares = every.high_own[rows][:, None] + every.low_own[every.lows][None, :]
@@ -258,7 +260,7 @@ class Rows:
             self.progress.count_and_show_or_raise(len(self.highs))
         return welfares
 
-    def add_period_welfare(self, welfares, period, rows):
+    def add_period_welfare(self, welfares: Numbers, period: Period, rows: Numbers) -> None:
         """Adds the welfare of a period. Rows whose blocks take the same volume of it get the same welfare."""
         table = period.welfares()
         places = period.low[self.every.lows] - period.low.min()
@@ -270,17 +272,17 @@ class Rows:
                 worths = table[last:].take(places)
             welfares[row] += worths
 
-    def count_admitted_and_select_above(self, row, welfares):
+    def count_admitted_and_select_above(self, row: int, welfares: Numbers) -> tuple[Numbers, Numbers]:
         """The numbers and welfares of the selections of a row that rank above the floor."""
         every, high = self.every, int(self.highs[row])
-        admitted = every.links.are_admitted_across(every.all_low, every.lows, high)
+        admitted = every.admissibility.are_admitted_across(every.all_low, every.lows, high)
         self.admitted += numpy.count_nonzero(admitted)
         places = numpy.flatnonzero(admitted & (welfares >= self.floor.welfare))
         numbers, welfares = every.lows[places] | high, welfares[places]
         over = self.floor.are_above(welfares, numbers)
         return numbers[over], welfares[over]
 
-    def lift_floor(self, numbers, welfares):
+    def lift_floor(self, numbers: Numbers, welfares: Numbers) -> None:
         """Checks some selections that rank above the floor for a loss. The best one without is the new floor."""
         for first in range(0, len(numbers), MOST_SELECTIONS):
             part = slice(first, first + MOST_SELECTIONS)
@@ -289,7 +291,7 @@ class Rows:
             lasting = numpy.isin(numbers[part], gaining)
             self.floor.lift_to_best(welfares[part][lasting], numbers[part][lasting])
 
-    def count_and_drop_losing(self, numbers):
+    def count_and_drop_losing(self, numbers: Numbers) -> Numbers:
         """Those of some selections of which no accepted block loses. As long as the block that has lost most often leaves out many,
         it alone is looked at, in the selections that accept it; then all blocks are."""
         self.looked += len(numbers)
@@ -313,7 +315,9 @@ class Rows:
         return numpy.concatenate(gaining)
 
 
-def search_with_numpy(problem, accepted, welfare, progress, jobs=1, low_bits=LOW_BITS):
+def search_with_numpy(
+    problem: selection.Problem, accepted: frozenset[int], welfare: int, progress: Progress, jobs: int = 1, low_bits: int = LOW_BITS
+) -> tuple[Selection | None, str]:
     """The best selection, if it ranks above this eligible one, else None; and how that was found."""
     every = Selections(problem, low_bits)
     first = Floor(welfare, every.number_of(accepted))
@@ -321,14 +325,14 @@ def search_with_numpy(problem, accepted, welfare, progress, jobs=1, low_bits=LOW
     progress.add_expected_steps(len(every.highs) * len(every.periods))
     with ThreadPoolExecutor(jobs) as threads:
         try:
-            floors = [running.result() for running in [threads.submit(share.lift_and_return_floor) for share in shares]]
+            floors = [running.result() for running in [threads.submit(share.lift) for share in shares]]
         finally:
             progress.stop_and_erase()
     best = max(floors, key=lambda floor: (floor.welfare, floor.number))
-    how = tried_words(len(problem.blocks), sum(share.admitted for share in shares), sum(share.looked for share in shares))
+    how = tried_text(len(problem.blocks), sum(share.admitted for share in shares), sum(share.looked for share in shares))
     if best.number == first.number:
         return None, how
     found = Selection(every.accepted_places(best.number), best.welfare)
-    if selection.eligible_welfare_or_none(problem, found.accepted) != found.welfare:
+    if selection.eligible_welfare(problem, found.accepted) != found.welfare:
         raise AssertionError(f"the selection {sorted(found.accepted)} is not eligible with the welfare that the tables gave it")
     return found, how

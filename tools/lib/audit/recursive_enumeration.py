@@ -8,7 +8,10 @@ from bisect import bisect_left, bisect_right
 from typing import NamedTuple
 
 from ..base import rules
+from ..journal.journal import Order
+from ..process.progress import Progress
 from ..results import selection
+from ..results.period import Orders
 
 # This many blocks take some ten seconds, and each further one doubles the time.
 ENUMERABLE = 18
@@ -16,7 +19,7 @@ STEP = 256  # selections from one look at the time to the next
 
 
 class Selection(NamedTuple):
-    accepted: frozenset
+    accepted: frozenset[int]
     welfare: int
 
 
@@ -27,10 +30,10 @@ class Curve:
     tenth of a MW less comes from the cheapest order that is left: a sell that is executed, or a buy that no longer is. Of
     these tenths by their limit, the last one taken and the next one have the ends of the supporting prices."""
 
-    def __init__(self, orders):
+    def __init__(self, orders: Orders) -> None:
         self.most = sum(volume for side, _, volume in orders if side == "buy")
         self.value = sum(limit * volume for side, limit, volume in orders if side == "buy")
-        merged = {}
+        merged: dict[int, int] = {}
         for _, limit, volume in orders:
             merged[limit] = merged.get(limit, 0) + volume
         self.limits = sorted(merged)
@@ -41,8 +44,7 @@ class Curve:
         # The net volumes at which an execution balances.
         self.least = self.most - self.ends[-1]
 
-    def welfare_or_none(self, net):
-        """None if no execution balances."""
+    def welfare_at(self, net: int) -> int | None:
         taken = self.most - net
         if not 0 <= taken <= self.ends[-1]:
             return None
@@ -50,7 +52,7 @@ class Curve:
         part = taken - self.ends[at]
         return self.value - self.costs[at] - (part * self.limits[at] if part else 0)
 
-    def supporting_prices(self, net):
+    def supporting_prices(self, net: int) -> tuple[int, int]:
         """The ends of the supporting prices, if an execution balances."""
         taken = self.most - net
         low = self.limits[bisect_left(self.ends, taken) - 1] if taken else rules.LOWEST_PRICE
@@ -58,27 +60,35 @@ class Curve:
         return low, high
 
 
-def curves_by_period(problem):
+def curves_by_period(problem: selection.Problem) -> dict[int, Curve]:
     return {number: Curve(orders) for number, orders in problem.orders.items()}
 
 
 class Search:
     """Tries the selections that links and groups admit, those first that accept earlier blocks."""
 
-    def __init__(self, problem, progress=None):
+    def __init__(self, problem: selection.Problem, progress: Progress | None = None) -> None:
         self.problem, self.progress = problem, progress
         self.curves = curves_by_period(problem)
         self.group_of = {place: key for key, members in problem.groups().items() for place in members}
-        self.best = None
+        self.best: Selection | None = None
         self.tried = 0
 
-    def try_all_and_return_best(self):
-        """The best selection."""
+    def try_all(self) -> Selection:
         net = dict.fromkeys(self.curves, 0)
-        self.try_selections(0, frozenset(), {}, net, {number: curve.welfare_or_none(0) for number, curve in self.curves.items()}, 0)
+        self.try_selections(0, frozenset(), {}, net, {number: curve.welfare_at(0) for number, curve in self.curves.items()}, 0)
+        assert self.best is not None  # without any block each period balances
         return self.best
 
-    def try_selections(self, place, accepted, taken, net, worth, value):
+    def try_selections(
+        self,
+        place: int,
+        accepted: frozenset[int],
+        taken: dict[tuple[str, str], int],
+        net: dict[int, int],
+        worth: dict[int, int | None],
+        value: int,
+    ) -> None:
         """Tries the selections that accept these blocks before a place: `taken` are their numbers by group, `net` and `worth` the net
         volumes and welfares of the periods, `value` the welfare that the blocks themselves add."""
         if place == len(self.problem.blocks):
@@ -92,42 +102,44 @@ class Search:
             self.try_selections(place + 1, accepted | {place}, groups, *self.sums_with_block(order, net, worth, value))
         self.try_selections(place + 1, accepted, taken, net, worth, value)
 
-    def sums_with_block(self, order, net, worth, value):
+    def sums_with_block(
+        self, order: Order, net: dict[int, int], worth: dict[int, int | None], value: int
+    ) -> tuple[dict[int, int], dict[int, int | None], int]:
         net, worth = dict(net), dict(worth)
         for number, volume in selection.net_volumes(order):
             net[number] += volume
-            worth[number] = self.curves[number].welfare_or_none(net[number])
+            worth[number] = self.curves[number].welfare_at(net[number])
             value -= order.price * volume
         return net, worth, value
 
-    def keep_if_better(self, accepted, net, worth, value):
+    def keep_if_better(self, accepted: frozenset[int], net: dict[int, int], worth: dict[int, int | None], value: int) -> None:
         """Keeps a selection if it is eligible and of greater welfare than those before."""
         self.tried += 1
         if self.progress and self.tried % STEP == 1:
             self.progress.count_and_show_or_raise(STEP)
-        if None in worth.values():
+        welfares = [found for found in worth.values() if found is not None]
+        if len(welfares) < len(worth):
             return
-        welfare = sum(worth.values()) + value
+        welfare = sum(welfares) + value
         if self.best is not None and welfare <= self.best.welfare:
             return
         prices = {number: rules.price_and_case(*curve.supporting_prices(net[number]))[0] for number, curve in self.curves.items()}
-        surpluses = [selection.surplus_or_none(block.order, prices) for block in self.problem.blocks]
+        surpluses = [selection.surplus_at(block.order, prices) for block in self.problem.blocks]
         if not selection.losses_of(self.problem, accepted, surpluses):
             self.best = Selection(accepted, welfare)
 
 
-def search_recursively(problem, progress=None):
-    """The best selection, and how it was found."""
+def search_recursively(problem: selection.Problem, progress: Progress | None = None) -> tuple[Selection, str]:
     search = Search(problem, progress)
     if progress:
         progress.add_expected_steps(2 ** len(problem.blocks))
-    best = search.try_all_and_return_best()
-    if selection.eligible_welfare_or_none(problem, best.accepted) != best.welfare:
+    best = search.try_all()
+    if selection.eligible_welfare(problem, best.accepted) != best.welfare:
         raise AssertionError(f"the selection {sorted(best.accepted)} is not eligible with the welfare that the search gave it")
-    return best, tried_words(len(problem.blocks), search.tried)
+    return best, tried_text(len(problem.blocks), search.tried)
 
 
-def tried_words(blocks, admitted, losing=0):
+def tried_text(blocks: int, admitted: int, losing: int = 0) -> str:
     """How many selections were tried, and how many of them links and groups admit; and, if none is better, how many would be if none
     of their blocks lost."""
     if blocks == 0:

@@ -1,12 +1,15 @@
 """The verdict of an audit: what was checked and found, the status that reports it, and the same as a record for programs."""
 
 import time
+from collections.abc import Sequence
 
 from ..base import text
-from ..base.audit_record import ENCODING, FAILED, RIGHT, UNDECIDED, UNREAD, WRONG
+from ..base.json_value import JsonObject
 from ..base.rules import VERSION
 from ..results.faults import FaultLine
 from ..tool import exits
+from .inputs import Inputs
+from .record import ENCODING, FAILED, RIGHT, UNDECIDED, UNREAD, WRONG
 
 MOST_LINES = 20  # of the faults
 
@@ -25,33 +28,34 @@ OF_STATUS = {
 class Verdict:
     """The verdict on a day, of which a record can be made at any time, also if the audit fails."""
 
-    def __init__(self, inputs):
+    def __init__(self, inputs: Inputs) -> None:
         self.begun = time.monotonic()
         self.inputs = inputs
-        self.checked = []
-        self.day = None  # figures of the day, if its journal could be read
-        self.sent_faults = []  # differences between the commands that were sent and the journal
-        self.signed_faults = []  # differences from the signed head, earlier heads and receipts
-        self.rule_faults = []  # of the results or replies
+        self.checked: list[str] = []
+        self.day: JsonObject | None = None  # figures of the day, if its journal could be read
+        self.sent_faults: list[FaultLine] = []  # differences between the commands that were sent and the journal
+        self.signed_faults: list[FaultLine] = []  # differences from the signed head, earlier heads and receipts
+        self.rule_faults: list[FaultLine] = []  # of the results or replies
         self.odd = inputs.odd  # differences of encoding alone
-        self.sent = None  # how many commands the participant has in the journal, and how many of them the book refused
-        self.notes = []  # on a table of orders that was sent
-        self.foreign = []  # receipts and earlier heads that weren't compared
+        self.sent: dict[str, int] | None = None  # how many commands the participant has in the journal, and how many of them the book refused
+        self.notes: list[str] = []  # on a table of orders that was sent
+        self.foreign: list[FaultLine] = []  # receipts and earlier heads that weren't compared
         self.is_signed = True  # whether the key signed the head, if there is one
-        self.search = None  # a record of the search for a better selection
-        self.right, self.last = [], None  # lines about the right parts, and one after the faults
+        self.search: JsonObject | None = None  # a record of the search for a better selection
+        self.right: list[str] = []  # lines about the right parts
+        self.last: str | None = None  # a line after the faults
 
-    def note_unsigned(self, words):
+    def note_unsigned(self, words: str) -> None:
         """Notes that the key didn't sign the head, so that nothing was compared with it."""
         self.is_signed, self.signed_faults, self.last = False, [FaultLine(words, "head")], f"{WRONG}: {words}"
 
     @property
-    def wrong(self):
+    def wrong(self) -> list[FaultLine]:
         """All faults but differences of encoding, in the order of the parts."""
         return [*self.sent_faults, *self.signed_faults, *self.rule_faults]
 
     @property
-    def status(self):
+    def status(self) -> int:
         if self.wrong:
             return exits.DIFFERS
         if self.foreign:
@@ -59,21 +63,21 @@ class Verdict:
         return exits.ENCODING if self.odd else exits.DONE
 
     @property
-    def message_or_none(self):
+    def message(self) -> str | None:
         """Why there is no verdict, though the audit ended; None if there is one."""
-        return f"{self.uncompared_words()}: not the operator's, or of another day" if self.status == exits.NO_INPUT else None
+        return f"{self.uncompared_text()}: not the operator's, or of another day" if self.status == exits.NO_INPUT else None
 
-    def uncompared_words(self):
+    def uncompared_text(self) -> str:
         return f"not compared: {text.counted(len(self.foreign), 'receipt or head', 'receipts or heads')}"
 
-    def parts(self):
+    def parts(self) -> list[tuple[str | None, list[FaultLine]]]:
         """The faults by part, each a headline and its faults; without --sent and --head there is one part, which has no headline."""
         if not self.is_signed:
             return []
         if self.inputs.options.sent is None and self.inputs.options.head is None:
             return [(None, self.rule_faults)]
         headlines = [
-            self.uncompared_words(),
+            self.uncompared_text(),
             f"not as sent: {text.counted(len(self.sent_faults), 'difference')} in the commands of {self.inputs.options.participant}",
             f"not as signed: {text.counted(len(self.signed_faults), 'difference')} from what the operator signed",
             f"not as the rules say: {text.counted(len(self.rule_faults), 'fault')} in the results",
@@ -81,14 +85,13 @@ class Verdict:
         parts = self.foreign, self.sent_faults, self.signed_faults, self.rule_faults
         return [(headline, faults) for headline, faults in zip(headlines, parts) if faults]
 
-    def lines(self, is_all):
+    def lines(self, is_all: bool) -> list[str]:
         """The lines of the faults, and of the right parts: with --sent one part may be wrong and the other right."""
         odd = [f"the encoding differs: {fault}" for fault in self.odd]
         wrong = [line for head, faults in self.parts() for line in [*([head] if head else []), *first_fault_lines(faults, is_all)]]
         return [*odd, *wrong, *([self.last] if self.last else []), *self.right]
 
-    def record(self, status, message=None):
-        """The verdict for programs."""
+    def record(self, status: int, message: str | None = None) -> JsonObject:
         made = {
             "verdict": OF_STATUS[status],
             "status": status,
@@ -106,7 +109,7 @@ class Verdict:
         return made
 
 
-def first_fault_lines(faults, is_all):
+def first_fault_lines(faults: Sequence[FaultLine], is_all: bool) -> Sequence[str]:
     """The first faults, and how many more there are, as lines."""
     more = len(faults) - MOST_LINES
     if more <= 0 or is_all:

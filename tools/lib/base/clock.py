@@ -1,5 +1,7 @@
 """Clock times of a delivery day: when its periods begin, also on the days on which the clocks change."""
 
+from __future__ import annotations
+
 import collections
 import functools
 
@@ -10,7 +12,7 @@ USUAL = 24 * 60  # minutes of a day on which the clocks don't change
 SPRING, AUTUMN = 2 * 60, 3 * 60
 
 
-def begin_minutes(periods, number):
+def begin_minutes(periods: int, number: int) -> int:
     """When a period begins on a day of `periods` of them, in minutes of the clock; the one after the last begins at the day's end."""
     passed = int((number - 1) * rules.DAYS[periods] * 60)
     gained = int(periods * rules.DAYS[periods] * 60) - USUAL
@@ -19,28 +21,30 @@ def begin_minutes(periods, number):
     return passed
 
 
-def begin_time(periods, number):
+def begin_time(periods: int, number: int) -> str:
     """The same as a text, such as `17:45`; a day ends at `24:00`."""
     hours, rest = divmod(begin_minutes(periods, number), 60)
     return f"{hours:02}:{rest:02}"
 
 
-def time_span(periods, number):
+def time_span(periods: int, number: int) -> str:
     """From when to when a period goes, by the clock at its beginning."""
     end = begin_minutes(periods, number) + int(rules.DAYS[periods] * 60)
     return f"{begin_time(periods, number)} to {end // 60:02}:{end % 60:02}"
 
 
-def end_times(periods, number):
+def end_times(periods: int, number: int) -> tuple[str, str]:
     """When a period ends: as the next one begins, and by the clock at its own beginning."""
     return begin_time(periods, number + 1), time_span(periods, number).rpartition(" ")[2]
 
 
 @functools.lru_cache
-def periods_by_begin_and_end(periods):
-    """The periods of a day by the time at which they begin, and by that at which they end: as the next one begins, or, of the times at which
-    none does so, by the clock at its own beginning."""
-    starts, stops, own_stops = collections.defaultdict(list), collections.defaultdict(list), collections.defaultdict(list)
+def periods_by_begin_and_end(periods: int) -> tuple[dict[str, list[int]], dict[str, list[int]]]:
+    """The periods of a day by the time at which they begin, and by that at which they end: as the next one begins, or, of the times at
+    which none does so, by the clock at its own beginning."""
+    starts: dict[str, list[int]] = collections.defaultdict(list)
+    stops: dict[str, list[int]] = collections.defaultdict(list)
+    own_stops: dict[str, list[int]] = collections.defaultdict(list)
     for number in range(1, periods + 1):
         end, own_end = end_times(periods, number)
         starts[begin_time(periods, number)].append(number)
@@ -49,7 +53,7 @@ def periods_by_begin_and_end(periods):
     return starts, {**own_stops, **stops}
 
 
-def parse_periods_between_times(periods, first, last):
+def parse_periods_between_times(periods: int, first: str, last: str) -> list[int]:
     """The periods of a day from one clock time to another, such as `07:00` and `09:00`. A ValueError names the fault of a time."""
     last = "24:00" if last == "00:00" else last
     starts, stops = (numbers.get(time, []) for numbers, time in zip(periods_by_begin_and_end(periods), (first, last)))

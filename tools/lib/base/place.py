@@ -1,5 +1,7 @@
 """Where these tools are: in a clone of the repository, or installed as commands of the package dam_tools."""
 
+from __future__ import annotations
+
 import re
 from pathlib import Path
 
@@ -11,27 +13,26 @@ IS_INSTALLED = FOLDER.name == "dam_tools"
 COMMAND_OF_CLONE = re.compile(rf"(?<![\w./-])(?:\./dam\b|tools/(?=(?:{'|'.join(TOOLS)})\b))")
 
 
-def command_name(tool):
+def command_name(tool: str) -> str:
     """The name of a tool as a command: `audit` in a clone, where its file is named, and `dam-audit` if it is installed."""
     return f"dam-{tool.removeprefix('dam-')}" if IS_INSTALLED else tool
 
 
-def with_installed_commands(words):
-    """Words that name commands as in a clone, such as `./dam clear` and `tools/audit`, with the names that these have if they are
-    installed."""
+def with_installed_commands(words: str) -> str:
+    """Words that name commands as in a clone, such as `tools/audit`, with the names that these have if they are installed."""
     return COMMAND_OF_CLONE.sub(lambda found: "dam" if found[0] == "./dam" else "dam-", words)
 
 
-def with_commands_of_here(words):
+def with_commands_of_here(words: str) -> str:
     """Words that name commands as in a clone, with the names that these have here."""
     return with_installed_commands(words) if IS_INSTALLED else words
 
 
-def read_docstring(path, function=None):
+def read_docstring(path: str | Path, function: str | None = None) -> str:
     """The docstring of a script, or of a function in it, also if Python has left it out (python3 -OO)."""
     import ast
 
-    tree = ast.parse(Path(path).read_bytes())
+    tree: ast.Module | ast.FunctionDef = ast.parse(Path(path).read_bytes())
     if function is not None:
         tree = next(part for part in tree.body if isinstance(part, ast.FunctionDef) and part.name == function)
-    return ast.get_docstring(tree, clean=False)
+    return ast.get_docstring(tree, clean=False) or ""

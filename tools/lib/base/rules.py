@@ -1,6 +1,8 @@
 """The limits of the market and of its formats, which blocks make up for a loss of another, and which price a period has. A later rule
 changes them here, and the other modules take them from here."""
 
+from __future__ import annotations
+
 from fractions import Fraction
 
 # The version of these rules, and of everything that follows them: other rules are a new major version (docs/USING.md, CHANGELOG.md).
@@ -22,7 +24,7 @@ MOST_BYTES, MOST_RECORDS = 16_777_216, 10_001  # of a journal
 MOST_DAY_COMMANDS, MOST_DAY_PARTICIPANTS = 9_999, 8  # of the input of `dam day`
 
 
-def price_and_case(low, high):
+def price_and_case(low: int, high: int) -> tuple[int, str]:
     """The price of a period whose supporting prices go from `low` to `high`, and which case of the rule it is."""
     if low == LOWEST_PRICE and high < HIGHEST_PRICE:
         return high, "the greatest, since the least is the limit"

@@ -1,9 +1,13 @@
 """A longest common subsequence of two lists: as many places as possible at which both have the same, in the order of both."""
 
+from __future__ import annotations
+
+from collections.abc import Callable, Hashable, Sequence
+
 STEP = 256  # entries from one look at the time to the next
 
 
-def longest_pairs(one, other, look=lambda: None):
+def longest_pairs(one: Sequence[Hashable], other: Sequence[Hashable], look: Callable[[], object] = lambda: None) -> list[tuple[int, int]]:
     """Pairs of the places of a longest common subsequence. `look` is called now and then, and may end the comparison.
 
     The time grows with the product of the lengths, but a machine word of bits at a time: two lists of 10,000 take a fraction of a second,
@@ -11,16 +15,16 @@ def longest_pairs(one, other, look=lambda: None):
     shorter = min(len(one), len(other))
     begin = next((at for at in range(shorter) if one[at] != other[at]), shorter)
     end = next((at for at in range(shorter - begin) if one[-1 - at] != other[-1 - at]), shorter - begin)
-    middle = [entries[begin : len(entries) - end] for entries in (one, other)]
-    pairs = [(at, at) for at in range(begin)]
-    pairs += [(begin + at, begin + place) for at, place in longest_pairs_by_bits(*middle, look)]
+    middle = longest_pairs_by_bits(one[begin : len(one) - end], other[begin : len(other) - end], look)
+    pairs = [(at, at) for at in range(begin)] + [(begin + at, begin + place) for at, place in middle]
     return pairs + [(len(one) - at, len(other) - at) for at in range(end, 0, -1)]
 
 
-def longest_pairs_by_bits(one, other, look):
-    """The same by bit vectors: after each number of entries of `other`, bit `at` of a row is 0 if the length of a longest common subsequence
-    with the beginning of `one` grows at this place."""
-    bits, every = {}, (1 << len(one)) - 1
+def longest_pairs_by_bits(one: Sequence[Hashable], other: Sequence[Hashable], look: Callable[[], object]) -> list[tuple[int, int]]:
+    """The same by bit vectors: after each number of entries of `other`, bit `at` of a row is 0 if the length of a longest common
+    subsequence with the beginning of `one` grows at this place."""
+    bits: dict[Hashable, int] = {}
+    every = (1 << len(one)) - 1
     for at, entry in enumerate(one):
         bits[entry] = bits.get(entry, 0) | 1 << at
     row, rows = every, [every]
@@ -30,12 +34,13 @@ def longest_pairs_by_bits(one, other, look):
         kept = row & bits.get(entry, 0)
         row = (row + kept | row - kept) & every
         rows.append(row)
-    return pairs_of(rows, len(one))
+    return pairs_traced_back(rows, len(one))
 
 
-def pairs_of(rows, at):
-    """The pairs that the rows have, found from the end."""
-    place, pairs = len(rows) - 1, []
+def pairs_traced_back(rows: list[int], length: int) -> list[tuple[int, int]]:
+    """The pairs of a common subsequence of this length at most, traced back from the last row of bits."""
+    pairs: list[tuple[int, int]] = []
+    at, place = length, len(rows) - 1
     while at and place:
         if rows[place] >> at - 1 & 1:
             at -= 1

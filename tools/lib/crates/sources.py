@@ -6,9 +6,11 @@ sums before, and the record is written only if they are the same afterwards.
 
     python3 tools/lib/crates/sources.py CRATE                  prints the sums of a crate's sources
     python3 tools/lib/crates/sources.py CRATE SUMS FILE..      records these files as built, if the sums are still those in the file SUMS
-    python3 tools/lib/crates/sources.py CRATE --fault FILE     prints why a file was not built of the present sources; otherwise dates it now
+    python3 tools/lib/crates/sources.py CRATE --fault FILE     prints why a file was not built of the present sources, or dates it now
 
 Python 3.8 is enough, since the launcher needs no newer one."""
+
+from __future__ import annotations
 
 import hashlib
 import json
@@ -16,12 +18,14 @@ import os
 import subprocess
 import sys
 import time
+from pathlib import Path
+from typing import Any, NoReturn
 
 if __package__:
     from . import crates
 else:
     sys.path.insert(0, os.path.dirname(os.path.realpath(__file__)))  # an isolated Python leaves it out
-    import crates
+    import crates  # type: ignore[no-redef]  # the same module, if this one is run as a script
 
 TOP = os.path.dirname(os.path.dirname(os.path.dirname(os.path.dirname(os.path.realpath(__file__)))))
 PARTS = ("src", "specs", "proofs")
@@ -34,11 +38,11 @@ class UnreadableSource(Exception):
     """A file or a folder of the sources can't be read."""
 
 
-def raise_fault(fault):
+def raise_fault(fault: OSError) -> NoReturn:
     raise fault
 
 
-def unreadable_words(fault):
+def unreadable_text(fault: OSError) -> str:
     """The message about a file of the repository, or a folder, that can't be read."""
     if fault.filename is None:
         return f"they can't be read: {fault.strerror}"
@@ -48,37 +52,36 @@ def unreadable_words(fault):
     return f"{name} can't be read: {fault.strerror}"
 
 
-def read_own_crates():
+def read_own_crates() -> dict[str, list[str]]:
     """Returns each crate of crates.txt with those of its libraries that belong to this repository."""
     return crates.without_foreign(crates.read_crates(TOP))
 
 
-def list_source_files(name):
+def list_source_files(name: str) -> list[str]:
     folders = [folder for folder in (f"{TOP}/crates/{name}/{part}" for part in PARTS) if os.path.isdir(folder)]
     return [f"{at}/{it}" for folder in folders for at, _, names in os.walk(folder, onerror=raise_fault) for it in names]
 
 
-def read_file_sum(path):
-    """Returns the SHA-256 of a file."""
+def read_file_sum(path: str | Path) -> str:
     with open(path, "rb") as file:
         return hashlib.sha256(file.read()).hexdigest()
 
 
-def read_sum_of_files(folder, files, *words):
+def read_sum_of_files(folder: str, files: list[str], *words: str) -> str:
     """Returns the SHA-256 of some words and of files with their names."""
     rows = [f"{read_file_sum(path)}  {os.path.relpath(path, folder)}" for path in sorted(files)]
     return hashlib.sha256("\n".join([*words, *rows]).encode("utf-8", "surrogateescape")).hexdigest()
 
 
-def read_source_sums(crate):
+def read_source_sums(crate: str) -> dict[str, str]:
     """Returns the sum of the sources of a crate, and of each crate below it. Raises UnreadableSource if one of them can't be read."""
     try:
         return read_sums_of_crates(crate)
     except OSError as fault:
-        raise UnreadableSource(unreadable_words(fault)) from None
+        raise UnreadableSource(unreadable_text(fault)) from None
 
 
-def read_sums_of_crates(crate):
+def read_sums_of_crates(crate: str) -> dict[str, str]:
     below = crates.read_crates(TOP)
     # a repository without threads has no file HANDLES
     handles = read_file_sum(f"{TOP}/HANDLES") if os.path.exists(f"{TOP}/HANDLES") else ""
@@ -90,8 +93,7 @@ def read_sums_of_crates(crate):
     return found
 
 
-def capture_first_line(command):
-    """Returns the first line that a command prints, or 'unknown'."""
+def capture_first_line(command: list[str]) -> str:
     try:
         ran = subprocess.run(command, cwd=TOP, stdin=subprocess.DEVNULL, stdout=subprocess.PIPE, stderr=subprocess.DEVNULL,
                              errors="replace")
@@ -100,16 +102,16 @@ def capture_first_line(command):
     return (ran.stdout.splitlines() or ["unknown"])[0]
 
 
-def capture_kit():
-    """Returns the name and the logic of the kit, as `rt version` prints them."""
+def capture_kit() -> str:
+    """The name and the logic of the kit, as `rt version` prints them."""
     return capture_first_line(["rt", "version"])
 
 
-def record_path(path):
+def record_path(path: str | Path) -> str:
     return f"{path}.json"
 
 
-def write_or_remove_records(crate, before, *paths):
+def write_or_remove_records(crate: str, before: dict[str, str], *paths: str | Path) -> bool:
     """Records that files were built of a crate, if its sources are still those whose sums were taken before. Otherwise removes the records
     of these files. Returns whether they have records."""
     is_same = read_source_sums(crate) == before
@@ -127,8 +129,7 @@ def write_or_remove_records(crate, before, *paths):
     return is_same
 
 
-def read_record_or_none(path):
-    """Returns the record of a file that was built, or None."""
+def read_record(path: str | Path) -> dict[str, Any] | None:
     try:
         with open(record_path(path), encoding="utf-8") as file:
             told = json.load(file)
@@ -137,12 +138,12 @@ def read_record_or_none(path):
     return told if isinstance(told, dict) and {"sha256", "kit", "sources"} <= told.keys() else None
 
 
-def read_stale_words_or_none(path, crate):
-    """Returns why a file was not built of the present sources, or None if it is."""
+def read_stale_text(path: str | Path, crate: str) -> str | None:
+    """Why a file was not built of the present sources."""
     name = os.path.relpath(path, TOP)
     if not os.path.isfile(path):
         return f"{name} is missing"
-    told = read_record_or_none(path)
+    told = read_record(path)
     if not told:
         return f"{name} has no record of the sources that it was built of"
     if told["sha256"] != read_file_sum(path):
@@ -155,11 +156,11 @@ def read_stale_words_or_none(path, crate):
     return f"{name} was built of other sources: {', '.join(others)} changed since" if others else None
 
 
-def print_or_touch_and_return_status(path, crate):
+def print_or_touch(path: str, crate: str) -> int:
     """Prints why a file was not built of the present sources, and returns 1. Otherwise gives the file the date before they were read, so
     that it is newer than its sources, and returns 0."""
     began = time.time_ns()
-    words = read_stale_words_or_none(path, crate)
+    words = read_stale_text(path, crate)
     if words:
         print(words)
         return 1
@@ -171,13 +172,13 @@ def print_or_touch_and_return_status(path, crate):
     return 0
 
 
-def main(words):
+def main(words: list[str]) -> int:
     if len(words) == 1:
         print(json.dumps(read_source_sums(words[0])))
         return 0
     crate, before, *paths = words
     if before == "--fault":
-        return print_or_touch_and_return_status(paths[0], crate)
+        return print_or_touch(paths[0], crate)
     with open(before, encoding="utf-8") as file:
         return 0 if write_or_remove_records(crate, json.load(file), *paths) else 1
 

@@ -1,60 +1,57 @@
 """The order book: the effect of each command on it, or why it is refused."""
 
 from collections import Counter
-from collections.abc import Callable
-from typing import NamedTuple
+from collections.abc import Callable, Iterable
+from typing import Any, NamedTuple
 
 from ..base import rules
-from .journal import Amend, Cancel, Close, Submit
+from .journal import Amend, Cancel, Close, Command, Journal, Key, Order, Submit
 
 
 class Book:
     """The rows of a day in book order: a dictionary from participant and name to the order. It keeps the order of the
     submits; an amended order keeps its place, a cancelled one loses it."""
 
-    def __init__(self, periods):
+    def __init__(self, periods: int) -> None:
         self.periods = periods
         self.closed = False
-        self.rows = {}
+        self.rows: dict[Key, Order] = {}
         self.held = {"hour": 0, "block": 0}
-        self.children = Counter()  # of each block, by its participant and name
+        self.children: Counter[Key] = Counter()  # of each block, by its participant and name
 
-    def copy(self):
-        """A book of its own, with the same orders."""
+    def copy(self) -> "Book":
         made = Book(self.periods)
         made.closed, made.rows, made.held, made.children = self.closed, dict(self.rows), dict(self.held), Counter(self.children)
         return made
 
-    def apply_or_return_refusal(self, command):
+    def apply_or_return_refusal(self, command: Command) -> str | None:
         """Carries out the command and returns None, or changes nothing and returns the reason."""
-        reason = self.refusal_or_none(command)
+        reason = self.refusal_of(command)
         if reason is None:
             self.carry_out(command)
         return reason
 
-    def refusal_or_none(self, command):
-        """The first reason that applies."""
+    def refusal_of(self, command: Command) -> str | None:
         for word, applies in TESTS[type(command)]:
             if applies(self, command):
                 return word
         return None
 
-    def order_or_none(self, command):
-        """The order of the command's participant and name."""
+    def order_of(self, command: Submit | Amend | Cancel) -> Order | None:
         return self.rows.get((command.who, command.name))
 
-    def parent_or_none(self, command):
+    def parent_of(self, command: Submit) -> Order | None:
         """The order that a new block names as its parent."""
         return self.rows.get((command.who, command.order.parent))
 
-    def is_out_of_day(self, command):
+    def is_out_of_day(self, command: Submit | Amend) -> bool:
         volumes = command.order.volumes if isinstance(command, Submit) else command.volumes
         return any(period > self.periods for period, _ in volumes)
 
-    def is_full(self, command, kind, most):
+    def is_full(self, command: Submit, kind: str, most: int) -> bool:
         return command.order.kind == kind and self.held[kind] >= most
 
-    def carry_out(self, command):
+    def carry_out(self, command: Command) -> None:
         match command:
             case Submit(who, name, order):
                 self.rows[who, name] = order
@@ -71,7 +68,7 @@ class Book:
             case Close():
                 self.closed = True
 
-    def put_back(self, key, before):
+    def put_back(self, key: Key, before: Order | None) -> None:
         """Gives a participant and name the order that they had before, or None. The order may then have another place in the book's order,
         on which no reply depends."""
         for order, count in ((self.rows.pop(key, None), -1), (before, 1)):
@@ -87,34 +84,34 @@ class Reason(NamedTuple):
     """Why the book refuses a command."""
 
     words: str
-    commands: tuple  # the kinds that it can refuse
-    applies: Callable  # whether it refuses a command of these kinds on a book
+    commands: tuple[type[Command], ...]  # the kinds that it can refuse
+    applies: Callable[[Book, Any], object]  # whether it refuses a command of these kinds on a book
 
 
 # The reasons, in the order in which the book looks for them.
 REASONS = {
     "Closed": Reason("the book was already closed", (Submit, Amend, Cancel, Close), lambda book, _: book.closed),
     "PeriodOutOfDay": Reason("it names a period that the day doesn't have", (Submit, Amend), Book.is_out_of_day),
-    "NameTaken": Reason("the participant has an order of that name", (Submit,), lambda book, command: book.order_or_none(command) is not None),
+    "NameTaken": Reason("the participant has an order of that name", (Submit,), lambda book, command: book.order_of(command) is not None),
     "UnknownOrder": Reason(
         "the participant has no such order: it was cancelled, refused, or never entered",
         (Amend, Cancel),
-        lambda book, command: book.order_or_none(command) is None,
+        lambda book, command: book.order_of(command) is None,
     ),
     "WrongShape": Reason(
         "an hourly order has exactly one period",
         (Amend,),
-        lambda book, command: book.order_or_none(command).kind == "hour" and len(command.volumes) != 1,
+        lambda book, command: (order := book.order_of(command)) and order.kind == "hour" and len(command.volumes) != 1,
     ),
     "UnknownParent": Reason(
         "the participant has no order of the parent's name",
         (Submit,),
-        lambda book, command: command.order.parent and book.parent_or_none(command) is None,
+        lambda book, command: command.order.parent and book.parent_of(command) is None,
     ),
     "ParentNotBlock": Reason(
         "the parent is an hourly order",
         (Submit,),
-        lambda book, command: command.order.parent and book.parent_or_none(command).kind == "hour",
+        lambda book, command: (parent := book.parent_of(command)) and parent.kind == "hour",
     ),
     "HourlyFull": Reason(
         f"the book holds {rules.MOST_HOURLY:,} hourly orders",
@@ -138,18 +135,18 @@ TESTS = {
 }
 
 
-def book_and_refusals(journal):
+def book_and_refusals(journal: Journal) -> tuple[Book, list[str | None]]:
     """The book after the commands of a journal, and the reason for each refusal (None if the command was done)."""
     book = Book(journal.periods)
     return book, [book.apply_or_return_refusal(command) for command in journal.commands]
 
 
-def replies_text(journal):
+def replies_text(journal: Journal) -> str:
     """The printed text of a run: the day, and the reply to each command."""
     return replies_text_of(journal.periods, book_and_refusals(journal)[1])
 
 
-def replies_text_of(periods, reasons):
+def replies_text_of(periods: int, reasons: Iterable[str | None]) -> str:
     """The same from the reason for each refusal, or None."""
     lines = [f"day,{periods}"]
     for number, reason in enumerate(reasons, 1):

@@ -1,18 +1,21 @@
 """Journals: from bytes to a day and its commands, or to the first fault, and back to the written form."""
 
-from typing import NamedTuple
+from collections.abc import Callable
+from typing import Any, NamedTuple
 
 from ..base import rules, text
 
 
-NAMES_OF_ORDER = text.parse_participant_or_none, text.parse_name_or_none  # the parsers of the first two fields of a command
+Volumes = tuple[tuple[int, int], ...]  # pairs of a period and tenths of a MW, by increasing period
+Key = tuple[str, str]  # the participant and the name of an order
+NAMES_OF_ORDER = text.parse_participant, text.parse_name  # the parsers of the first two fields of a command
 
 
 class Order(NamedTuple):
     kind: str  # "hour" or "block"
     side: str  # "buy" or "sell"
     price: int  # cents per MWh
-    volumes: tuple  # pairs of a period and tenths of a MW
+    volumes: Volumes
     parent: str = ""
     group: str = ""
 
@@ -27,7 +30,7 @@ class Amend(NamedTuple):
     who: str
     name: str
     price: int
-    volumes: tuple
+    volumes: Volumes
 
 
 class Cancel(NamedTuple):
@@ -39,11 +42,14 @@ class Close(NamedTuple):
     pass
 
 
+Command = Submit | Amend | Cancel | Close
+
+
 class Journal(NamedTuple):
     periods: int
-    commands: list
+    commands: list[Command]
 
-    def __repr__(self):
+    def __repr__(self) -> str:
         return f"<Journal: {self.periods} periods, {len(self.commands)} commands>"
 
 
@@ -55,13 +61,14 @@ class BadField(Exception):
     """The number of the least field of a record that breaks its rule."""
 
 
-def parse_journal(data):
+def parse_journal(data: bytes) -> Journal:
     """The journal that the bytes are, or its first fault."""
     if len(data) > rules.MOST_BYTES:
         raise JournalFault("input: TooLong")
     if not data.isascii():
         raise JournalFault(f"input: NotAscii at {next(at for at, byte in enumerate(data) if byte > 127)}")
-    periods, commands = None, []
+    periods: int | None = None
+    commands: list[Command] = []
     for number, fields in enumerate(text.records(data), 1):
         if number > rules.MOST_RECORDS:
             raise JournalFault("input: TooManyRecords")
@@ -81,30 +88,29 @@ def parse_journal(data):
     return Journal(periods, commands)
 
 
-def parse_empty_or_none(field):
+def parse_empty(field: bytes) -> str | None:
     return "" if field == b"" else None
 
 
-def parse_optional_name_or_none(field):
-    return "" if field == b"" else text.parse_name_or_none(field)
+def parse_optional_name(field: bytes) -> str | None:
+    return "" if field == b"" else text.parse_name(field)
 
 
-def word_parser(*words):
-    """The parser of one of these words."""
+def word_parser(*words: str) -> Callable[[bytes], str | None]:
     return lambda field: field.decode() if field.decode() in words else None
 
 
-def parse_one_volume_or_none(field):
-    pairs = text.parse_volumes_or_none(field)
+def parse_one_volume(field: bytes) -> Volumes | None:
+    pairs = text.parse_volumes(field)
     return pairs if pairs and len(pairs) == 1 else None
 
 
-def parse_fields(fields, *parsers):
+def parse_fields(fields: list[bytes], *parsers: Callable[[bytes], object]) -> list[Any]:
     """The values that the parsers make of the fields after the first, one each; an empty field after the last parser's. The first
     that breaks its rule is the record's fault."""
     values = []
     for at in range(1, 9):
-        parser = parsers[at - 1] if at <= len(parsers) else parse_empty_or_none
+        parser = parsers[at - 1] if at <= len(parsers) else parse_empty
         value = parser(fields[at])
         if value is None:
             raise BadField(at + 1)
@@ -112,24 +118,23 @@ def parse_fields(fields, *parsers):
     return values[: len(parsers)]
 
 
-def parse_day(fields):
+def parse_day(fields: list[bytes]) -> int:
     (periods,) = parse_fields(fields, word_parser(*map(str, rules.DAYS)))
     return int(periods)
 
 
-def parse_command(fields):
+def parse_command(fields: list[bytes]) -> Command:
     kind = fields[0]
     if kind == b"submit":
         # The fields up to the fourth say how the ones after it are read.
-        hourly = fields[3] == b"hour"
-        behind = [parse_one_volume_or_none] + [parse_empty_or_none] * 2
-        if not hourly:
-            behind = [text.parse_volumes_or_none] + [parse_optional_name_or_none] * 2
+        behind: list[Callable[[bytes], object]] = [parse_one_volume, parse_empty, parse_empty]
+        if fields[3] != b"hour":
+            behind = [text.parse_volumes, parse_optional_name, parse_optional_name]
         words = word_parser("hour", "block"), word_parser("buy", "sell")
-        who, name, *order = parse_fields(fields, *NAMES_OF_ORDER, *words, text.parse_price_or_none, *behind)
+        who, name, *order = parse_fields(fields, *NAMES_OF_ORDER, *words, text.parse_price, *behind)
         return Submit(who, name, Order(*order))
     if kind == b"amend":
-        parsers = parse_empty_or_none, parse_empty_or_none, text.parse_price_or_none, text.parse_volumes_or_none
+        parsers = parse_empty, parse_empty, text.parse_price, text.parse_volumes
         who, name, _, _, price, volumes = parse_fields(fields, *NAMES_OF_ORDER, *parsers)
         return Amend(who, name, price, volumes)
     if kind == b"cancel":
@@ -140,12 +145,11 @@ def parse_command(fields):
     raise BadField(1)
 
 
-def volumes_text(volumes):
+def volumes_text(volumes: Volumes) -> str:
     return ";".join(f"{period}:{volume}" for period, volume in volumes)
 
 
-def command_record_text(command):
-    """The record of a command in the written journal."""
+def command_record_text(command: Command) -> str:
     match command:
         case Submit(who, name, order):
             fields = ["submit", who, name, order.kind, order.side, str(order.price), volumes_text(order.volumes)]
@@ -159,12 +163,10 @@ def command_record_text(command):
     return ",".join(fields)
 
 
-def day_record_text(periods):
-    """The record of a day in the written journal."""
+def day_record_text(periods: int) -> str:
     return f"day,{periods},,,,,,,"
 
 
-def journal_text(journal):
-    """The written journal."""
+def journal_text(journal: Journal) -> str:
     lines = [day_record_text(journal.periods)] + [command_record_text(command) for command in journal.commands]
     return "".join(f"{line}\n" for line in lines)

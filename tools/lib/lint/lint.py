@@ -5,11 +5,13 @@ that the commands after it are judged as well, also those that the book would re
 
 import itertools
 import re
-from typing import NamedTuple
+from collections.abc import Callable, Sequence
+from typing import Any, NamedTuple
 
 from ..base import place, rules, text
 from ..journal import book, fields, journal
-from ..sheets import kinds
+from ..process.progress import StepBar
+from ..tables import kinds
 
 DAY = "day,24,,,,,,,"
 CLOSE = "close,,,,,,,,"
@@ -26,12 +28,13 @@ OTHERS = {
     kinds.REPLIES: f"these seem to be replies of `dam replay`, which aren't a journal: {AUDIT} --replies reads them with their journal",
     **{kind: f"this is {kind}: {advice}" for kind, advice in kinds.ADVICE.items()},
 }
+Values = dict[str, Any]  # of a record's fields by their names, each with its own type; None if it hasn't its form
+Volumes = tuple[tuple[int, int], ...]
 LINE = re.compile(rb"[^\r\n]+")
 BYTE_ORDER_MARKS = {b"\xef\xbb\xbf": "utf-8-sig", b"\xff\xfe": "utf-16", b"\xfe\xff": "utf-16"}
 
 
-def is_journal(data):
-    """Whether the program takes a text."""
+def is_journal(data: bytes) -> bool:
     try:
         journal.parse_journal(data)
     except journal.JournalFault:
@@ -45,7 +48,7 @@ class Finding(NamedTuple):
     words: str
     refusal: str = ""  # the book's reason, if the format allows the record
 
-    def __str__(self):
+    def __str__(self) -> str:
         return f"line {self.line}{', ' if self.field else ''}{self.field}: {self.words}"
 
 
@@ -53,23 +56,24 @@ class Lint:
     """Gathers the faults of a text that should be a journal for a command of the program. If `periods` are given, the text may lack
     the day, which has that number of periods."""
 
-    def __init__(self, data, command, periods=None, bar=None):
+    def __init__(self, data: bytes, command: str, periods: int | None = None, bar: StepBar | None = None) -> None:
         self.command, self.periods, self.bar = command, periods, bar
-        self.findings, self.held = [], None
-        self.lines = {}  # of each order of the book that was submitted, by participant and name
-        self.unclear = set()  # participants and names of submits that couldn't be read
-        self.others = set()  # participants
-        self.closed = None  # the line of the first close
+        self.findings: list[Finding] = []
+        self.book, self.has_day = book.Book(periods or rules.GREATEST_PERIOD), False
+        self.lines: dict[tuple[str, str], int] = {}  # of each order of the book that was submitted, by participant and name
+        self.unclear: set[tuple[str, str]] = set()  # participants and names of submits that couldn't be read
+        self.others: set[str | None] = set()  # participants
+        self.closed: int | None = None  # the line of the first close
         self.is_cut = False  # whether records at the end weren't looked at
         self.data = data
         self.has_semicolons = False  # between the fields of all lines
 
-    def add_finding(self, line, words, field="", refusal=""):
+    def add_finding(self, line: int, words: str, field: str = "", refusal: str = "") -> None:
         self.findings.append(Finding(line, field, words, refusal))
 
-    def collect_findings(self):
+    def collect_findings(self) -> list[Finding]:
         """The findings on the text, by line, and after them the commands that the book would refuse."""
-        other = OTHERS.get(kinds.kind_or_none(self.data))
+        other = OTHERS.get(kinds.kind_of_bytes(self.data) or "")
         if other:
             self.add_finding(1, other)
             return self.findings
@@ -83,7 +87,7 @@ class Lint:
         data = self.report_and_mend_quotes(data, comma)
         self.has_semicolons = comma == b";"
         if self.periods and first_word(data, comma) != "day":
-            self.held = book.Book(self.periods)
+            self.has_day = True
         line, behind, number = 1, 0, 0
         for number, (at, record) in enumerate(text.placed_records(data, comma), 1):
             line += text.count_lines(data, behind, at)
@@ -102,7 +106,7 @@ class Lint:
         self.lint_close(line, number)
         return sorted(self.findings, key=lambda finding: (bool(finding.refusal), finding.line))
 
-    def report_and_drop_mark(self, data):
+    def report_and_drop_mark(self, data: bytes) -> bytes:
         """Reports a byte order mark. Returns the text in UTF-8 without it."""
         for mark, encoding in BYTE_ORDER_MARKS.items():
             if data.startswith(mark):
@@ -113,7 +117,7 @@ class Lint:
                 return data.decode(encoding, errors="replace").encode()
         return data
 
-    def report_and_drop_long_lines(self, data):
+    def report_and_drop_long_lines(self, data: bytes) -> bytes:
         """Reports the long lines, which aren't looked at. Returns the text in which each is empty."""
         places = [found.span() for found in LINE.finditer(data) if found.end() - found.start() > text.LONG_LINE]
         for begin, end in reversed(places):
@@ -122,7 +126,7 @@ class Lint:
             data = data[:begin] + data[end:]
         return data
 
-    def report_and_find_separator(self, data):
+    def report_and_find_separator(self, data: bytes) -> bytes:
         """The separator of the fields, by the first line. Any but a comma is reported."""
         first = re.split(rb"[\r\n]", data.lstrip(b"\r\n"), maxsplit=1)[0]
         for mark, name in SEPARATORS.items():
@@ -131,11 +135,11 @@ class Lint:
                 return mark.encode()
         return b","
 
-    def report_and_mend_quotes(self, data, comma):
+    def report_and_mend_quotes(self, data: bytes, comma: bytes) -> bytes:
         """Reports the quotes that aren't closed on their line. Returns the text without them, after which no line could be told from another.
         The last field of a journal may have such a quote."""
         for number in range(MOST_QUOTES):
-            at = text.open_quote_place_or_none(data, comma)
+            at = text.open_quote_place(data, comma)
             if at is None or not number and is_journal(data):
                 break
             line = text.count_lines(data, 0, at) + 1
@@ -143,7 +147,7 @@ class Lint:
             data = data[:at] + data[at + 1 :]
         return data
 
-    def report_other_characters(self, data):
+    def report_other_characters(self, data: bytes) -> None:
         """Reports the first character of each line that isn't ASCII, and if there are many such lines, how many."""
         lines, line, behind = {}, 1, 0
         for found in re.finditer(rb"([\x80-\xff]+)[^\r\n]*", data):
@@ -157,7 +161,7 @@ class Lint:
             at = list(lines)[MOST_LINES]
             self.add_finding(at, f"{len(lines) - MOST_LINES} lines from here on aren't ASCII either: save the file as plain CSV, in ASCII")
 
-    def report_and_split_record_or_none(self, line, record):
+    def report_and_split_record(self, line: int, record: list[str]) -> list[str] | None:
         """The fields of a record. If it alone has something other than commas between them, that is reported; None if they are too few or too
         many."""
         for mark, name in SEPARATORS.items():
@@ -167,15 +171,15 @@ class Lint:
                 return parts if len(parts) == len(fields.NAMES) else None
         return record
 
-    def lint_record(self, line, record):
-        record = self.report_and_split_record_or_none(line, record)
+    def lint_record(self, line: int, whole: list[str]) -> None:
+        record = self.report_and_split_record(line, whole)
         if record is None:
             return
         if self.has_semicolons and len(record) > len(fields.NAMES):
             self.unclear.add((record[1], record[2]))  # those between volumes can't be told from those between fields
             return
         word = record[0].strip().lower()
-        if self.held is None:
+        if not self.has_day:
             self.lint_day(line, record, word)
         elif word == "day":
             self.add_finding(line, "the day appears twice: a journal has one, as its first line")
@@ -186,7 +190,7 @@ class Lint:
         else:
             self.lint_entry(line, self.report_and_pad_record(line, record, CLOSE if word == "close" else None))
 
-    def report_and_pad_record(self, line, record, whole=None):
+    def report_and_pad_record(self, line: int, record: list[str], whole: str | None = None) -> list[str]:
         """The nine fields of a record. If it has more or fewer, that is reported."""
         count, most = len(record), len(fields.NAMES)
         missing = most - count
@@ -201,7 +205,7 @@ class Lint:
             self.add_finding(line, f"it has {count} fields and should have {most}: {do}")
         return (record + [""] * most)[:most]
 
-    def lint_day(self, line, record, word):
+    def lint_day(self, line: int, record: list[str], word: str) -> None:
         """The first record, which should be the day."""
         if word != "day":
             if set(map(str.lower, record)) & {*fields.NAMES, "who", "name", "limit", "volume"}:
@@ -211,7 +215,7 @@ class Lint:
                 self.add_finding(line, f"a journal has no comments: remove the line, and begin with the day, such as {DAY}")
                 return
             self.add_finding(line, f"the first line should be the day, such as {DAY}, but is {text.quoted(','.join(record))}")
-            self.held = book.Book(rules.GREATEST_PERIOD)
+            self.has_day = True
             if word in fields.USED:
                 self.lint_record(line, record)
             return
@@ -227,9 +231,9 @@ class Lint:
         for place in range(2, 9):
             if record[place]:
                 self.add_finding(line, f"{text.quoted(record[place])} should be empty: write {whole}", fields.NAMES[place])
-        self.held = book.Book(periods or rules.GREATEST_PERIOD)
+        self.book, self.has_day = book.Book(periods or rules.GREATEST_PERIOD), True
 
-    def lint_entry(self, line, record):
+    def lint_entry(self, line: int, record: list[str]) -> None:
         kind, wrong = fields.word_parser(["submit", "amend", "cancel", "close"])(record[0].strip(" \t\u00a0"))
         if wrong or kind != record[0]:
             self.add_finding(line, f"{text.quoted(record[0])}: {wrong or f'there is a space around it: write {kind}'}", "command")
@@ -257,50 +261,51 @@ class Lint:
             is_whole = False
         self.apply_or_report(line, kind, values, is_whole)
 
-    def apply_or_report(self, line, kind, values, is_whole):
-        who, name = values.get("participant"), values.get("order")
+    def apply_or_report(self, line: int, kind: str, values: Values, is_whole: bool) -> None:
+        who, name = values["participant"], values["order"]
         if kind == "close":
             if self.command == "day":
                 self.add_finding(line, "a journal for `dam day` has no close: remove the line")
                 return
-            command = journal.Close()
+            command: journal.Command = journal.Close()
         else:
             self.others.add(who)
             if not is_whole:
                 self.unclear |= {(who, name)} if kind == "submit" else set()
                 return
-            command = {"submit": self.submit_of, "amend": journal.Amend, "cancel": journal.Cancel}[kind](
-                *[values[field] for field in fields.USED[kind]]
-            )
-        self.note_reply_or_report(line, kind, values, self.held.apply_or_return_refusal(command))
+            makers: dict[str, Callable[..., journal.Command]] = {
+                "submit": self.submit_of, "amend": journal.Amend, "cancel": journal.Cancel
+            }
+            command = makers[kind](*[values[field] for field in fields.USED[kind]])
+        self.note_reply_or_report(line, kind, values, self.book.apply_or_return_refusal(command))
 
-    def note_reply_or_report(self, line, kind, values, reason):
+    def note_reply_or_report(self, line: int, kind: str, values: Values, reason: str | None) -> None:
         """Keeps the facts by which later commands are judged, or reports why the book refuses the command."""
-        who, name = values.get("participant"), values.get("order")
+        who, name = values["participant"], values["order"]
         if reason is None:
             if kind == "submit":
                 self.lines[who, name] = line
             if kind == "close":
                 self.closed = line
             return
-        parent = (who, values.get("parent"))
+        parent = who, values["parent"]
         if reason == "UnknownOrder" and (who, name) in self.unclear or reason == "UnknownParent" and parent in self.unclear:
             return
-        field, words = self.refusal_field_and_words(reason, who, name, values)
+        field, words = self.refusal_field_and_text(reason, who, name, values)
         self.add_finding(line, f"{words} (the book refuses it: {reason})", field, reason)
 
-    def submit_of(self, who, name, kind, side, price, volumes, parent, group):
+    def submit_of(self, who: str, name: str, kind: str, side: str, price: int, volumes: Volumes, parent: str, group: str) -> journal.Submit:
         return journal.Submit(who, name, journal.Order(kind, side, price, volumes, parent, group))
 
-    def refusal_field_and_words(self, reason, who, name, values):
+    def refusal_field_and_text(self, reason: str, who: str, name: str, values: Values) -> tuple[str, str]:
         """The field that a refusal is about, and the remedy."""
-        parent = values.get("parent")
+        parent = values["parent"]
         if reason == "PeriodOutOfDay":
-            late = next(number for number, _ in values["volumes"] if number > self.held.periods)
-            words = f"the day has periods 1 to {self.held.periods}, so there is no period {late}"
+            late = next(number for number, _ in values["volumes"] if number > self.book.periods)
+            words = f"the day has periods 1 to {self.book.periods}, so there is no period {late}"
             return "volumes", f"{words}: correct the period, or the day in the first line"
         if reason == "HasChildren":
-            children = [other for (owner, other), order in self.held.rows.items() if (owner, order.parent) == (who, name)]
+            children = [other for (owner, other), order in self.book.rows.items() if (owner, order.parent) == (who, name)]
             line = self.lines[who, children[0]]
             return "order", f"{children[0]} of line {line} names {name} as its parent: cancel {children[0]} first"
         return {
@@ -320,10 +325,10 @@ class Lint:
             "BlocksFull": ("", f"a book holds at most {rules.MOST_BLOCKS} blocks: cancel others first"),
         }.get(reason, ("", book.REASONS[reason].words))
 
-    def lint_close(self, line, records):
+    def lint_close(self, line: int, records: int) -> None:
         if not records:
             self.add_finding(1, f"the journal is empty: begin with the day, such as {DAY}")
-        elif self.held is None:
+        elif not self.has_day:
             self.add_finding(line, f"there is no day: begin with it, such as {DAY}")
         if self.command == "clear" and self.closed is None and records and not self.is_cut:
             self.add_finding(line, f"no command closes the book, so there are no results: end with {CLOSE}")
@@ -335,31 +340,31 @@ class Lint:
                 self.add_finding(line, f"`dam day` takes at most {rules.MOST_DAY_PARTICIPANTS} participants, but there are {count}")
 
 
-def without_late_lines(data):
+def without_late_lines(data: bytes) -> bytes:
     """The text without the lines after those that a journal may have, and the first of them."""
     further = next(itertools.islice(LINE.finditer(data), rules.MOST_RECORDS + 1, None), None)
     return data[: further.start()] if further else data
 
 
-def first_word(data, comma=b","):
+def first_word(data: bytes, comma: bytes = b",") -> str:
     """The first field of a text, as a word that a journal may begin with."""
     return next(text.placed_records(data, comma), (0, [b""]))[1][0].strip().lower().decode(errors="replace")
 
 
-def collect_findings(data, command="clear", bar=None):
+def collect_findings(data: bytes, command: str = "clear", bar: StepBar | None = None) -> list[Finding]:
     """The faults of a text as a journal for `dam clear`, `dam replay` or `dam day`, by line, and then the commands that the book would
     refuse. A bar shows how far it is read."""
     return Lint(data, command, bar=bar).collect_findings()
 
 
-def summary_line(findings):
+def summary_line(findings: Sequence[Finding]) -> str:
     """How many faults there are, and how many commands the book would refuse."""
     refused = sum(1 for one in findings if one.refusal)
     counts = [(len(findings) - refused, "fault"), (refused, "refused command")]
     return ", ".join(f"{count} {name}{'s' * (count > 1)}" for count, name in counts if count) or "nothing is wrong"
 
 
-def first_fault_words(data, periods=None):
+def first_fault_text(data: bytes, periods: int | None = None) -> str:
     """The first faults of a text that can't be read as a journal, each on a line of its own; or as the commands of a day of as many
     periods, with the day or without it."""
     lines = [str(fault) for fault in Lint(data, "replay", periods).collect_findings() if not fault.refusal]

@@ -3,12 +3,13 @@
 import re
 from bisect import bisect_left
 from collections import Counter, defaultdict, deque
-from typing import NamedTuple
+from collections.abc import Callable, Hashable, Iterable, Iterator, Sequence
+from typing import NamedTuple, TypeVar
 
 from ..base import subsequence, text
-from ..journal import journal
+from ..journal import book, journal
 from ..results.faults import FaultLine
-from ..sheets import command_table, kinds, order_table
+from ..tables import command_table, kinds, order_table
 from . import lint
 
 JOURNAL, BOOK = "the journal", "the book at the end"
@@ -20,83 +21,85 @@ class BadSentText(Exception):
     """The text isn't from a participant of that name on that day."""
 
 
-class Sent(NamedTuple):
+OwnCommand = journal.Submit | journal.Amend | journal.Cancel  # of a participant
+ProofWords = Callable[[OwnCommand], str]
+
+
+class SentCommand(NamedTuple):
     record: int  # of the list that was sent, from 1
-    command: object
+    command: OwnCommand
 
 
-class Entry(NamedTuple):
+class JournalCommand(NamedTuple):
     """A command of the participant in the published journal."""
 
     record: int  # of the journal; the record of the day is 1
-    command: object
-    reason: object  # for which the book refused it; None if it was carried out
+    command: OwnCommand
+    reason: str | None  # for which the book refused it
 
     @property
-    def reply(self):
+    def reply(self) -> str:
         return f"refused, {self.reason}" if self.reason else "done"
 
     @property
-    def place(self):
+    def place(self) -> str:
         """The record with its number among the commands, which other tools print."""
         return f"record {self.record} (command {self.record - 1}) of {JOURNAL}"
 
     @property
-    def line(self):
+    def line(self) -> int:
         return self.record
 
 
-class Held(NamedTuple):
-    """An order in the book at the end, as the command that would enter it."""
+class HeldCommand(NamedTuple):
+    """A command elsewhere: an order in the book at the end, as the command that would enter it, or one that a receipt has."""
 
-    record: int  # its number among the participant's orders there, from 1
-    command: object
-    line = None  # it is no line of the journal
-
-    @property
-    def place(self):
-        return f"order {self.record} in {BOOK}"
+    record: int  # its number there, from 1
+    command: OwnCommand
+    place: str
+    line: int | None = None  # it is no line of the journal
 
 
-class Own(NamedTuple):
+AnyCommand = TypeVar("AnyCommand", JournalCommand, HeldCommand)
+
+
+class SentCommands(NamedTuple):
     """The commands of a participant in a list that was sent."""
 
-    commands: list  # of `Sent`
+    commands: list[SentCommand]
     others: int  # how many commands of others the list has
     is_table: bool  # whether it is a table of orders, which may also be the orders at the end
-    notes: list  # on the table: what was read of it, and what wasn't
+    notes: list[str]  # on the table: what was read of it, and what wasn't
 
 
-def parse_sent(data, who, periods, has_none):
+def parse_sent(data: bytes, who: str, periods: int, has_none: bool) -> SentCommands:
     """The commands of a participant in a list: records as in a journal, with the records `day` and `close` or without them, or a table
     of orders. Those of others are left out. A list with those of others alone is wrong, except a table if the participant `has_none` in the
     book at the end, having cancelled them."""
-    is_table = not WORDS.match(data.removeprefix(text.MARK).lstrip(SPACES))
-    if is_table:
-        own, notes, others = parse_commands_notes_and_others(data, periods, who)
+    if WORDS.match(data.removeprefix(text.MARK).lstrip(SPACES)):
+        every = parse_records(data, periods)
+        commands = [sent for sent in every if sent.command.who == who]
+        own = SentCommands(commands, len(every) - len(commands), False, [])
     else:
-        every = list(parse_records(data, periods))
-        own, notes = [sent for sent in every if sent.command.who == who], []
-        others = len(every) - len(own)
-    if others and not own and not (is_table and has_none):
-        raise BadSentText("\n".join([f"it has {text.counted(others, 'command')} of others, and none of {who}", *notes]))
-    return Own(own, others, is_table, notes)
+        own = parse_table(data, periods, who)
+    if own.others and not own.commands and not (own.is_table and has_none):
+        raise BadSentText("\n".join([f"it has {text.counted(own.others, 'command')} of others, and none of {who}", *own.notes]))
+    return own
 
 
-def parse_records(data, periods):
+def parse_records(data: bytes, periods: int) -> list[SentCommand]:
     own = data if lint.first_word(data) == "day" else f"{journal.day_record_text(periods)}\n".encode() + data
     try:
         read = journal.parse_journal(own)
     except journal.JournalFault:
-        raise BadSentText(lint.first_fault_words(data, periods).lstrip()) from None
+        raise BadSentText(lint.first_fault_text(data, periods).lstrip()) from None
     if read.periods != periods:
         raise BadSentText(f"it is for a day of {read.periods} periods, but the journal is for one of {periods}")
     first = 2 if own is data else 1
-    return [Sent(at, command) for at, command in enumerate(read.commands, first) if not isinstance(command, journal.Close)]
+    return [SentCommand(at, command) for at, command in enumerate(read.commands, first) if not isinstance(command, journal.Close)]
 
 
-def parse_commands_notes_and_others(data, periods, who):
-    """The orders of a participant in a table, as the sent commands; notes on the table; and how many others it has."""
+def parse_table(data: bytes, periods: int, who: str) -> SentCommands:
     try:
         table = order_table.parse_cells(data)
         if command_table.is_command_table(table):
@@ -104,24 +107,25 @@ def parse_commands_notes_and_others(data, periods, who):
             raise BadSentText(f"{words}: give records of a journal, or a table of orders")
         orders = order_table.parse_tables([("", table)], periods, who)
     except order_table.BadOrders as fault:
-        is_table = kinds.kind_or_none(data) == kinds.ORDERS
+        is_table = kinds.kind_of_bytes(data) == kinds.ORDERS
         where = "its table has rows that aren't orders" if is_table else "it has no journal records and isn't a table of orders"
         raise BadSentText(f"{where}: {fault}") from None
-    return [Sent(number, submit) for number, submit in orders.submits], orders.notes, orders.others
+    return SentCommands([SentCommand(number, submit) for number, submit in orders.submits], orders.others, True, orders.notes)
 
 
-def own_entries(read, reasons, who):
-    """The commands of a participant in a journal, with the reasons of their refusals."""
+def own_entries(read: journal.Journal, reasons: Iterable[str | None], who: str) -> list[JournalCommand]:
     return [
-        Entry(record, command, reason)
+        JournalCommand(record, command, reason)
         for record, (command, reason) in enumerate(zip(read.commands, reasons), 2)
-        if getattr(command, "who", None) == who
+        if not isinstance(command, journal.Close) and command.who == who
     ]
 
 
-def pairs_and_rests(sent, entries, key):
+def pairs_and_rests(
+    sent: Iterable[SentCommand], entries: Iterable[AnyCommand], key: Callable[[OwnCommand], Hashable]
+) -> tuple[list[tuple[SentCommand, AnyCommand]], list[SentCommand], list[AnyCommand]]:
     """Pairs of a sent command and an entry with the same key, by their order; and the rest of both lists."""
-    waiting = defaultdict(deque)
+    waiting: dict[Hashable, deque[AnyCommand]] = defaultdict(deque)
     for entry in entries:
         waiting[key(entry.command)].append(entry)
     pairs, left = [], []
@@ -134,44 +138,57 @@ def pairs_and_rests(sent, entries, key):
     return pairs, left, [entry for same in waiting.values() for entry in same]
 
 
-def no_proof_words(_):
+def no_proof_text(_: OwnCommand) -> str:
     return ""
 
 
-def faults_and_lines_of_sent(own, entries, closed, who, look, proof_words=no_proof_words):
+def faults_and_lines_of_sent(
+    own: SentCommands,
+    entries: Sequence[JournalCommand],
+    closed: book.Book,
+    who: str,
+    look: Callable[[], None],
+    proof_text: ProofWords = no_proof_text,
+) -> tuple[list[FaultLine], list[str]]:
     """The faults of a participant's commands in a journal, and lines about the right ones. A table of orders may have the commands, or
     the orders at the end: of both, the one with fewer differences is meant. `look` is called now and then, and may end the comparison. Of a
-    command that isn't in the journal as it was sent, `proof_words` says whether the operator had it."""
+    command that isn't in the journal as it was sent, `proof_text` says whether the operator had it."""
     commands, reasons = own.commands, [entry.reason for entry in entries]
-    wrong = difference_faults(commands, entries, look=look, proof_words=proof_words)
+    wrong = difference_faults(commands, entries, look=look, proof_text=proof_text)
     others = f" ({own.others} of others left out)" if own.others else ""
     if wrong and own.is_table:
         at_the_end = difference_faults(commands, held_of(closed, who), BOOK, look)
         if not at_the_end:
             count = f"{text.counted(len(commands), 'order')} of {who}"
-            by = f"{text.counted(len(entries), 'command')} of {who}{refused_words(reasons)}"
+            by = f"{text.counted(len(entries), 'command')} of {who}{refused_text(reasons)}"
             return [], [f"as in the table: {count} in {BOOK}, and no others, after {by}{others}"]
         wrong = min(wrong, at_the_end, key=len)
     count = f"{text.counted(len(commands), 'command')} of {who}"
-    line = f"as sent: {count}, each once, in their order, and no others{refused_words(reasons)}{others}"
+    line = f"as sent: {count}, each once, in their order, and no others{refused_text(reasons)}{others}"
     return wrong, [line, *reply_lines(commands, entries)]
 
 
-def refused_words(reasons):
+def refused_text(reasons: Sequence[str | None]) -> str:
     """How many of some commands the book refused, in words; nothing if it refused none."""
     count = sum(reason is not None for reason in reasons)
     return f", {count} of {len(reasons)} commands refused" if count else ""
 
 
-def held_of(closed, who):
+def held_of(closed: book.Book, who: str) -> list[HeldCommand]:
     """The orders of a participant in the book, in its order."""
-    own = [journal.Submit(*key, order) for key, order in closed.rows.items() if key[0] == who]
-    return [Held(number, submit) for number, submit in enumerate(own, 1)]
+    own = [journal.Submit(who, name, order) for (owner, name), order in closed.rows.items() if owner == who]
+    return [HeldCommand(number, submit, f"order {number} in {BOOK}") for number, submit in enumerate(own, 1)]
 
 
-def difference_faults(sent, entries, where=JOURNAL, look=lambda: None, proof_words=no_proof_words):
+def difference_faults(
+    sent: Sequence[SentCommand],
+    entries: Sequence[AnyCommand],
+    where: str = JOURNAL,
+    look: Callable[[], None] = lambda: None,
+    proof_text: ProofWords = no_proof_text,
+) -> list[FaultLine]:
     """The faults of the journal's entries, or of the orders held in the book, by their records."""
-    pairs = subsequence.longest_pairs(*([one.command for one in part] for part in (sent, entries)), look)
+    pairs = subsequence.longest_pairs([one.command for one in sent], [one.command for one in entries], look)
     there, here = ({place[side] for place in pairs} for side in (0, 1))
     left = [entry for at, entry in enumerate(sent) if at not in there]
     more = [entry for at, entry in enumerate(entries) if at not in here]
@@ -179,38 +196,37 @@ def difference_faults(sent, entries, where=JOURNAL, look=lambda: None, proof_wor
     changed, left, more = pairs_and_rests(left, more, lambda command: (type(command), command.name))
     sent_times = Counter(entry.command for entry in sent)
     faults = [(other.record, moved_fault(one, other)) for one, other in moved]
-    faults += [(other.record, changed_fault(one, other, proof_words(one.command))) for one, other in changed]
+    faults += [(other.record, changed_fault(one, other, proof_text(one.command))) for one, other in changed]
     matched_records = [(sent[at].record, entries[place].record) for at, place in pairs]
     for one in left:
-        fault = missing_fault(one, where, proof_words(one.command))
+        fault = missing_fault(one, where, proof_text(one.command))
         faults.append((last_record_before(one, matched_records), fault))
     faults += [(other.record, more_fault(other, sent_times[other.command])) for other in more]
     return [fault for _, fault in sorted(faults, key=lambda placed: placed[0])]
 
 
-def subject_of(entry):
-    """The subject of a fault of a command."""
+def subject_of(entry: SentCommand | JournalCommand | HeldCommand) -> str:
     return f"order {entry.command.who},{entry.command.name}"
 
 
-def moved_fault(one, other):
+def moved_fault(one: SentCommand, other: JournalCommand | HeldCommand) -> FaultLine:
     shown = journal.command_record_text(one.command)
     words = f"sent record {one.record} is moved: {other.place} is out of its order: {shown}"
     return FaultLine(words, "moved", other.line, subject_of(one))
 
 
-def changed_fault(one, other, proof):
+def changed_fault(one: SentCommand, other: JournalCommand | HeldCommand, proof: str) -> FaultLine:
     was, now = journal.command_record_text(one.command), journal.command_record_text(other.command)
     words = f"sent record {one.record} is changed: it was '{was}', and {other.place} is '{now}'{proof}"
     return FaultLine(words, "changed", other.line, subject_of(one))
 
 
-def missing_fault(one, where, proof):
+def missing_fault(one: SentCommand, where: str, proof: str) -> FaultLine:
     words = f"sent record {one.record} is missing in {where}: {journal.command_record_text(one.command)}{proof}"
     return FaultLine(words, "missing", None, subject_of(one))
 
 
-def more_fault(other, times):
+def more_fault(other: JournalCommand | HeldCommand, times: int) -> FaultLine:
     """The fault of a record that wasn't sent, or not as often; its command was sent this many times."""
     shown = journal.command_record_text(other.command)
     if not times:
@@ -220,14 +236,14 @@ def more_fault(other, times):
     return FaultLine(words, "repeated", other.line, subject_of(other))
 
 
-def last_record_before(missing, matched_records):
+def last_record_before(missing: SentCommand, matched_records: Sequence[tuple[int, int]]) -> int:
     """The number of the journal's record after which a missing command should come, or 0. The pairs of `matched_records` are of a record
     sent and the journal's record that is the same command, in the order of both."""
     count = bisect_left(matched_records, (missing.record,))
     return matched_records[count - 1][1] if count else 0
 
 
-def reply_lines(sent, entries):
+def reply_lines(sent: Iterable[SentCommand], entries: Iterable[JournalCommand]) -> Iterator[str]:
     """The reply to each command, if all entries are as they were sent."""
     for one, other in zip(sent, entries):
         shown = journal.command_record_text(one.command)

@@ -4,7 +4,7 @@ It judges nothing. The desk, a child process, keeps a day's journal on the disk 
 clears the journal; tools/table says what became of each order; `lib.seal` signs heads and makes receipts. Receipts, replay, clear and
 the audit show whether an office was right. Its modules draw nothing, and no module outside of this folder imports them, but tools/office.
 
-It may import: base, journal, lint, receipts, report, results, runs, seal, sheets, tool.
+It may import: base, journal, lint, pages, process, receipts, results, runs, seal, tables, tool.
 
 | Module | What |
 |---|---|
@@ -12,17 +12,19 @@ It may import: base, journal, lint, receipts, report, results, runs, seal, sheet
 | `tokens` | the participants, and whether a token is one's |
 | `desk` | the child process that keeps the journal |
 | `ledger` | the entries of a day in memory: numbers, orders, receipts |
-| `newest` | the newest signed head in a file, with which a start compares the journal |
+| `newest_head` | the newest signed head in a file, with which a start compares the journal |
 | `day_writer`, `submissions` | the one writer of a day: batches, the close, the time; the requests that wait for it |
 | `refusals` | why a request is refused |
 | `programs` | the programs that an office runs |
-| `outcome`, `published` | making the files that are published; what participants see of them |
+| `publishing`, `published` | making the files that are published; what participants see of them |
 | `requests`, `table_reader` | commands in a request; an uploaded table, read in a process of its own |
-| `web`, `fixed_files` | the routes; the files that don't change |
+| `routes`, `responses` | the routes, and a fault's response; responses of several answers |
+| `participant_answers` | a participant's commands are entered, and its own data shown |
+| `public_answers`, `fixed_files` | what all may see; the files that don't change |
 | `admission` | whether a request is answered |
-| `guards`, `budgets` | limits on connections; on requests |
-| `observed` | the log and the counts |
-| `serve`, `operate`, `demo` | the commands of tools/office |
+| `connections`, `budgets` | limits on connections; on requests |
+| `monitoring` | the log and the counts |
+| `serve`, `operator_commands`, `demo` | the commands of tools/office |
 
 A crash, of the office, the desk or both, at any moment, neither loses an acknowledged command nor enters one twice:
 

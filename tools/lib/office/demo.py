@@ -1,16 +1,20 @@
 """A demo: a day of made-up participants at a loopback address, in a folder that goes away."""
 
+import argparse
 import asyncio
 import contextlib
 import datetime
 import tempfile
 import webbrowser
 
+from ..journal import journal
 from ..seal import heads
 from ..tool import exits, file_io
-from . import folder, observed, setup, tokens
+from . import folder, monitoring, setup, tokens
+from .day_writer import DayWriter
+from .programs import Programs
 from .refusals import Refused
-from .serve import Office, serve
+from .serve import Listening, Office, serve
 
 DAY_AFTER = datetime.timedelta(days=1)
 TOWN = ((8, 800), (9, 700), (19, 900), (20, 850))
@@ -40,7 +44,7 @@ ORDERS = GUIDE + [
 PARTICIPANTS = ("GAS", "TOWN", "WIND", "RIVER", "OIL")
 
 
-def demo_terms(seconds):
+def demo_terms(seconds: int) -> folder.Terms:
     now = datetime.datetime.now(datetime.timezone.utc)
     return folder.Terms(
         (now + DAY_AFTER).date().isoformat(),
@@ -51,19 +55,19 @@ def demo_terms(seconds):
     )
 
 
-async def enter_orders_or_stop(writer):
+async def enter_orders_or_stop(writer: DayWriter) -> None:
     """Enters the orders that are there already, as their participants would."""
     await writer.is_ready.wait()
     for who in PARTICIPANTS:
-        commands = [found for found in map(heads.command_of_record_or_none, ORDERS) if found.who == who]
-        if commands:
+        submits = [found for found in map(heads.command_of_record, ORDERS) if isinstance(found, journal.Submit) and found.who == who]
+        if submits:
             try:
-                await writer.submit_or_refuse(who, 1, commands)
+                await writer.submit_or_refuse(who, 1, [*submits])
             except Refused as fault:
                 raise exits.Stop(f"the demo's own orders weren't entered ({fault}): give more --seconds", exits.COMMAND_LINE) from None
 
 
-async def serve_demo(args, programs):
+async def serve_demo(args: argparse.Namespace, programs: Programs) -> None:
     with tempfile.TemporaryDirectory(prefix="dam-office-") as room:
         office = folder.Folder(f"{room}/office")
         setup.make_office(office)
@@ -71,9 +75,9 @@ async def serve_demo(args, programs):
         made = {who: register.write_new_token(who) for who in PARTICIPANTS}
         day = demo_terms(args.seconds)
         setup.make_day_or_stop(office, day)
-        served = Office(office, programs, observed.Log())
+        served = Office(office, programs, monitoring.Log())
 
-        async def started(port):
+        async def started(port: int) -> None:
             await enter_orders_or_stop(served.writers[day.day])
             page = f"http://{args.host}:{port}/"
             file_io.print_lines([f"the page: {page}", f"the day {day.day} closes in {args.seconds} s; Ctrl-C ends the demo"])
@@ -81,4 +85,4 @@ async def serve_demo(args, programs):
                 with contextlib.suppress(webbrowser.Error):
                     await asyncio.to_thread(webbrowser.open, page)
 
-        await serve(served, args.host, args.port, demo=made, started=started)
+        await serve(served, Listening(args.host, args.port), made, started)

@@ -7,7 +7,7 @@ from markupsafe import Markup
 
 from ..base import rules
 from ..journal import book
-from ..report import style
+from ..pages.rendering import read_and_render
 
 PARTS = {"/": ("office.html", "text/html"), "/office.css": ("office.css", "text/css"), "/office.js": ("office.js", "text/javascript")}
 # The numbers that the page checks an order by before it sends it, or shows.
@@ -15,7 +15,7 @@ RULES = "LOWEST_PRICE", "HIGHEST_PRICE", "GREATEST_VOLUME", "LONGEST_NAME", "MOS
 OPENAPI = Path(__file__).with_name("openapi.json")
 
 
-def read_openapi_text(is_demo):
+def read_openapi_text(is_demo: bool) -> str:
     """The requests of an office or of a demo, as OpenAPI. The file has both; it marks those that only a demo answers. It names the limits
     on prices, whose numbers are those of the rules."""
     words = OPENAPI.read_text(encoding="utf-8")
@@ -26,11 +26,11 @@ def read_openapi_text(is_demo):
     return json.dumps(api, indent=1) + "\n"
 
 
-def read_page_part_text(name):
+def read_page_part_text(name: str) -> str:
     """A part of the page, in which the page's rules and the words of the book's reasons stand."""
     reasons = {word: reason.words for word, reason in book.REASONS.items()}
     known = {"reasons": reasons, "rules": {name.lower(): getattr(rules, name) for name in RULES}}
-    made = {name: Markup(json.dumps(value)) for name, value in known.items()}
+    made: dict[str, object] = {name: Markup(json.dumps(value)) for name, value in known.items()}
     made["most_blocks"] = rules.MOST_BLOCKS
     made["most_of_group"] = "one" if rules.MOST_OF_GROUP == 1 else rules.MOST_OF_GROUP
-    return style.read_style(name) if name.endswith(".css") else style.TEMPLATES.get_template(name).render(**made)
+    return read_and_render(name, **made)

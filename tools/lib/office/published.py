@@ -6,11 +6,13 @@ import itertools
 import json
 import re
 import threading
+from collections.abc import Callable
 
-from ..results import decisions
+from ..base.json_value import Json, JsonObject
+from ..results import judgement
 from ..seal import heads
 from . import folder
-from .ledger import Contradiction
+from .ledger import Contradiction, Ledger
 
 # How a reason of a rejected block begins, which its participant can compute from the prices and its own orders.
 NAMES = r"[A-Z0-9-]+(?:, [A-Z0-9-]+)*(?: and [A-Z0-9-]+)?"
@@ -19,11 +21,11 @@ OWN_GAIN = re.compile(rf"(?:with {NAMES} it )?would gain (?:nothing|[0-9.,]+ EUR
 # its losses and the periods that don't balance tell others' limits and volumes. Five reasons are one, since each tells something too.
 MOST_GAIN = "but if it were accepted, a block would lose, a period wouldn't balance, or the welfare wouldn't be greater"
 HIDDEN = {
-    decisions.GROUP: "but another block of its group, or of a parent's group, is accepted",
-    decisions.PARENT: "but a parent that it needs would lose even with it",
-    **dict.fromkeys((decisions.UNBALANCED, decisions.WOULD_LOSE, decisions.LESS, decisions.TIE, decisions.BETTER), MOST_GAIN),
+    judgement.GROUP: "but another block of its group, or of a parent's group, is accepted",
+    judgement.PARENT: "but a parent that it needs would lose even with it",
+    **dict.fromkeys((judgement.UNBALANCED, judgement.WOULD_LOSE, judgement.LESS, judgement.TIE, judgement.BETTER), MOST_GAIN),
 }
-TOLD = (decisions.GROUP, decisions.PARENT)  # the codes among these that tell nothing of others
+TOLD = (judgement.GROUP, judgement.PARENT)  # the codes among these that tell nothing of others
 MOST_TEXTS = 16  # of statements that are kept as they are sent
 # Of all participants' orders. From these, one could compute the limits of another.
 SUMS = ("welfare_eur", "hourly_surplus_eur", "block_surplus_eur")
@@ -32,23 +34,26 @@ SUMS = ("welfare_eur", "hourly_surplus_eur", "block_surplus_eur")
 class Published:
     """What of a day is published."""
 
-    def __init__(self, files):
-        self.files, self.rows, self.text = files, None, None
-        self.texts, self.lock = {}, threading.Lock()  # of statements, by participant and whether the journal is published
+    def __init__(self, files: folder.DayFolder) -> None:
+        self.files = files
+        self.rows: tuple[JsonObject, dict[str, str]] | None = None  # the day of the statement, and each participant's rows as a text
+        self.text: str | None = None  # of the prices
+        self.texts: dict[tuple[str, bool], str] = {}  # of statements, by participant and whether the journal is published
+        self.lock = threading.Lock()
 
     @property
-    def has_results(self):
+    def has_results(self) -> bool:
         return self.files.has_file(folder.RESULTS)
 
     @property
-    def is_whole(self):
+    def is_whole(self) -> bool:
         return self.has_results and self.files.has_file(folder.STATEMENT)
 
     @property
-    def has_journal(self):
+    def has_journal(self) -> bool:
         return self.has_results and self.files.has_file(folder.OPEN_JOURNAL)
 
-    def read_and_cache_prices_text(self, periods):
+    def read_and_cache_prices_text(self, periods: int) -> str:
         """The first lines of the results without the welfare: the day and the periods. They stay the same, and are read once."""
         if self.text is None:
             with self.files.path_of(folder.RESULTS).open(encoding="ascii") as results:
@@ -56,16 +61,16 @@ class Published:
             self.text = "".join(lines[:1] + lines[2:])
         return self.text
 
-    def read_and_cache_statement_or_none(self, who):
+    def read_and_cache_statement(self, who: str) -> JsonObject | None:
         """A participant's commands with what became of them; None before they are published. Until the journal is, nothing in it tells of
         the orders of others but the prices and volumes."""
         if self.rows is None and self.is_whole:
             found = json.loads(self.files.read_file(folder.STATEMENT))
-            rows = {}
+            by_owner: dict[str, list[Json]] = {}
             for row in found["rows"]:
-                rows.setdefault(row["participant"], []).append(row)
+                by_owner.setdefault(row["participant"], []).append(row)
             # as text: their objects take several times as much memory, as long as the office runs
-            self.rows = found["day"], {owner: json.dumps(own) for owner, own in rows.items()}
+            self.rows = found["day"], {owner: json.dumps(own) for owner, own in by_owner.items()}
         if self.rows is None:
             return None
         day, rows = self.rows[0], json.loads(self.rows[1].get(who, "[]"))
@@ -73,12 +78,12 @@ class Published:
             return {"day": day, "rows": [{**row, "why": without_own_participant(row["why"], who)} for row in rows]}
         return {"day": {name: value for name, value in day.items() if name not in SUMS}, "rows": list(map(without_words_of_others, rows))}
 
-    def read_and_cache_text_or_none(self, who):
+    def read_and_cache_text(self, who: str) -> str | None:
         """The statement in JSON, which is kept as it is sent; None before there is one."""
         key = who, self.has_journal
         with self.lock:  # it is made in a thread of its own
             if key not in self.texts:
-                found = self.read_and_cache_statement_or_none(who)
+                found = self.read_and_cache_statement(who)
                 if found is None:
                     return None
                 while len(self.texts) >= MOST_TEXTS:
@@ -87,12 +92,12 @@ class Published:
             return self.texts[key]
 
 
-def without_own_participant(why, who):
+def without_own_participant(why: str | None, who: str) -> str | None:
     """A reason with the participant's own orders by their names alone."""
     return re.sub(rf"\b{who},(?=[A-Z0-9-]+ would lose )", "", why) if why else why
 
 
-def without_words_of_others(row):
+def without_words_of_others(row: JsonObject) -> JsonObject:
     """A row without the words, and the code, that tell of others' orders."""
     code = row.get("code")
     if code not in HIDDEN:
@@ -102,7 +107,7 @@ def without_words_of_others(row):
     return {**row, "why": why, "code": code if code in TOLD else None}
 
 
-def read_published_ledger(files, make_ledger):
+def read_published_ledger(files: folder.DayFolder, make_ledger: Callable[[], Ledger]) -> Ledger:
     """A new ledger with the journal of a day that is published, which has to be that of its head. The files of it are compared whole."""
     ledger = make_ledger()
     try:
@@ -120,11 +125,11 @@ def read_published_ledger(files, make_ledger):
     return ledger
 
 
-def sha256_hex(data):
+def sha256_hex(data: bytes) -> str:
     return hashlib.sha256(data).hexdigest()
 
 
-def read_results_and_require_unchanged(files):
+def read_results_and_require_unchanged(files: folder.DayFolder) -> None:
     """Ends with a contradiction if the results or the statement were changed since they were made."""
     try:
         sums = json.loads(files.read_file(folder.SUMS))

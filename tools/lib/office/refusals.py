@@ -23,18 +23,18 @@ class RequestFault(enum.Enum):
     METHOD = "Method", 405
     DEFECT = "Defect", 500
 
-    def __init__(self, word, status):
+    def __init__(self, word: str, status: int) -> None:
         self.word, self.status = word, status
 
 
 class Refused(Exception):
-    """A request that enters nothing: the fault, the words for it, and further members of the answer."""
+    """A request that enters nothing: the fault, the words for it, the seconds to wait, and further members of the answer."""
 
-    def __init__(self, fault, words, **more):
+    def __init__(self, fault: RequestFault, words: str, seconds: float | None = None, **more: int) -> None:
         super().__init__(words)
-        self.fault, self.more = fault, more
+        self.fault, self.seconds, self.more = fault, seconds, more
 
 
-def unread_tokens_refusal():
+def unread_tokens_refusal() -> Refused:
     """The fault of a request while the file of the tokens can't be read."""
     return Refused(RequestFault.UNAVAILABLE, "the office can't read its tokens: send the same command again", seconds=1)

@@ -1,5 +1,6 @@
 """Making the folder of an office, its participants and its days."""
 
+import argparse
 import contextlib
 import datetime
 import os
@@ -7,19 +8,22 @@ import re
 import shutil
 import tempfile
 import zoneinfo
+from collections.abc import Iterator
+from pathlib import Path
 
 from ..base import rules, text
 from ..seal import heads, sealing, signing
-from ..sheets import cell_values, kinds, order_table, table_files, table_operations
+from ..tables import cell_values, kinds, order_table, table_files, table_operations
 from ..tool import exits, file_io, modules
 from . import folder, tokens
 
 CLOCK = re.compile(r"([01][0-9]|2[0-3]):[0-5][0-9]")
 DAY_BEFORE = datetime.timedelta(days=1)
 WHO, SHARE = "participant", "commands"  # the columns of a table of participants
+Shares = dict[str, int | None]  # how many commands each participant may enter; None if its cell is empty
 
 
-def require_date(words):
+def require_date(words: str) -> datetime.date:
     """The date of a word of the command line."""
     try:
         return table_operations.parse_date(words)
@@ -27,7 +31,7 @@ def require_date(words):
         raise exits.Stop(f"--day {fault}", exits.COMMAND_LINE) from None
 
 
-def require_zone(words):
+def require_zone(words: str) -> zoneinfo.ZoneInfo:
     modules.refuse_missing_zone(table_operations.ZONE)
     try:
         return zoneinfo.ZoneInfo(words)
@@ -35,7 +39,7 @@ def require_zone(words):
         raise exits.Stop(f"--zone {text.quoted(words)} isn't a time zone, such as {table_operations.ZONE}", exits.COMMAND_LINE) from None
 
 
-def require_close(words, date, zone):
+def require_close(words: str, date: datetime.date, zone: zoneinfo.ZoneInfo) -> datetime.datetime:
     """The time of a close: on the day before delivery, or with a date of its own."""
     try:
         if CLOCK.fullmatch(words):
@@ -52,7 +56,7 @@ def require_close(words, date, zone):
     return found
 
 
-def require_terms(args, shares, now=None):
+def require_terms(args: argparse.Namespace, shares: dict[str, int], now: datetime.datetime | None = None) -> folder.Terms:
     """The terms of a day, by the words of the command line."""
     date, zone = require_date(args.day), require_zone(args.zone)
     if args.periods not in rules.DAYS:
@@ -67,16 +71,16 @@ def require_terms(args, shares, now=None):
     return folder.Terms(args.day, args.periods, closes, args.zone, shares)
 
 
-def is_closing_late(terms):
+def is_closing_late(terms: folder.Terms) -> bool:
     """Whether a day closes after its first period has begun, which may be a slip."""
     return terms.closes.astimezone(zoneinfo.ZoneInfo(terms.zone)).date() >= require_date(terms.day)
 
 
-def read_shares_and_print_notes(path):
+def read_shares_and_print_notes(path: str) -> Shares:
     """The participants of a table, CSV or Excel, with the column participant; and how many commands each may enter, if a column commands
     says it."""
-    data, notes = file_io.read_bytes(path), []
-    kind = kinds.kind_or_none(data)
+    data, notes = file_io.read_bytes(path), list[str]()
+    kind = kinds.kind_of_bytes(data)
     if kind in kinds.FILES - {kinds.EXCEL}:
         raise exits.Stop(f"{exits.shown(path)} is {kind}: save the table as .xlsx or as CSV")
     try:
@@ -91,27 +95,28 @@ def read_shares_and_print_notes(path):
     return found
 
 
-def parse_shares_and_append_notes(data, notes):
+def parse_shares_and_append_notes(data: bytes, notes: list[str]) -> Shares:
     """The same of a table's bytes. A cell that would be lost is a fault. Notes say how the table was read."""
     (line, header), *rows = list(table_files.parse_rows_and_add_notes(data, [WHO], notes, folder.MOST_COMMANDS)[0]) or [(1, [])]
     table = order_table.Table("", rows, require_columns(line, header), len(header), False, [], notes)
     order_table.refuse_unnamed(header, rows)
-    found, lines, wrong = {}, {}, order_table.Faults()
+    found, lines, wrong = Shares(), dict[str, int](), order_table.Faults()
     for line, cells in rows:
-        row = order_table.Row(cells, table, None)
-        who, share = row.parse_cell_or_note_fault(WHO, cell_values.parse_participant), row.parse_cell_or_note_fault(SHARE, parse_share_or_none)
+        row = order_table.Row(cells, table, 0)
+        who = row.parse_cell_or_note_fault(WHO, cell_values.parse_participant, "")
+        share = row.parse_cell_or_note_fault(SHARE, parse_share, None)
         if who and who in lines:
             row.faults.append(f"column {WHO}: {who} is in line {lines[who]} too")
         found[who] = share
         lines.setdefault(who, line)
         for words in row.faults:
-            wrong.add(order_table.row_fault_words(line, words))
+            wrong.add(order_table.row_fault_text(line, words))
     if wrong.count:
         raise wrong.as_one_error()
     return found
 
 
-def require_columns(line, header):
+def require_columns(line: int, header: list[str]) -> order_table.Places:
     """Where the columns of a table of participants stand. It has no others."""
     names, columns = table_files.column_names(header), f"the columns are {WHO}, {SHARE}"
     if WHO not in names:
@@ -124,14 +129,14 @@ def require_columns(line, header):
     return order_table.Places({name: at for at, name in enumerate(names) if name})
 
 
-def parse_share_or_none(cell):
+def parse_share(cell: str) -> int | None:
     """How many commands a participant may enter; None if its cell is empty."""
     if cell and not (cell.isascii() and cell.isdigit() and len(cell) < 6):
         raise order_table.BadOrders(f"{text.quoted(cell)} should be a whole number of at most 5 digits, such as 500")
     return int(cell) if cell else None
 
 
-def require_shares(given):
+def require_shares(given: Shares) -> dict[str, int]:
     """How many commands each participant may enter: all of them together no more than a journal has, so that nobody takes another's."""
     free = folder.MOST_COMMANDS - sum(share for share in given.values() if share is not None)
     open_ones = sum(share is None for share in given.values())
@@ -140,7 +145,7 @@ def require_shares(given):
     return {who: free // open_ones if share is None else share for who, share in given.items()}
 
 
-def make_office(office):
+def make_office(office: folder.Folder) -> None:
     """Makes the folder with its key, without participants. Of several processes at once, one makes it, and the others find it."""
     os.makedirs(office.path, mode=0o700, exist_ok=True)
     with folder.holding_folder(office.path):
@@ -152,7 +157,7 @@ def make_office(office):
         os.makedirs(office.path_of(folder.DAYS), exist_ok=True)
 
 
-def make_key_or_stop(office):
+def make_key_or_stop(office: folder.Folder) -> None:
     if any(os.scandir(office.path)):
         raise exits.Stop(f"{exits.shown(office.path)} isn't empty, and isn't the folder of an office")
     key = signing.draw_key()
@@ -160,41 +165,34 @@ def make_key_or_stop(office):
     folder.write_synced(office.path_of(folder.KEY), signing.private_bytes(key))
 
 
-def make_day_or_stop(office, terms):
+def make_day_or_stop(office: folder.Folder, terms: folder.Terms) -> None:
     with making_day(office, terms):
         pass
 
 
 @contextlib.contextmanager
-def making_day(office, terms):
+def making_day(office: folder.Folder, terms: folder.Terms) -> Iterator[None]:
     """Makes the folder of a day, whole or not at all: it is there once the block has ended. Another process that makes a day waits until
     then, so that the block of a day that is there already never begins."""
-    with folder.holding_folder(office.path):
-        if (office.path_of(folder.DAYS) / terms.day).exists():
-            raise exits.Stop(f"there is a day {terms.day} already")
-        with making_day_folder(office, terms):
-            yield
-
-
-@contextlib.contextmanager
-def making_day_folder(office, terms):
-    """Makes the folder of a day next to its place, in which it is once the block has ended."""
     days = office.path_of(folder.DAYS)
-    made = tempfile.mkdtemp(prefix=".new-", dir=days)
-    try:
-        files = folder.DayFolder(made)
-        folder.write_synced(files.path_of(folder.SALTS), heads.line_bytes_of(sealing.draw_salts(terms.day)))
-        folder.write_synced(files.path_of(folder.TERMS), folder.json_bytes(terms.json_value()))
-        for path in (files.path_of(folder.SALTS), files.path_of(folder.TERMS), made):
-            folder.give_to_owner_of(path, office.path)
-        yield
-        os.rename(made, days / terms.day)
-        folder.sync_folder(days)
-    finally:
-        shutil.rmtree(made, ignore_errors=True)
+    with folder.holding_folder(office.path):
+        if (days / terms.day).exists():
+            raise exits.Stop(f"there is a day {terms.day} already")
+        made = Path(tempfile.mkdtemp(prefix=".new-", dir=days))  # next to its place
+        try:
+            files = folder.DayFolder(made)
+            folder.write_synced(files.path_of(folder.SALTS), heads.line_bytes_of(sealing.draw_salts(terms.day)))
+            folder.write_synced(files.path_of(folder.TERMS), folder.json_bytes(terms.json_value()))
+            for path in (files.path_of(folder.SALTS), files.path_of(folder.TERMS), made):
+                folder.give_to_owner_of(path, office.path)
+            yield
+            os.rename(made, days / terms.day)
+            folder.sync_folder(days)
+        finally:
+            shutil.rmtree(made, ignore_errors=True)
 
 
-def make_or_extend_office(office, args):
+def make_or_extend_office(office: folder.Folder, args: argparse.Namespace) -> tuple[folder.Terms, dict[str, str]]:
     """Makes the office if there is none, its new participants and the day. Returns the terms, and the tokens of the new participants."""
     register = tokens.Register(office.path_of(folder.PARTICIPANTS))
     is_new = not office.path_of(folder.PARTICIPANTS).exists()
@@ -204,5 +202,5 @@ def make_or_extend_office(office, args):
     terms = require_terms(args, require_shares(given))
     make_office(office)
     with making_day(office, terms):  # a token is made only if it is shown
-        made = register.write_and_return_new_tokens(given)
+        made = register.write_new_tokens(given)
     return terms, made

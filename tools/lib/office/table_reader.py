@@ -6,6 +6,7 @@ import json
 import os
 import resource
 import sys
+from collections.abc import Iterable, Sequence
 from pathlib import Path
 
 if not __package__:  # the program: an isolated Python leaves the tools out
@@ -19,9 +20,8 @@ MOST_MEMORY = 1 << 29  # bytes of addresses; a workbook of 1 MiB takes a tenth
 NICENESS = 10
 
 
-async def capture_table_records_and_notes(data, who, periods, orders=()):
-    """The records that a table makes of a participant whose orders in the book are pairs of a name and a kind; and notes on how it was
-    read."""
+async def capture_table(data: bytes, who: str, periods: int, orders: Iterable[Sequence[str]] = ()) -> requests.ReadTable:
+    """Reads a table of a participant, whose orders in the book are pairs of a name and a kind."""
     given = json.dumps(list(orders)).encode() + b"\n" + data
     try:
         words = [sys.executable, "-I", "-B", __file__, who, str(periods)]
@@ -32,17 +32,16 @@ async def capture_table_records_and_notes(data, who, periods, orders=()):
     value = json.loads(made)
     if "wrong" in value:
         raise requests.BadRequest(value["wrong"])
-    return value["records"], value["notes"]
+    return requests.ReadTable(**value)
 
 
-def limit_and_print_records(who, periods):
+def limit_and_print_records(who: str, periods: str) -> None:
     os.nice(NICENESS)
     resource.setrlimit(resource.RLIMIT_AS, (MOST_MEMORY, MOST_MEMORY))
     resource.setrlimit(resource.RLIMIT_CPU, (MOST_SECONDS, MOST_SECONDS))
     orders = json.loads(sys.stdin.buffer.readline())
     try:
-        records, notes = requests.parse_table_records_and_notes(sys.stdin.buffer.read(), who, int(periods), orders)
-        made = {"records": records, "notes": notes}
+        made = requests.parse_table(sys.stdin.buffer.read(), who, int(periods), orders)._asdict()
     except requests.BadRequest as fault:
         made = {"wrong": str(fault)}
     json.dump(made, sys.stdout)

@@ -9,7 +9,10 @@ import json
 import os
 import re
 import secrets
+from collections.abc import Iterable, Iterator
+from pathlib import Path
 
+from ..base import text
 from . import folder
 
 BYTES = 32
@@ -17,68 +20,74 @@ DIGEST = re.compile(r"[0-9a-f]{64}")
 NOBODY = hashlib.sha256(secrets.token_bytes(BYTES)).hexdigest()  # the digest of a random token, which nobody has
 
 
-def draw_token(who):
+def draw_token(who: str) -> str:
     return f"{who}.{secrets.token_urlsafe(BYTES)}"
 
 
-def digest_of(token):
+def digest_of(token: str) -> str:
     return hashlib.sha256(token.encode(errors="replace")).hexdigest()
 
 
-def parse_digests(data):
+def parse_digests(data: bytes) -> dict[str, str | None]:
     """The digest of each participant's token, or None if it has none."""
     value = json.loads(data, object_pairs_hook=folder.require_unrepeated_members)
-    if not folder.is_by_participant(value, lambda digest: digest is None or folder.is_word_of_form(DIGEST, digest)):
+    if not isinstance(value, dict):
         raise ValueError
+    for who, digest in value.items():
+        is_digest = digest is None or DIGEST.fullmatch(digest) is not None
+        if not (is_digest and text.parse_participant(who.encode(errors="replace"))):
+            raise ValueError
     return value
 
 
 class Register:
     """The participants of an office, by the file that has them, which is read again when it has changed."""
 
-    def __init__(self, path):
-        self.path, self.seen, self.digests = path, None, {}
+    def __init__(self, path: Path) -> None:
+        self.path = path
+        self.seen: tuple[int, int, int] | None = None
+        self.digests: dict[str, str | None] = {}
 
-    def read_if_changed(self):
+    def read_if_changed(self) -> None:
         found = self.path.stat()
         state = found.st_mtime_ns, found.st_ino, found.st_size
         if state != self.seen:
             with folder.stopping_if_damaged(self.path, "the digests of the participants' tokens"):
                 self.digests, self.seen = parse_digests(self.path.read_bytes()), state
 
-    def is_token_of(self, who, token):
+    def is_token_of(self, who: str, token: str) -> bool:
         """Whether a token is the participant's. The comparison takes the same time for every token, and for a name that isn't known."""
         self.read_if_changed()
         return hmac.compare_digest(self.digests.get(who) or NOBODY, digest_of(token))
 
-    def read_names(self):
+    def read_names(self) -> list[str]:
         self.read_if_changed()
         return list(self.digests)
 
-    def read_revoked(self):
+    def read_revoked(self) -> list[str]:
         self.read_if_changed()
         return [who for who, digest in self.digests.items() if digest is None]
 
-    def write_new_token(self, who):
+    def write_new_token(self, who: str) -> str:
         """Gives the participant a new token in place of any earlier one, and returns it."""
         token = draw_token(who)
         with self.rewriting() as digests:
             digests[who] = digest_of(token)
         return token
 
-    def write_and_return_new_tokens(self, names):
+    def write_new_tokens(self, names: Iterable[str]) -> dict[str, str]:
         """Gives a token to each of these who isn't a participant yet, and returns the tokens."""
         with self.rewriting() as digests:
             tokens = {who: draw_token(who) for who in names if who not in digests}
             digests.update((who, digest_of(token)) for who, token in tokens.items())
         return tokens
 
-    def write_revoked(self, who):
+    def write_revoked(self, who: str) -> None:
         with self.rewriting() as digests:
             digests[who] = None
 
     @contextlib.contextmanager
-    def rewriting(self):
+    def rewriting(self) -> Iterator[dict[str, str | None]]:
         """The digests, which are written again at the end, in one piece. Other processes that change them wait until then, so that no
         change is lost; the lock ends with the process."""
         lock = os.open(f"{self.path}.lock", os.O_RDWR | os.O_CREAT, 0o600)

@@ -1,24 +1,26 @@
 """Blocks over the periods of a day: a row for each, with links and groups."""
 
 from ..base import spans, text
-from ..results import decisions
-from .canvas import BROAD, COLOURS, add_hover, add_heading, is_narrow, add_legend
-from .drawing import Patch, Polygon
+from ..results import decisions, judgement
+from ..results.selection import Row
+from ..results.trades import ClearedDay
+from .canvas import BROAD, COLOURS, Look, add_heading, add_hover, add_legend, is_narrow
+from .matplotlib_settings import Axes, Patch, Polygon
 
-LOOKS = {
-    decisions.ACCEPTED: {"facecolor": COLOURS["accepted"]},
-    decisions.REJECTED: {"facecolor": COLOURS["rejected"]},
-    decisions.PARADOX: {"facecolor": COLOURS["paradox"], "hatch": "xxx"},
+Ends = tuple[float, float]
+LOOKS: dict[str, Look] = {
+    judgement.ACCEPTED: {"facecolor": COLOURS["accepted"]},
+    judgement.REJECTED: {"facecolor": COLOURS["rejected"]},
+    judgement.PARADOX: {"facecolor": COLOURS["paradox"], "hatch": "xxx"},
 }
 
 
-def blocks_height(day, width=BROAD):
+def blocks_height(day: ClearedDay, width: float = BROAD) -> float:
     return 0.75 + (0.37 if width == BROAD else 0.48) * len(day.problem.blocks)
 
 
-def draw_blocks(axes, day):
-    """A row for each block, with an area over its periods: the height is the volume, compared with the greatest. Arrows lead from
-    parents to their children, and brackets join the blocks of a group."""
+def draw_blocks(axes: Axes, day: ClearedDay) -> None:
+    """A row for each block, with an area over its periods that is as high as its volume, compared with the greatest; links and groups."""
     blocks, right = day.problem.blocks, day.problem.periods + 0.5
     found = decisions.decisions(day.problem, day.published.accepted, day.outcome)
     for row, (block, decision) in enumerate(zip(blocks, found)):
@@ -28,7 +30,7 @@ def draw_blocks(axes, day):
         draw_block_label(axes, row, block, text.amount(day.published.surpluses[row], day.problem.hours))
     draw_links(axes, day)
     draw_groups(axes, day)
-    words = [decision_line(day, row, decision) for row, decision in enumerate(found)]
+    words = [f"{block.who} {block.name}: {decision.kind}; {decision.why}" for block, decision in zip(blocks, found)]
     ends = [(row - 0.4, row + 0.4) for row in range(len(blocks))]
     add_hover(axes, "blocks", [[(0.5, top), (right, top), (right, bottom), (0.5, bottom)] for top, bottom in ends], words)
     axes.set_ylim(len(blocks) - 0.45, -0.55)
@@ -40,18 +42,12 @@ def draw_blocks(axes, day):
     add_heading(axes, "Blocks")
 
 
-def decision_line(day, row, decision):
-    """A block's decision in a line."""
-    block = day.problem.blocks[row]
-    return f"{block.who} {block.name}: {decision.kind}; {decision.why}"
-
-
-def band_ends(axes, row):
+def band_ends(axes: Axes, row: int) -> Ends:
     """Where a block stands in its row, and where its greatest volume ends: under its label if the figure is narrow."""
     return (row + 0.42, row - 0.06) if is_narrow(axes) else (row + 0.36, row - 0.26)
 
 
-def draw_block(axes, row, block, look):
+def draw_block(axes: Axes, row: int, block: Row, look: Look) -> None:
     """The volumes of a block: an area for each run of its periods, without lines between them."""
     volumes = dict(block.order.volumes)
     most, (bottom, greatest) = max(volumes.values()), band_ends(axes, row)
@@ -64,13 +60,13 @@ def draw_block(axes, row, block, look):
         axes.add_patch(Polygon(points, closed=True, edgecolor=COLOURS["ink"], linewidth=0.7, **look))
 
 
-def period_ends(block):
+def period_ends(block: Row) -> Ends:
     """From where to where a block's periods go."""
     numbers = [number for number, _ in block.order.volumes]
     return numbers[0] - 0.5, numbers[-1] + 0.5
 
 
-def draw_links(axes, day):
+def draw_links(axes: Axes, day: ClearedDay) -> None:
     """An arrow from each parent, down from its beginning, to its child: to the nearer side of it, or onto it."""
     for row, parent in enumerate(day.problem.parents):
         if parent is None:
@@ -89,9 +85,9 @@ def draw_links(axes, day):
         axes.annotate("", tip, (xs[-2], ys[-2]), arrowprops=arrow, zorder=3)
 
 
-def draw_groups(axes, day):
+def draw_groups(axes: Axes, day: ClearedDay) -> None:
     """A bracket right of the blocks of each exclusive group, with its name."""
-    ends = []  # of each column of brackets, the last row
+    ends: list[int] = []  # of each column of brackets, the last row
     place = {"transform": axes.get_yaxis_transform(), "clip_on": False}
     for (_, group), rows in day.problem.groups().items():
         column = next((at for at, end in enumerate(ends) if end < rows[0]), len(ends))
@@ -105,7 +101,7 @@ def draw_groups(axes, day):
         axes.text(x + 0.005, middle, group, rotation=90, ha="left", va="center", fontsize=7, transform=place["transform"])
 
 
-def draw_block_label(axes, row, block, surplus):
+def draw_block_label(axes: Axes, row: int, block: Row, surplus: str) -> None:
     """A block's name left of its row, under it the side, the greatest volume and the limit price, and right of it its surplus. If the
     figure is narrow, all stand over the row."""
     volumes = {volume for _, volume in block.order.volumes}

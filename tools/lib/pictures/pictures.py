@@ -1,14 +1,14 @@
 """Pictures of a day by matplotlib: prices, volumes and blocks over the periods, and the curves of one period."""
 
+from ..results.trades import ClearedDay, PublishedDay
 from .blocks import blocks_height, draw_blocks
 from .canvas import BROAD, STYLE, new_panels
 from .curves import CurveSheet
-from .drawing import matplotlib
+from .matplotlib_settings import Figure, matplotlib
 from .prices import draw_prices, draw_volumes, set_period_axis
 
 
-def new_day_figure(day):
-    """Prices, volumes and blocks under one another."""
+def new_day_figure(day: ClearedDay) -> Figure:
     with matplotlib.rc_context(STYLE):
         figure, axes = new_panels([2.3, 2.5] + ([blocks_height(day)] if day.problem.blocks else []), BROAD)
         draw_prices(axes[0], day)
@@ -20,7 +20,7 @@ def new_day_figure(day):
         return figure
 
 
-def new_prices_figure(day, width=BROAD):
+def new_prices_figure(day: ClearedDay, width: float = BROAD) -> Figure:
     with matplotlib.rc_context(STYLE):
         figure, axes = new_panels([2.5, 2.6], width)
         draw_prices(axes[0], day)
@@ -30,7 +30,7 @@ def new_prices_figure(day, width=BROAD):
         return figure
 
 
-def new_blocks_figure(day, width=BROAD):
+def new_blocks_figure(day: ClearedDay, width: float = BROAD) -> Figure:
     with matplotlib.rc_context(STYLE):
         figure, axes = new_panels([max(blocks_height(day, width), 1.2)], width)
         draw_blocks(axes[0], day)
@@ -39,5 +39,5 @@ def new_blocks_figure(day, width=BROAD):
         return figure
 
 
-def new_period_figure(day, number, width=BROAD):
-    return CurveSheet(width).draw_and_return_figure(day, number)
+def new_period_figure(day: PublishedDay, number: int, width: float = BROAD) -> Figure:
+    return CurveSheet(width).redraw(day, number)

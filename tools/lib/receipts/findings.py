@@ -1,7 +1,9 @@
 """The findings of a run on heads and receipts: a verdict on a line of a file, and the verdict on all of them."""
 
+from collections.abc import Iterable
 from typing import NamedTuple
 
+from ..seal.heads import Receipt
 from ..tool import exits
 
 # In the order in which one of them decides the status of a run.
@@ -24,9 +26,9 @@ class Place(NamedTuple):
     """A line of a file."""
 
     file: str
-    line: int = None  # from 1; None for the whole file
+    line: int | None = None  # from 1; None for the whole file
 
-    def __str__(self):
+    def __str__(self) -> str:
         return exits.shown(self.file) + ("" if self.line is None else f" line {self.line}")
 
 
@@ -34,22 +36,28 @@ class Finding(NamedTuple):
     """The verdict on one line of a file."""
 
     file: str
-    line: int  # of the file, from 1; None for the whole file
+    line: int | None  # of the file, from 1; None for the whole file
     verdict: str
     words: str
-    receipt: object = None  # if the line could be read as one
+    receipt: Receipt | None = None  # if the line could be read as one
     about: str = FILE  # as it is counted; a finding with a receipt counts as one
 
-    def __str__(self):
+    def __str__(self) -> str:
         return f"{Place(self.file, self.line)}: {self.words}"
 
-    def record(self):
-        made = {"file": self.file, "line": self.line, "verdict": self.verdict, "words": self.words}
+    @property
+    def shown(self) -> Receipt:
+        """The receipt of a finding that has one."""
+        assert self.receipt is not None
+        return self.receipt
+
+    def record(self) -> dict[str, str | int | None]:
+        made: dict[str, str | int | None] = {"file": self.file, "line": self.line, "verdict": self.verdict, "words": self.words}
         if self.receipt is not None:
             made.update(number=self.receipt.number, record=self.receipt.record, reply=self.receipt.reply)
         return made
 
 
-def verdict(findings):
+def verdict(findings: Iterable[Finding]) -> str:
     found = min((finding.verdict for finding in findings), key=list(STATUSES).index, default=RIGHT)
     return WRONG if STATUSES[found] == exits.DIFFERS else found

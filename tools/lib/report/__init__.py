@@ -1,3 +1,3 @@
 """The page of a day.
 
-It may import: base, journal, pictures, results, sheets, whatif."""
+It may import: base, day, journal, pages, pictures, process, results, tables, whatif."""

@@ -1,6 +1,7 @@
 """How other programs may have encoded a text of `dam`: the text as `dam` writes it, with a fault for each change."""
 
 import re
+from collections.abc import Iterator
 
 from ..base import text
 from .faults import FaultLine
@@ -13,7 +14,7 @@ MARKS[b"\xfe\xff"] = MARKS[b"\xff\xfe"]
 UTF_32 = b"\xff\xfe\0\0"  # its mark begins as the mark of UTF-16
 
 
-def plain_text_and_faults(data):
+def plain_text_and_faults(data: bytes) -> tuple[bytes, list[FaultLine]]:
     """The text as `dam` writes it, if other programs have changed only how it is encoded; and the changes."""
     odd = []
     for mark, (encoding, words) in MARKS.items():
@@ -36,7 +37,7 @@ def plain_text_and_faults(data):
     return data, [FaultLine(words, "encoding") for words in odd]
 
 
-def parts_of_whole_fields(data):
+def parts_of_whole_fields(data: bytes) -> Iterator[bytes]:
     """The parts of a text, each of whole fields: to change all fields at once takes far more memory."""
     begin = 0
     while begin < len(data):
@@ -46,8 +47,7 @@ def parts_of_whole_fields(data):
         begin = end
 
 
-def is_text(data, encoding):
-    """Whether bytes can be read in an encoding."""
+def is_text(data: bytes, encoding: str) -> bool:
     try:
         return bool(data.decode(encoding))
     except UnicodeDecodeError:

@@ -1,6 +1,10 @@
 """The faults of a text, each as a line for readers that has parts for programs; and its lines, compared with the expected ones."""
 
+from collections.abc import Hashable, Sequence
+
 from ..base import subsequence
+
+Pairs = Sequence[tuple[int | None, int | None]]
 
 # The kinds of faults, in words; docs/FORMATS.md lists them for users.
 KINDS = {
@@ -33,28 +37,26 @@ KINDS = {
 
 
 class FaultLine(str):
-    """A line about a fault; its kind, the number of the line of the text if it has one, and the subject of that line."""
+    """A line about a fault."""
 
-    def __new__(cls, words, kind, line=None, about=None):
+    kind: str  # one of `KINDS`
+    line: int | None  # the number of the line of the text, if it has one
+    about: str | None  # the subject of that line
+
+    def __new__(cls, words: str, kind: str, line: int | None = None, about: str | None = None) -> "FaultLine":
         made = super().__new__(cls, words)
         made.kind, made.line, made.about = kind, line, about
         return made
 
-    def record(self):
+    def record(self) -> dict[str, str | int | None]:
         return {"kind": self.kind, "line": self.line, "about": self.about, "words": str(self)}
 
 
-def line_fault(words, kind, line, about):
-    """The fault of a line of results."""
+def line_fault(words: str, kind: str, line: int, about: str | None) -> FaultLine:
     return FaultLine(f"results line {line}: {words}", kind, line, about)
 
 
-def subject_fault(words, kind, published, about):
-    """The fault of the line about something, of results that were read."""
-    return line_fault(words, kind, published.lines[about], about)
-
-
-def moved_places(expected_lines, text_lines, pairs):
+def moved_places(expected_lines: Sequence[Hashable], text_lines: Sequence[Hashable], pairs: Pairs) -> dict[int, int]:
     """The lines of `matched_pairs` that stand in the place of none and are missing in another: from the place in the text to the
     expected one."""
     apart = [(at, place) for at, place in pairs if at is None or place is None or expected_lines[at] != text_lines[place]]
@@ -63,13 +65,14 @@ def moved_places(expected_lines, text_lines, pairs):
     return {place: missing[line] for line, place in strays.items() if line in missing}
 
 
-def matched_pairs(expected_lines, text_lines):
+def matched_pairs(expected_lines: Sequence[Hashable], text_lines: Sequence[Hashable]) -> Pairs:
     """The places of the expected lines and of those of a text, in their order, as pairs; None stands for the other place of a line that
     is missing, or that isn't expected. Lines are given by their subjects, so that a stray line is one pair."""
     if expected_lines == text_lines:  # the usual case, and far quicker to see
         return [(at, at) for at in range(len(expected_lines))]
     near = text_lines[: 2 * len(expected_lines)]
-    pairs, first, begin = [], 0, 0
+    pairs: list[tuple[int | None, int | None]] = []
+    first, begin = 0, 0
     for last, end in [*subsequence.longest_pairs(expected_lines, near), (len(expected_lines), len(near))]:
         both = min(last - first, end - begin)
         pairs += [(first + step, begin + step) for step in range(both)]

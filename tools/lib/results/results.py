@@ -1,10 +1,13 @@
 """The results text of a clearing: reading one against its problem, and writing the one that follows from a selection."""
 
 import re
+from collections.abc import Iterator, Mapping, Sequence
 from typing import NamedTuple
 
 from ..base import text
-from .faults import FaultLine, matched_pairs, moved_places, line_fault
+from .faults import FaultLine, line_fault, matched_pairs, moved_places
+from .period import Clearing
+from .selection import Outcome, Places, Problem
 
 ANOTHER = "these seem to be the results of another journal"
 
@@ -16,39 +19,49 @@ LARGE, MOST_LINES = 10**16, 20_000
 
 class Results(NamedTuple):
     welfare: int
-    prices: list  # of the periods from 1
-    volumes: list
-    executed: list  # of the hourly orders in book order
-    accepted: set  # places of blocks
-    surpluses: list  # of the blocks
-    lines: dict  # from the subject of a line, such as "period 3" or "block WHO,NAME", to its number
+    prices: list[int]  # of the periods from 1
+    volumes: list[int]
+    executed: list[int]  # of the hourly orders in book order
+    accepted: set[int]  # places of blocks
+    surpluses: list[int]  # of the blocks
+    lines: dict[str, int]  # from the subject of a line, such as "period 3" or "block WHO,NAME", to its number
 
 
-def journal_and_results_or_none(data):
+def subject_fault(words: str, kind: str, published: Results, about: str) -> FaultLine:
+    """The fault of the line about something, of results that were read."""
+    return line_fault(words, kind, published.lines[about], about)
+
+
+class ExpectedLine(NamedTuple):
+    about: str  # its subject
+    known: list[str]  # the fields that are known beforehand
+    forms: list[str]  # of the fields after them
+
+
+def journal_and_results(data: bytes) -> tuple[bytes, bytes] | None:
     """The journal and the results of the text of a day, which the line `results` separates; None if there is no such line."""
     line = re.search(rb"^results\r?\n", data, re.MULTILINE)
-    return line and (data[: line.start()], data[line.end() :])
+    return (data[: line.start()], data[line.end() :]) if line else None
 
 
 OTHER_NUMBER = re.compile(rb"[+-]?[0-9]{1,16}")
 
 
-def parse_number_or_none(field):
-    return text.parse_number_or_none(field, -LARGE, LARGE)
+def parse_number(field: bytes) -> int | None:
+    return text.parse_number(field, -LARGE, LARGE)
 
 
-def expected_lines(problem):
-    """For each line of the results: its subject, its fields that are known beforehand, and the forms of the fields after them."""
-    yield "the day", ["day", str(problem.periods)], []
-    yield "the welfare", ["welfare"], [NUMBER]
+def expected_lines(problem: Problem) -> Iterator[ExpectedLine]:
+    yield ExpectedLine("the day", ["day", str(problem.periods)], [])
+    yield ExpectedLine("the welfare", ["welfare"], [NUMBER])
     for period in range(1, problem.periods + 1):
-        yield f"period {period}", ["period", str(period)], [NUMBER, NUMBER]
+        yield ExpectedLine(f"period {period}", ["period", str(period)], [NUMBER, NUMBER])
     for row in problem.rows:
         kind = row.order.kind
-        yield f"{kind} {row}", [kind, row.who, row.name], [NUMBER] if kind == "hour" else [DECISION, NUMBER]
+        yield ExpectedLine(f"{kind} {row}", [kind, row.who, row.name], [NUMBER] if kind == "hour" else [DECISION, NUMBER])
 
 
-def line_values_or_none(line, known, forms):
+def line_values(line: bytes, known: list[str], forms: list[str]) -> list[int] | None:
     """The values after the known fields of a line that begins with these: numbers, and for a decision whether the word is `accepted`.
     None if one of them hasn't its form."""
     fields = line.split(b",")
@@ -56,23 +69,20 @@ def line_values_or_none(line, known, forms):
         return None
     values = []
     for field, form in zip(fields[len(known) :], forms):
-        if form == DECISION:
-            value = {b"accepted": True, b"rejected": False}.get(field)
-        else:
-            value = parse_number_or_none(field)
+        value = {b"accepted": True, b"rejected": False}.get(field) if form == DECISION else parse_number(field)
         if value is None:
             return None
         values.append(value)
     return values
 
 
-def known_beginning(line):
+def known_beginning(line: bytes) -> tuple[bytes, ...]:
     """The subject of a line, if it is one of results: its known fields."""
     fields = line.split(b",", 3)
     return tuple(fields[: {b"day": 2, b"welfare": 1, b"period": 2}.get(fields[0], 3)])
 
 
-def unknown_orders_faults(wanted, beginnings):
+def unknown_orders_faults(wanted: Sequence[tuple[bytes, ...]], beginnings: Sequence[tuple[bytes, ...]]) -> list[FaultLine]:
     """A fault if most lines of orders are of none of this journal's; else none."""
     orders = [begin for begin in beginnings if begin[0] in (b"hour", b"block")]
     others = len(orders) - sum(map(set(wanted).__contains__, orders))
@@ -82,7 +92,7 @@ def unknown_orders_faults(wanted, beginnings):
     return [FaultLine(words, "journal")]
 
 
-def foreign_results_fault(line, wanted):
+def foreign_results_fault(line: bytes, wanted: Sequence[tuple[bytes, ...]]) -> FaultLine:
     """The fault of results of which no line is one of this journal's."""
     for comma, name in ((b";", "semicolons"), (b"\t", "tabs")):
         if comma in line and known_beginning(line.replace(comma, b",")) in wanted:
@@ -91,9 +101,10 @@ def foreign_results_fault(line, wanted):
     return FaultLine(f"none of the lines of the results belongs to this journal: the first is {text.quoted(line)}", "journal", 1)
 
 
-def parse_results_and_faults(problem, data):
+def parse_results_and_faults(problem: Problem, data: bytes) -> tuple[Results | None, list[FaultLine]]:
     """The results that a text is for this problem, and the faults of its form; results are None if something is."""
-    wrong, lines, values = [], {}, []
+    wrong: list[FaultLine] = []
+    lines, values = {}, []
     if not data.endswith(b"\n"):
         wrong.append(FaultLine("the last line of the results has no line end", "form"))
     given_lines, more = lines_and_faults(data)
@@ -110,26 +121,27 @@ def parse_results_and_faults(problem, data):
     for at, place in pairs:
         last = last if place is None else place + 1
         if place in away:
-            wrong.append(line_fault(moved_line_words(expected, away[place]), "moved", last, expected[away[place]][0]))
-        elif at is None:
-            wrong.append(line_fault(stray_line_words(given_lines[place]), "stray", last, None))
+            wrong.append(line_fault(moved_line_text(expected, away[place]), "moved", last, expected[away[place]].about))
+        elif at is None and place is not None:
+            wrong.append(line_fault(stray_line_text(given_lines[place]), "stray", last, None))
         if at is None or at in elsewhere:
             continue
         about, known, forms = expected[at]
         if place is None or place in away:
             wrong.append(missing_line_fault(last + (place is None), len(given_lines), about))
             continue
-        read = line_values_or_none(given_lines[place], known, forms) if beginnings[place] == wanted[at] else None
+        read = line_values(given_lines[place], known, forms) if beginnings[place] == wanted[at] else None
         lines[about] = last
         if read is None:
-            wrong.append(line_fault(form_words(about, given_lines[place], known, forms), "form", last, about))
-        values.append(read)
+            wrong.append(line_fault(form_text(about, given_lines[place], known, forms), "form", last, about))
+        else:
+            values.append(read)
     if wrong:
         return None, unknown_orders_faults(wanted, beginnings) + wrong
     return results_of_values(problem, values, lines), wrong
 
 
-def lines_and_faults(data):
+def lines_and_faults(data: bytes) -> tuple[list[bytes], list[FaultLine]]:
     """The lines of a text that are looked at, and a fault if there are more, in a list."""
     found = data.removesuffix(b"\n").split(b"\n", MOST_LINES)
     if len(found) <= MOST_LINES:
@@ -139,33 +151,32 @@ def lines_and_faults(data):
     return found, [FaultLine(words, "stray", MOST_LINES + 1)]
 
 
-def missing_line_fault(line, lines, about):
+def missing_line_fault(line: int, lines: int, about: str) -> FaultLine:
     """The fault of a line that is missing before another, or at the end."""
     where = f"before results line {line}" if line <= lines else f"at the end of the results, as line {line}"
     return FaultLine(f"the line for {about} is missing {where}", "missing", line, about)
 
 
-def form_words(about, line, known, forms):
+def form_text(about: str, line: bytes, known: list[str], forms: list[str]) -> str:
     """The message about a line whose fields after the known ones haven't their forms."""
     fields = line.split(b",")
     if len(fields) == len(known) + len(forms):
         for field, form in zip(fields[len(known) :], forms):
-            if form == NUMBER and parse_number_or_none(field) is None and OTHER_NUMBER.fullmatch(field):
+            if form == NUMBER and parse_number(field) is None and OTHER_NUMBER.fullmatch(field):
                 return f"{about}: {text.quoted(field)} isn't a number as dam writes it: no +, no leading zeros, no -0"
     return f"{about} should be '{','.join(known + forms)}' and is {text.quoted(line)}"
 
 
-def moved_line_words(expected, at):
-    """The message about a line that stands in another place than its own."""
-    after = f"after that for {expected[at - 1][0]}" if at else "before all others"
-    return f"the line for {expected[at][0]} stands here and belongs {after}"
+def moved_line_text(expected: Sequence[ExpectedLine], at: int) -> str:
+    after = f"after that for {expected[at - 1].about}" if at else "before all others"
+    return f"the line for {expected[at].about} stands here and belongs {after}"
 
 
-def stray_line_words(line):
+def stray_line_text(line: bytes) -> str:
     return f"{text.quoted(line)} doesn't belong here" if line else "the line is empty, and should not be there"
 
 
-def results_of_values(problem, values, lines):
+def results_of_values(problem: Problem, values: list[list[int]], lines: dict[str, int]) -> Results:
     (_, (welfare,), *rest) = values
     periods, rows = rest[: problem.periods], rest[problem.periods :]
     kinds = list(zip(problem.rows, rows))
@@ -181,7 +192,7 @@ def results_of_values(problem, values, lines):
     )
 
 
-def executed_by_row(problem, cleared):
+def executed_by_row(problem: Problem, cleared: Mapping[int, Clearing | None]) -> dict[tuple[str, str], int | None]:
     """The executed volume of each hourly order, by participant and name; None in a period that doesn't balance."""
     volumes = {}
     for number, rows in problem.hourly.items():
@@ -191,10 +202,11 @@ def executed_by_row(problem, cleared):
     return volumes
 
 
-def results_text(problem, accepted, outcome):
+def results_text(problem: Problem, accepted: Places, outcome: Outcome) -> str:
     """The results that are published of an eligible selection."""
     lines = [f"day,{problem.periods}", f"welfare,{outcome.welfare}"]
     for number, found in outcome.cleared.items():
+        assert found is not None
         lines.append(f"period,{number},{found.price},{outcome.bought[number]}")
     executed = executed_by_row(problem, outcome.cleared)
     place = 0

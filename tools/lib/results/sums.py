@@ -3,20 +3,25 @@
 Nothing is cleared: prices, executed volumes, acceptances, surpluses and the welfare are the published ones, limits and the volumes of blocks
 those of the book."""
 
+from collections.abc import Iterable, Iterator
+from dataclasses import dataclass
 from typing import NamedTuple
 
 from . import trades
-from .faults import subject_fault
+from .faults import FaultLine
+from .results import Results, subject_fault
+from .selection import Problem, Row
 
 
-class PublishedDay(NamedTuple):
+@dataclass
+class PublishedDay:
     """Results as `trades` takes them."""
 
-    problem: object
-    published: object
+    problem: Problem
+    published: Results
 
 
-def sum_faults(problem, published):
+def sum_faults(problem: Problem, published: Results) -> Iterator[FaultLine]:
     """A fault for each sum that isn't as the laws say."""
     day = PublishedDay(problem, published)
     gains = list(trades.rows_and_surpluses(day))
@@ -26,7 +31,7 @@ def sum_faults(problem, published):
     yield from welfare_sum_faults(day, gains)
 
 
-def volume_faults(day):
+def volume_faults(day: PublishedDay) -> Iterator[FaultLine]:
     """In each period, the bought volume is the sold one, and the period's volume; so at its one price payments are receipts."""
     for number, parts in trades.volume_shares(day).items():
         bought, sold = (sum(parts[kind, side] for kind in ("hour", "block")) for side in ("buy", "sell"))
@@ -36,16 +41,16 @@ def volume_faults(day):
             yield subject_fault(words, "money", day.published, f"period {number}")
 
 
-def hourly_loss_faults(day, gains):
+def hourly_loss_faults(day: PublishedDay, gains: Iterable[tuple[Row, int]]) -> Iterator[FaultLine]:
     for row, gain in gains:
         if row.order.kind == "hour" and gain < 0:
             about = f"hour {row}"
             yield subject_fault(f"{about}: at the price it loses {-gain} with its executed volume", "loss", day.published, about)
 
 
-def participant_loss_faults(day, gains):
+def participant_loss_faults(day: PublishedDay, gains: Iterable[tuple[Row, int]]) -> Iterator[FaultLine]:
     """The participants whose surpluses add up to less than 0, each at the line of the order that loses most."""
-    own = {}
+    own: dict[str, list[tuple[int, Row]]] = {}
     for row, gain in gains:
         own.setdefault(row.who, []).append((gain, row))
     for who, pairs in own.items():
@@ -56,7 +61,7 @@ def participant_loss_faults(day, gains):
             yield subject_fault(f"{about}: {who} loses {-total} with all its orders, and most with this one", "loss", day.published, about)
 
 
-def welfare_sum_faults(day, gains):
+def welfare_sum_faults(day: PublishedDay, gains: Iterable[tuple[Row, int]]) -> Iterator[FaultLine]:
     total = sum(gain for _, gain in gains)
     if day.published.welfare != total:
         words = f"the welfare is {day.published.welfare}, and the surpluses add up to {total}"
@@ -72,7 +77,7 @@ class Sums(NamedTuple):
     block_surplus: int  # of the accepted blocks
 
 
-def sums(problem, published):
+def sums(problem: Problem, published: Results) -> Sums:
     day = PublishedDay(problem, published)
     totals = trades.totals(day).values()
     surpluses = {"hour": 0, "block": 0}
@@ -81,7 +86,7 @@ def sums(problem, published):
     return Sums(sum(total.paid for total in totals), sum(total.received for total in totals), surpluses["hour"], surpluses["block"])
 
 
-def payments_line(problem, totals):
+def payments_line(problem: Problem, totals: Sums) -> str:
     """The payments of buyers and to sellers, in words, of right results."""
     paid, received = problem.euros_text(totals.paid), problem.euros_text(totals.received)
     return f"by adding: buyers pay {paid} EUR, sellers receive {received} EUR; the surpluses add up to the welfare, and nobody loses"

@@ -4,8 +4,9 @@ import ctypes
 import functools
 import os
 import threading
+from collections.abc import Callable
 
-from ..base import ending
+from ..process import ending
 from .errors import Fault, Unstarted
 
 MOST_NODES, MOST_ANSWER = 67_108_864, 300_000  # of library/dam.h
@@ -18,7 +19,7 @@ class Answer(ctypes.Structure):
 
 
 @functools.cache
-def load_clear_call(path):
+def load_clear_call(path: str) -> Callable[..., Answer]:
     """The call of a library that clears a journal."""
     try:
         call = ctypes.CDLL(path).dam_clear_seeded
@@ -32,14 +33,14 @@ def load_clear_call(path):
 class Buffers(threading.local):
     """The buffer in which each thread gets its answers."""
 
-    def __init__(self):
+    def __init__(self) -> None:
         self.own = ctypes.create_string_buffer(MOST_ANSWER)
 
 
 buffers = Buffers()
 
 
-def call_library(path, text, nodes=MOST_NODES):
+def call_library(path: str, text: bytes, nodes: int = MOST_NODES) -> tuple[int, bytes]:
     """The status and the text that the library prints for a text; names are hashed with random bytes. Other threads run in the meantime."""
     secret, buffer = os.urandom(16), buffers.own
     with ending.exiting_at_signals():
@@ -47,8 +48,7 @@ def call_library(path, text, nodes=MOST_NODES):
     return answer.status, ctypes.string_at(buffer, min(answer.length, MOST_ANSWER))
 
 
-def call_and_return_output(path, text):
-    """The output of `dam clear` for a text, by the library for C."""
+def call_and_return_output(path: str, text: bytes) -> bytes:
     status, shown = call_library(path, text)
     if status:
         raise Fault(shown.decode(errors="replace").strip(), status)

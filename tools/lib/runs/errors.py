@@ -6,11 +6,11 @@ FAILURES = (4, 5, 70)  # statuses of `dam` and its launcher that aren't about th
 class Fault(Exception):
     """A file, text or date that can't be read, or a run of the program that failed: `status` is the program's, or None."""
 
-    def __init__(self, words, status=None):
+    def __init__(self, words: str, status: int | None = None) -> None:
         super().__init__(words)
         self.status = status
 
-    def is_failure(self):
+    def is_failure(self) -> bool:
         """Whether the run failed for another reason than the journal: memory, a device, a signal, or a missing program."""
         return self.status is not None and (self.status < 0 or self.status in FAILURES)
 

@@ -1,26 +1,31 @@
 """A Merkle tree over a list that only grows, with inclusion and consistency proofs: RFC 9162, section 2.1, with SHA-256."""
 
 import hashlib
+from collections.abc import Callable, Iterable, Sequence
 
 LEAF, NODE = b"\x00", b"\x01"  # a leaf's hash begins with one, a node's with the other, so that neither passes for the other
 
 
-def sha256(data):
+Part = tuple[int, int]  # a subtree: its first leaf, and the one after its last
+Path = Sequence[bytes]  # of a proof
+
+
+def sha256(data: bytes) -> bytes:
     return hashlib.sha256(data).digest()
 
 
-def leaf_hash(data):
+def leaf_hash(data: bytes) -> bytes:
     return sha256(LEAF + data)
 
 
-def node_hash(left, right):
+def node_hash(left: bytes, right: bytes) -> bytes:
     return sha256(NODE + left + right)
 
 
 EMPTY = sha256(b"")  # the root of a tree without leaves
 
 
-def left_half(count):
+def left_half(count: int) -> int:
     """The greatest power of two below a number of leaves: how many of them are in the left half."""
     return 1 << (count - 1).bit_length() - 1
 
@@ -28,17 +33,16 @@ def left_half(count):
 class Tree:
     """A tree that has the hash of each complete subtree, by level. So an append computes one hash on average."""
 
-    def __init__(self, leaves=()):
-        self.levels = [[]]
-        self.incomplete = {}  # the hashes of other subtrees that were asked for; no append changes them
+    def __init__(self, leaves: Iterable[bytes] = ()) -> None:
+        self.levels: list[list[bytes]] = [[]]
+        self.incomplete: dict[Part, bytes] = {}  # the hashes of other subtrees that were asked for; no append changes them
         for leaf in leaves:
             self.append(leaf)
 
-    def __len__(self):
+    def __len__(self) -> int:
         return len(self.levels[0])
 
-    def append(self, leaf):
-        """Appends the hash of a leaf."""
+    def append(self, leaf: bytes) -> None:
         self.levels[0].append(leaf)
         for level, hashes in enumerate(self.levels):
             if len(hashes) % 2:
@@ -47,12 +51,12 @@ class Tree:
                 self.levels.append([])
             self.levels[level + 1].append(node_hash(*hashes[-2:]))
 
-    def root(self, size=None):
+    def root(self, size: int | None = None) -> bytes:
         """The root of the first `size` leaves, or of all."""
         size = len(self) if size is None else size
         return self.cached_hash(0, size) if size else EMPTY
 
-    def cached_hash(self, begin, end):
+    def cached_hash(self, begin: int, end: int) -> bytes:
         """The hash of the leaves from `begin` to `end`, which are a subtree of this tree or of an earlier one."""
         count = end - begin
         if count & (count - 1) == 0:
@@ -62,11 +66,11 @@ class Tree:
             self.incomplete[begin, end] = node_hash(self.cached_hash(begin, middle), self.cached_hash(middle, end))
         return self.incomplete[begin, end]
 
-    def inclusion_proof(self, place, size=None):
+    def inclusion_proof(self, place: int, size: int | None = None) -> list[bytes]:
         """The inclusion proof of the leaf at a place, from 0, in the tree of the first `size` leaves."""
         return [self.cached_hash(*part) for part in inclusion_parts(place, len(self) if size is None else size)]
 
-    def consistency_proof(self, old, size=None):
+    def consistency_proof(self, old: int, size: int | None = None) -> list[bytes]:
         """The proof that the tree of the first `size` leaves begins with the tree of the first `old` ones."""
         size = len(self) if size is None else size
         if not 0 < old < size:
@@ -75,9 +79,8 @@ class Tree:
         return [self.cached_hash(*part) for part in ([] if whole == (0, old) else [whole]) + others]  # the reader has the old root
 
 
-def last_and_other_parts(place, size, is_last):
-    """On the way from the root to a leaf: the first subtree that is the last one, and those that the way leaves aside, the lowest first.
-    Each is given from its first leaf to the one after its last."""
+def last_and_other_parts(place: int, size: int, is_last: Callable[[int, int], bool]) -> tuple[Part, list[Part]]:
+    """On the way from the root to a leaf: the first subtree that is the last one, and those that the way leaves aside, the lowest first."""
     begin, end, parts = 0, size, []
     while not is_last(begin, end):
         middle = begin + left_half(end - begin)
@@ -90,20 +93,20 @@ def last_and_other_parts(place, size, is_last):
     return (begin, end), parts[::-1]
 
 
-def inclusion_parts(place, size):
+def inclusion_parts(place: int, size: int) -> list[Part]:
     """The subtrees whose hashes an inclusion proof has."""
     _, parts = last_and_other_parts(place, size, lambda begin, end: end - begin == 1)
     return parts
 
 
-def consistency_parts(old, size):
+def consistency_parts(old: int, size: int) -> list[Part]:
     """The subtrees whose hashes a consistency proof has. The first one is of both trees: if it is the whole old tree, the proof omits it."""
     last, parts = last_and_other_parts(old - 1, size, lambda _, end: end == old)
     return [last, *parts]
 
 
-def root_of_inclusion_or_none(leaf, place, size, path):
-    """The root that an inclusion proof leads to (RFC 9162, 2.1.3.2); None if it doesn't fit a tree of this size."""
+def root_of_inclusion(leaf: bytes, place: int, size: int, path: Path) -> bytes | None:
+    """The root that an inclusion proof leads to (RFC 9162, 2.1.3.2); none if it doesn't fit a tree of this size."""
     if not 0 <= place < size:
         return None
     node, last, root = place, size - 1, leaf
@@ -120,7 +123,7 @@ def root_of_inclusion_or_none(leaf, place, size, path):
     return root if last == 0 else None
 
 
-def is_consistent(old, old_root, size, root, path):
+def is_consistent(old: int, old_root: bytes, size: int, root: bytes, path: Path) -> bool:
     """Whether a consistency proof shows that the tree with a root begins with an older one (RFC 9162, 2.1.4.2). Every tree begins with the
     empty one, and with itself."""
     if old == size:
@@ -147,7 +150,7 @@ def is_consistent(old, old_root, size, root, path):
     return last == 0 and before == old_root and after == root
 
 
-def hashes_by_part(first, hashed, parts):
+def hashes_by_part(first: Part, hashed: bytes, parts: Iterable[tuple[Part, bytes]]) -> dict[Part, bytes]:
     """The hashes of subtrees, each with its first leaf and the one after its last: of one, of its neighbours from below, and of all that
     they make. The last one is of the whole tree."""
     (begin, end), shown = first, {first: hashed}
@@ -159,12 +162,12 @@ def hashes_by_part(first, hashed, parts):
     return shown
 
 
-def hashes_shown_by_inclusion(leaf, place, size, path):
+def hashes_shown_by_inclusion(leaf: bytes, place: int, size: int, path: Path) -> dict[Part, bytes]:
     """The hashes of subtrees that a right inclusion proof shows, from the leaf to the root."""
     return hashes_by_part((place, place + 1), leaf, zip(inclusion_parts(place, size), path))
 
 
-def hashes_shown_by_consistency(old, old_root, size, root, path):
+def hashes_shown_by_consistency(old: int, old_root: bytes, size: int, root: bytes, path: Path) -> dict[Part, bytes]:
     """The hashes of subtrees that a consistency proof shows of a tree with a root, or of an older one. Its path may lead to one of the two
     roots alone: then it shows that tree's subtrees, among them the beginning with the older one's size."""
     if not 0 < old < size:

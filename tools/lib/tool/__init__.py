@@ -1,3 +1,3 @@
 """A command line: files in, words and statuses out.
 
-It may import: base, journal, lint, results, seal, sheets."""
+It may import: base, process, seal, tables."""

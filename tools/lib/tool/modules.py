@@ -6,7 +6,7 @@ import subprocess
 import sys
 import zoneinfo
 
-from ..base import ending
+from ..process import ending
 from .exits import FAILED, Stop
 
 DEBIAN_PYTHON = "/usr/bin/python3"
@@ -26,21 +26,21 @@ PACKAGES = {
 }
 
 
-def has_module(module):
+def has_module(module: str) -> bool:
     return importlib.util.find_spec(module) is not None
 
 
-def is_debian_python():
+def is_debian_python() -> bool:
     """Whether this is Debian's Python, which has Debian's packages."""
     return os.path.realpath(sys.executable) == os.path.realpath(DEBIAN_PYTHON)
 
 
-def words_of_this_python():
+def words_of_this_python() -> list[str]:
     """The words that start this Python for another tool: isolated, if it is."""
     return [sys.executable, *(["-I"] if sys.flags.isolated else [])]
 
 
-def run_and_see_if_debian_has(*modules):
+def run_and_see_if_debian_has(*modules: str) -> bool:
     """Whether Debian's Python is a different one and has the modules. With -c alone it would also find those of the working folder."""
     if is_debian_python():
         return False
@@ -53,16 +53,15 @@ def run_and_see_if_debian_has(*modules):
         return False
 
 
-def exec_with_modules(*modules):
+def exec_with_modules(*modules: str) -> None:
     """Starts the tool again with Debian's Python, if that has the modules and this one lacks some."""
     if not all(map(has_module, modules)) and run_and_see_if_debian_has(*modules):
         # without -S, nothing would find Debian's packages for a program that ending.guard_tool doesn't guard
         late = ["-S"] if sys.flags.no_site else []
-        os.execv(DEBIAN_PYTHON, [*ISOLATED, *late, sys.modules["__main__"].__file__, *sys.argv[1:]])
+        os.execv(DEBIAN_PYTHON, [*ISOLATED, *late, str(sys.modules["__main__"].__file__), *sys.argv[1:]])
 
 
-def has_zone(name):
-    """Whether the system has a time zone."""
+def has_zone(name: str) -> bool:
     try:
         zoneinfo.ZoneInfo(name)
     except (zoneinfo.ZoneInfoNotFoundError, ValueError, OSError):  # it is missing, or its file is another one
@@ -70,22 +69,19 @@ def has_zone(name):
     return True
 
 
-def refuse_missing_zone(name):
-    """Ends the tool if a time zone is missing."""
+def refuse_missing_zone(name: str) -> None:
     if not has_zone(name):
         raise Stop("it needs the world's time zones, which Debian has in the package tzdata: apt-get install tzdata", FAILED)
 
 
-def missing_message(*modules):
-    """The message that modules are missing."""
+def missing_message(*modules: str) -> str:
     packages = [PACKAGES[module] for module in modules]
     noun = "package" if len(packages) == 1 else "packages"
     which = f"which Debian has in the {noun} {' and '.join(packages)}"
     return f"it needs {' and '.join(modules)}, {which}: apt-get install {' '.join(packages)}"
 
 
-def exec_or_require_modules(*modules):
-    """Ends the tool if a module is missing."""
+def exec_or_require_modules(*modules: str) -> None:
     exec_with_modules(*modules)
     if lacking := [module for module in modules if not has_module(module)]:
         raise Stop(missing_message(*lacking), FAILED)

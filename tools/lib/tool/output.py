@@ -1,21 +1,23 @@
 """A table as a tool writes it: comma-separated values, JSON or an Excel workbook."""
 
-from ..sheets import table_files, table_operations
+import argparse
+from collections.abc import Container, Iterable, Iterator, Mapping, Sequence
+
+from ..tables import table_files, table_operations
 from . import exits, file_io, modules
 
 WORKBOOK, CSV = ".xlsx", ".csv"
 OTHER_WORKBOOKS = (".xls", ".xlsm", ".xlsb", ".ods")  # a text with such a name would be no workbook
 
 
-def add_options(parser):
-    """The options that say how a table is written."""
+def add_options(parser: argparse.ArgumentParser) -> None:
     add = parser.add_argument
     add("--json", action="store_true", help="JSON instead of comma-separated values")
     add("--decimal-comma", action="store_true", help="numbers as 12,50, and semicolons between cells")
     add("-o", "--out", default="-", help="the file to write, an Excel workbook if its name ends with .xlsx (default: standard output)")
 
 
-def exec_or_refuse_wrong_options(args, *inputs):
+def exec_or_refuse_wrong_options(args: argparse.Namespace, *inputs: str | None) -> None:
     """Ends the tool if the options can't be used together, or would write over an input, or a package is missing."""
     file_io.refuse_input_as_output(args.out, *inputs)
     refuse_other_workbook(args.out)
@@ -27,30 +29,29 @@ def exec_or_refuse_wrong_options(args, *inputs):
         modules.exec_or_require_modules("openpyxl")
 
 
-def refuse_other_workbook(path):
+def refuse_other_workbook(path: str | None) -> None:
     if path is not None and path.lower().endswith(OTHER_WORKBOOKS):
         raise exits.Stop(f"{exits.shown(path)}: a workbook is only written as {WORKBOOK}", exits.COMMAND_LINE)
 
 
-def is_workbook_name(path):
+def is_workbook_name(path: str | None) -> bool:
     return path is not None and path.lower().endswith(WORKBOOK)
 
 
-def is_table_name(path):
-    """Whether the name of a file is one of a table."""
+def is_table_name(path: str) -> bool:
     return is_workbook_name(path) or path.lower().endswith(CSV)
 
 
-def aligned_lines(rows, to_the_left):
+def aligned_lines(rows: Iterable[Sequence[object]], to_the_left: Container[int]) -> Iterator[str]:
     """The lines of a table for readers. In the columns at these places the cells stand to the left, and in the others to the right."""
-    rows = [[str(cell) for cell in row] for row in rows]
-    widths = [max(map(len, column)) for column in zip(*rows)]
-    for row in rows:
+    texts = [[str(cell) for cell in row] for row in rows]
+    widths = [max(map(len, column)) for column in zip(*texts)]
+    for row in texts:
         placed = (cell.ljust(width) if at in to_the_left else cell.rjust(width) for at, (cell, width) in enumerate(zip(row, widths)))
         yield "  ".join(placed).rstrip()
 
 
-def workbook_bytes_or_stop(tables):
+def workbook_bytes_or_stop(tables: Mapping[str, Sequence[table_operations.Row]]) -> bytes:
     """The bytes of a workbook with a sheet for each table, by name."""
     try:
         return table_files.workbook_bytes_or_refuse(tables)
@@ -58,7 +59,7 @@ def workbook_bytes_or_stop(tables):
         raise exits.Stop(f"{fault}: write it as {CSV}", exits.COMMAND_LINE) from None
 
 
-def write_table(tool, args, name, rows, periods):
+def write_table(tool: str, args: argparse.Namespace, name: str, rows: Iterable[table_operations.Row], periods: int) -> None:
     """Writes a table, which is whole before the first byte is written."""
     rows = list(rows)
     if is_workbook_name(args.out):
@@ -66,5 +67,5 @@ def write_table(tool, args, name, rows, periods):
     elif args.json:
         data = table_operations.json_text(name, rows, table_operations.day_record(periods)).encode()
     else:
-        data = table_files.table_text(rows, args.decimal_comma).encode()
+        data = table_files.csv_text(rows, args.decimal_comma).encode()
     file_io.write_file_or_stdout(tool, args.out, data)

@@ -1,3 +1,3 @@
 """Results of other journals: limits that blocks needed, changes, and scenarios.
 
-It may import: base, journal, lint, pictures, results, runs, sheets, tool."""
+It may import: base, day, journal, lint, pictures, process, results, runs, tables, tool."""

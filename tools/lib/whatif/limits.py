@@ -2,17 +2,25 @@
 an hourly order under limits of a grid, since no such law holds of one. And what is said of a worst limit: in words with a table, as a
 record, and as a row of a table."""
 
+from collections.abc import Callable, Iterator
 from typing import NamedTuple
 
 from ..base import rules, text
-from ..base.progress import StepBar
+from ..base.json_value import JsonObject
+from ..day import day_files
 from ..journal import journal
+from ..journal.book import Book
+from ..journal.journal import Key, Order
+from ..process.progress import StepBar
 from ..results import decisions
+from ..results.selection import Row
 from ..runs import engine
+from ..runs.by_program import Running
 from ..runs.cleared import THE_DAY, Cleared, journal_bytes
 from ..runs.errors import Fault, Wrong
-from ..tool import day_files, exits, output
+from ..tool import exits, output
 from . import changes
+from .changes import Cells
 
 COUNT = rules.HIGHEST_PRICE - rules.LOWEST_PRICE + 1  # of limits
 # A bisection over the limits on one side of a block's own, and none of them, needs at most as many clearings.
@@ -26,12 +34,12 @@ MOST_OTHERS = 20  # orders whose result differs that are named
 HEADS = ["participant", "order", "side", "price_eur_mwh", "outcome", "worst_limit_eur_mwh", "surplus_eur", "welfare_eur", "others", "why"]
 
 
-def limit_at(side, place):
+def limit_at(side: str, place: int) -> int:
     """A limit by its place in the range, from the best."""
     return rules.HIGHEST_PRICE - place if side == "buy" else rules.LOWEST_PRICE + place
 
 
-def place_of(side, limit):
+def place_of(side: str, limit: int) -> int:
     return rules.HIGHEST_PRICE - limit if side == "buy" else limit - rules.LOWEST_PRICE
 
 
@@ -40,53 +48,60 @@ class WorstLimit(NamedTuple):
     or at the best limit if none is enough; None at a place past the range. Their results were checked: by the law, no other limit has
     such a pair, whatever the other clearings printed. `clearings` is how many were needed apart from the day as it was."""
 
-    limit: object
-    at: object
-    past_limit: object
-    past: object
+    limit: int | None
+    at: Cleared | None
+    past_limit: int | None
+    past: Cleared | None
     clearings: int
+
+
+class Case(NamedTuple):
+    name: str
+    limit: int
+    day: Cleared
 
 
 class LimitSearch:
     """The clearings of a book with other limits of an order. `clear` gives the bytes of the results of a text, or a `Fault`."""
 
-    def __init__(self, held, key, clear):
+    def __init__(self, held: Book, key: Key, clear: Callable[[bytes], bytes | Fault]) -> None:
         self.held, self.key, self.clear = held, key, clear
         self.order = held.rows[key]
         self.before, self.behind = journal_bytes(self.rows_with(MARK), held.periods).split(MARK.encode())
-        self.seen, self.printed = {}, {}  # the clearing, and the output, by limit
+        self.seen: dict[int, Cleared] = {}  # by limit, as the next one
+        self.printed: dict[int, bytes] = {}
 
-    def rows_with(self, limit):
+    def rows_with(self, limit: int | str) -> dict[Key, Order]:
         """The orders of the book with this limit."""
-        return {**self.held.rows, self.key: self.order._replace(price=limit)}
+        return {**self.held.rows, self.key: self.order._replace(price=limit)}  # type: ignore[arg-type]
 
-    def bytes_with(self, limit):
+    def bytes_with(self, limit: int) -> bytes:
         return b"%s%d%s" % (self.before, limit, self.behind)
 
-    def capture_output(self, limit):
+    def capture_output(self, limit: int) -> bytes:
         """The printed results with a limit, kept or by a run."""
         if limit not in self.printed:
             self.keep_output_or_raise(limit, self.clear(self.bytes_with(limit)))
         return self.printed[limit]
 
-    def capture_day(self, limit):
+    def capture_day(self, limit: int) -> Cleared:
         """The clearing with a limit, kept or by a run. If its results break the rules, that is a fault."""
         if limit not in self.seen:
             more = "" if limit == self.order.price else f" with a limit of {text.shown_price(limit)} EUR/MWh"
             self.seen[limit] = Cleared.of_text(self.rows_with(limit), self.held.periods, self.capture_output(limit), f"{THE_DAY}{more}")
         return self.seen[limit]
 
-    def own_day(self):
+    def own_day(self) -> Cleared:
         """The clearing as it was, which `search_for_worst` keeps."""
         return self.seen[self.order.price]
 
-    def keep_output_or_raise(self, limit, printed):
+    def keep_output_or_raise(self, limit: int, printed: bytes | Fault) -> None:
         """Keeps the output of a run with a limit. A run that failed is a fault."""
         if isinstance(printed, Fault):
             raise printed
         self.printed[limit] = printed
 
-    def run_and_see_acceptance(self, limit):
+    def run_and_see_acceptance(self, limit: int) -> bool:
         """Whether the block is accepted with a limit."""
         output, start = self.capture_output(limit), f"\nblock,{self.key[0]},{self.key[1]},".encode()
         word = output[output.find(start) + len(start) :].split(b",", 1)[0] if start in output else None
@@ -94,7 +109,7 @@ class LimitSearch:
             raise Fault("the program printed no results of this journal")
         return word == b"accepted"
 
-    def search_for_worst_and_next(self):
+    def search_for_worst_and_next(self) -> tuple[int | None, int | None]:
         """The worst limit of a block, and the one past it; None for one that isn't in the range. The places of the limits that accept it
         are those before some place."""
         side, own = self.order.side, self.order.price
@@ -107,7 +122,7 @@ class LimitSearch:
                 high = middle
         return limit_at(side, low - 1) if low else None, limit_at(side, low) if low < COUNT else None
 
-    def search_for_worst(self):
+    def search_for_worst(self) -> WorstLimit:
         """The worst limit at which the block is accepted, with the clearings that show it."""
         self.capture_day(self.order.price)
         before = len(self.printed)
@@ -116,48 +131,49 @@ class LimitSearch:
         return WorstLimit(limit, at, past, after, len(self.printed) - before)
 
 
-def never_accepted_words(search, worst):
+def never_accepted_text(search: LimitSearch, worst: WorstLimit) -> str:
     """Why a block is rejected with the best limit of the range."""
+    assert worst.past_limit is not None  # it is the best of the range
     read = journal.parse_journal(search.bytes_with(worst.past_limit))
     day = day_files.Day.of_text(read, search.printed[worst.past_limit])
-    place = day.problem.place_of_block_or_none(*search.key)
+    place = [(block.who, block.name) for block in day.problem.blocks].index(search.key)
     why = decisions.decisions(day.problem, day.published.accepted, day.outcome)[place].why
     return why if why.startswith("with ") else f"it {why}"  # 'with' its family, 'it' would gain
 
 
-def other_differing_orders(search, worst):
+def other_differing_orders(search: LimitSearch, worst: WorstLimit) -> list[Key]:
     """The orders whose result is another at the limit than one cent past it, without the block."""
     if worst.at is None or worst.past is None:
         return []
     return changes.differing_orders(worst.past, worst.at, search.key)
 
 
-def limit_cells(search, worst):
+def limit_cells(search: LimitSearch, worst: WorstLimit) -> Cells:
     """The cells of `HEADS` for a block."""
     order, own = search.order, search.own_day()
     cells = [*search.key, order.side, text.eur_per_mwh(order.price), own.outcome(search.key)]
-    if worst.limit is None:
-        return [*cells, "", "", "", "", f"no limit of the range is enough: with the best, {never_accepted_words(search, worst)}"]
+    if worst.limit is None or worst.at is None:
+        return [*cells, "", "", "", "", f"no limit of the range is enough: with the best, {never_accepted_text(search, worst)}"]
     amounts = [text.eur(amount, own.hours, thousands="") for amount in (worst.at.surplus(search.key), worst.at.welfare)]
     why = "every limit of the range is enough" if worst.past is None else ""
     return [*cells, text.eur_per_mwh(worst.limit), *amounts, len(other_differing_orders(search, worst)), why]
 
 
-def case_days(search, worst):
+def case_days(search: LimitSearch, worst: WorstLimit) -> Iterator[Case]:
     """The days to compare, each with its name: as it was, at the limit, and one cent past it."""
     own = search.order.price
-    yield "as it was", own, search.own_day()
-    if worst.limit is not None:
-        yield "at the worst limit", worst.limit, worst.at
-    if worst.past is not None:
-        yield "one cent past it" if worst.limit is not None else "at the best limit", worst.past_limit, worst.past
+    yield Case("as it was", own, search.own_day())
+    if worst.limit is not None and worst.at is not None:
+        yield Case("at the worst limit", worst.limit, worst.at)
+    if worst.past_limit is not None and worst.past is not None:
+        yield Case("one cent past it" if worst.limit is not None else "at the best limit", worst.past_limit, worst.past)
 
 
-def record(search, worst):
+def record(search: LimitSearch, worst: WorstLimit) -> JsonObject:
     """The same for programs."""
     own = search.order.price
 
-    def case(name, limit, day):
+    def case(name: str, limit: int, day: Cleared) -> JsonObject:
         amounts = day.surplus(search.key), day.gain(search.key[0]), day.welfare
         surplus, gain, welfare = (float(text.eur(amount, day.hours, "")) for amount in amounts)
         numbers = {"limit_eur_mwh": limit / 100, "accepted": day.orders[search.key], "surplus_eur": surplus, "gain_eur": gain}
@@ -165,8 +181,8 @@ def record(search, worst):
         traded = [volume > 0 for volume in day.volumes]
         return {"case": name, **numbers, "prices_eur_mwh": [price / 100 for price in day.prices], "traded": traded}
 
-    def other(key):
-        energies = [float(text.energy(day.executed(key), day.hours, "")) for day in (worst.past, worst.at)]
+    def other(key: Key) -> JsonObject:
+        energies = [float(text.energy(day.executed(key), day.hours, "")) for day in (worst.past, worst.at) if day]
         return {"participant": key[0], "order": key[1], "past_mwh": energies[0], "at_mwh": energies[1]}
 
     names = dict(zip(("participant", "order"), search.key))
@@ -183,16 +199,16 @@ def record(search, worst):
     }
 
 
-def sentences(search, worst):
-    """The answer in words."""
+def sentences(search: LimitSearch, worst: WorstLimit) -> Iterator[str]:
     order, who = search.order, " ".join(search.key)
     does, worse = ("buys", "lower") if order.side == "buy" else ("sells", "higher")
     outcome = search.own_day().outcome(search.key)
     energy = text.energy(sum(volume for _, volume in order.volumes), search.own_day().hours)
     yield f"{who} {does} {energy} MWh in a block with a limit of {text.shown_price(order.price)} EUR/MWh, and is {outcome}."
     if worst.limit is None:
+        assert worst.past_limit is not None  # it is the best of the range
         best = text.shown_price(worst.past_limit)
-        yield f"No limit of the range is enough: with the best, {best} EUR/MWh, {never_accepted_words(search, worst)}."
+        yield f"No limit of the range is enough: with the best, {best} EUR/MWh, {never_accepted_text(search, worst)}."
     elif worst.past is None:
         yield f"Every limit of the range is enough, up to the worst, {text.shown_price(worst.limit)} EUR/MWh."
     else:
@@ -201,7 +217,7 @@ def sentences(search, worst):
     yield f"This is exact, since {LAW}. It took {text.counted(worst.clearings, 'clearing')} more than the day itself."
 
 
-def capture_short_sentence(search):
+def capture_short_sentence(search: LimitSearch) -> str:
     """The worst limit of a rejected block in one sentence."""
     limit = search.search_for_worst().limit
     if limit is None:
@@ -209,17 +225,17 @@ def capture_short_sentence(search):
     return f"With a limit of {text.shown_price(limit)} EUR/MWh or {BETTER[search.order.side]} it would have been accepted."
 
 
-def capture_rejected_sentences(day, who=None, is_asked=True):
+def capture_rejected_sentences(day: day_files.Day, who: str | None = None, is_asked: bool = True) -> dict[int, str]:
     """The same for each rejected block of a day, or of a participant, by place. If a limit isn't computed, the sentence says so, and why:
     never because of the time that it would take."""
     places = [place for place, block in enumerate(day.problem.blocks) if place not in day.published.accepted and who in (None, block.who)]
     if not places or day.wrong or not is_asked:
-        return dict.fromkeys(places, not_computed_words("the results break the rules" if day.wrong else "the page was made without limits"))
+        return dict.fromkeys(places, not_computed_text("the results break the rules" if day.wrong else "the page was made without limits"))
     own = engine.clear_and_return_output_or_fault(journal_bytes(day.book.rows, day.problem.periods))
-    if words := uncomputable_words_or_none(day, own):
+    if words := uncomputable_text(day, own):
         why, more = words
         exits.print_note("report", f"the limits that rejected blocks needed weren't computed: {why}: {more}")
-        return dict.fromkeys(places, not_computed_words(why))
+        return dict.fromkeys(places, not_computed_text(why))
     bar = StepBar("report", len(places), "limits of rejected blocks")
     with engine.running_team(engine.count_processors()) as (team, running):
         was = Cleared.of_day(day)  # which the program has too
@@ -230,16 +246,16 @@ def capture_rejected_sentences(day, who=None, is_asked=True):
             bar.erase()
 
 
-def step_and_return(words, bar):
+def step_and_return(words: str, bar: StepBar) -> str:
     bar.count_and_show()
     return words
 
 
-def not_computed_words(why):
+def not_computed_text(why: str) -> str:
     return f"Its limit wasn't computed: {why}."
 
 
-def uncomputable_words_or_none(day, own):
+def uncomputable_text(day: day_files.Day, own: bytes | Fault) -> tuple[str, str] | None:
     """Why no limit can be computed, in few words and in more, if the program failed on a day or printed other results than its own; None if
     it printed the same."""
     try:
@@ -254,7 +270,7 @@ def uncomputable_words_or_none(day, own):
         return "the program couldn't clear the day", str(fault)
 
 
-def capture_sentence(held, block, own, was, running):
+def capture_sentence(held: Book, block: Row, own: bytes | Fault, was: Cleared, running: Running) -> str:
     """What a page says of a rejected block, whose day is printed as `own`, and was checked."""
     search = LimitSearch(held, (block.who, block.name), lambda given: engine.clear_and_return_output_or_fault(given, running=running))
     search.keep_output_or_raise(block.order.price, own)
@@ -263,10 +279,10 @@ def capture_sentence(held, block, own, was, running):
         return capture_short_sentence(search)
     except Fault as fault:
         exits.print_note("report", f"the limit of {' '.join(search.key)} wasn't computed: {fault}")
-        return not_computed_words(BROKEN if isinstance(fault, Wrong) else "a run of the program failed")
+        return not_computed_text(BROKEN if isinstance(fault, Wrong) else "a run of the program failed")
 
 
-def case_rows(search, worst):
+def case_rows(search: LimitSearch, worst: WorstLimit) -> Iterator[list[str]]:
     """What the block and the day come to in each case, and the prices that concern the block or differ."""
     days = list(case_days(search, worst))
     yield ["", *(name for name, _, _ in days)]
@@ -282,10 +298,10 @@ def case_rows(search, worst):
             yield [f"price of period {period}, EUR/MWh", *("no trade" if price is None else text.shown_price(price) for price in prices)]
 
 
-def other_lines(search, worst):
+def other_lines(search: LimitSearch, worst: WorstLimit) -> Iterator[str]:
     """The orders whose result differs between the limit and one cent past it."""
     keys = other_differing_orders(search, worst)
-    if worst.limit is None or worst.past is None:
+    if worst.at is None or worst.past is None:
         return
     if not keys:
         yield "No other order's result differs between the worst limit and one cent past it."
@@ -297,6 +313,5 @@ def other_lines(search, worst):
         yield f"  and {len(keys) - MOST_OTHERS} more: --json has all"
 
 
-def answer_lines(search, worst):
-    """All of it, as lines for readers."""
+def answer_lines(search: LimitSearch, worst: WorstLimit) -> list[str]:
     return [*sentences(search, worst), "", *output.aligned_lines(case_rows(search, worst), {0}), "", *other_lines(search, worst)]

@@ -1,10 +1,13 @@
 """The command line of tools/whatif: the words of each command, and those that can't be used together."""
 
-import argparse
 import re
+from argparse import ArgumentParser, ArgumentTypeError, Namespace, _SubParsersAction
+from collections.abc import Callable
+from typing import NoReturn
 
 from ..base import rules, text
 from ..tool import command_line, exits, output
+from ..tool.command_line import Parser
 from . import scenarios
 
 COUNT = "[1-9][0-9]{0,6}"
@@ -12,25 +15,25 @@ parse_jobs = command_line.whole_number_function(1, 999, form=COUNT)
 parse_sample_count = command_line.whole_number_function(1, 9_999_999, form=COUNT)
 
 
-def parse_price(word):
+def parse_price(word: str) -> int:
     """A price of the command line in cents per MWh."""
     if not re.fullmatch(r"-?[0-9]{1,6}(\.[0-9]{1,2})?", word):
-        raise argparse.ArgumentTypeError(f"{text.quoted(word)} should be a price in EUR/MWh, such as 92.50")
+        raise ArgumentTypeError(f"{text.quoted(word)} should be a price in EUR/MWh, such as 92.50")
     cents = round(float(word) * 100)
     if not rules.LOWEST_PRICE <= cents <= rules.HIGHEST_PRICE:
         ends = [text.eur_per_mwh(end) for end in (rules.LOWEST_PRICE, rules.HIGHEST_PRICE)]
-        raise argparse.ArgumentTypeError(f"{text.quoted(word)} should be from {ends[0]} to {ends[1]} EUR/MWh")
+        raise ArgumentTypeError(f"{text.quoted(word)} should be from {ends[0]} to {ends[1]} EUR/MWh")
     return cents
 
 
-def order_name_and_advice(word):
+def order_name_and_advice(word: str) -> str:
     """An order's name on the command line."""
-    if text.parse_name_or_none(word.encode(errors="surrogateescape")) is None:
-        raise argparse.ArgumentTypeError(f"{text.quoted(word)} should be {text.A_NAME}")
+    if text.parse_name(word.encode(errors="surrogateescape")) is None:
+        raise ArgumentTypeError(f"{text.quoted(word)} should be {text.A_NAME}")
     return word
 
 
-def add_command_parser(commands, call, name, epilog, words):
+def add_command_parser(commands: "_SubParsersAction[Parser]", call: Callable[[Namespace], int], name: str, epilog: str, words: str) -> ArgumentParser:
     """The parser of a command, with what all commands read."""
     parser = command_line.add_command_parser(commands, epilog, call, name, words)
     parser.add_argument("journal", metavar="JOURNAL", help="a closed journal; - for standard input")
@@ -39,7 +42,7 @@ def add_command_parser(commands, call, name, epilog, words):
     return parser
 
 
-def add_limit_command(commands, call, epilog):
+def add_limit_command(commands: "_SubParsersAction[Parser]", call: Callable[[Namespace], int], epilog: str) -> None:
     parser = add_command_parser(commands, call, "limit", epilog, "the worst limit at which a block is accepted")
     add = parser.add_argument
     add("--participant", metavar="NAME", type=command_line.parse_participant, required=True, help="the participant that entered the order")
@@ -51,7 +54,7 @@ def add_limit_command(commands, call, epilog):
     add("--step", metavar="EUR", type=parse_price, help="the distance between two limits (default: 1.00)")
 
 
-def add_change_command(commands, call, epilog):
+def add_change_command(commands: "_SubParsersAction[Parser]", call: Callable[[Namespace], int], epilog: str) -> None:
     parser = add_command_parser(commands, call, "change", epilog, "the effect of further commands")
     words = "further commands: records as in a journal, or a table of orders, or of commands with the column what (CSV or Excel); - for"
     words += " standard input"
@@ -61,11 +64,11 @@ def add_change_command(commands, call, epilog):
     add_quiet_option(parser)
 
 
-def add_quiet_option(parser):
+def add_quiet_option(parser: ArgumentParser) -> None:
     parser.add_argument("--quiet", action="store_true", help="leave out notes on standard error; faults are still printed")
 
 
-def add_scenarios_command(commands, call, epilog):
+def add_scenarios_command(commands: "_SubParsersAction[Parser]", call: Callable[[Namespace], int], epilog: str) -> None:
     parser = add_command_parser(commands, call, "scenarios", epilog, "the results of many scenarios")
     add = parser.add_argument
     words = "a table with the column scenario and those of a table of orders, or of commands with the column what (CSV or Excel)"
@@ -86,19 +89,19 @@ def add_scenarios_command(commands, call, epilog):
     add_quiet_option(parser)
 
 
-def parse_standard_deviation(word):
+def parse_standard_deviation(word: str) -> float:
     if not re.fullmatch(r"[0-9]{1,4}(\.[0-9]{1,6})?", word):
-        raise argparse.ArgumentTypeError(f"{text.quoted(word)} should be a number from 0 to 9999, such as 0.1")
+        raise ArgumentTypeError(f"{text.quoted(word)} should be a number from 0 to 9999, such as 0.1")
     return float(word)
 
 
-def is_picture_name(path):
+def is_picture_name(path: str) -> bool:
     return path.lower().endswith((".svg", ".png"))
 
 
-def refuse_wrong_scenario_options(args):
+def refuse_wrong_scenario_options(args: Namespace) -> None:
     """Ends the tool if the options of scenarios can't be used together."""
-    def stop(words):
+    def stop(words: str) -> NoReturn:
         raise exits.Stop(words, exits.COMMAND_LINE)
 
     drawn = {"--seed": args.seed, "--price-sd": args.price_sd, "--volume-sd": args.volume_sd}

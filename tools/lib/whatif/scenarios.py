@@ -5,17 +5,27 @@ import functools
 import hashlib
 import itertools
 import re
+from collections.abc import Callable, Iterable, Iterator, Mapping, Sequence
 from fractions import Fraction
-from typing import NamedTuple
+from typing import TYPE_CHECKING, NamedTuple, TypeVar
 
 from ..base import rules, text
+from ..journal.book import Book
+from ..journal.journal import Key, Order
+from ..lint.sent import OwnCommand
 from ..results import selection
-from ..runs.cleared import NO_RESULTS, journal_bytes
+from ..runs.cleared import NO_RESULTS, Cleared, journal_bytes
 from ..runs.errors import Fault, Wrong
-from ..sheets import cell_values, order_table, table_files
-from ..sheets.command_table import Columns
+from ..tables import cell_values, order_table, table_files
+from ..tables.command_table import Columns
 from . import changes
+from .changes import Cells
 
+if TYPE_CHECKING:
+    from numpy import ndarray
+
+Line = tuple[int, str, list[str]]  # of a table: its number, its scenario and its cells
+Number = TypeVar("Number", int, float)
 SCENARIO = "scenario"
 CONTROL = re.compile("[\0-\x1f\x7f-\x9f\ufffe\uffff]")  # in no name: a line of a text, or a cell of a workbook, couldn't hold it
 MOST_ROWS = 50_000  # of a table, after the first one: a longer one can be parted, since no scenario depends on another
@@ -28,20 +38,20 @@ EACH = 16  # the first random scenario, and every 16th after it, is checked whol
 class Scenario(NamedTuple):
     name: str
     text: bytes  # of the journal that has its book
-    rows: object  # the source of the orders of its book, by participant and name
+    rows: Callable[[], Mapping[Key, Order]]  # the source of the orders of its book, by participant and name
 
 
 class Listed(NamedTuple):
     """A scenario of a table."""
 
     name: str
-    book: object  # of the day, with the scenario's commands
+    book: Book  # of the day, with the scenario's commands
 
-    def rows(self):
+    def rows(self) -> Mapping[Key, Order]:
         return self.book.rows
 
     @property
-    def text(self):
+    def text(self) -> bytes:
         return journal_bytes(self.book.rows, self.book.periods)
 
 
@@ -50,7 +60,7 @@ class Sampler:
     limit a normally distributed number of cents is added, and the volumes, all of a block alike, are multiplied by a factor with the mean
     1. Both stay in their ranges. A scenario depends only on the book, the seed and its number."""
 
-    def __init__(self, held, who, seed, price_sd, volume_sd):
+    def __init__(self, held: Book, who: str, seed: str, price_sd: float, volume_sd: float) -> None:
         import numpy
 
         self.held, self.seed, self.numpy = held, seed, numpy
@@ -68,14 +78,13 @@ class Sampler:
         self.template = "".join(map(self.line, held.rows.items()))
 
     @staticmethod
-    def line(row):
+    def line(row: tuple[Key, Order]) -> str:
         """The record of an order with places for its numbers."""
         (who, name), order = row
         volumes = ";".join(f"{period}:%d" for period, _ in order.volumes)
         return f"submit,{who},{name},{order.kind},{order.side},%d,{volumes},{order.parent},{order.group}\n"
 
-    def draw_numbers(self, number):
-        """The limits and volumes of a scenario."""
+    def draw_numbers(self, number: int) -> tuple["ndarray", "ndarray"]:
         digest = hashlib.sha256(f"{self.seed} {number}".encode(errors="surrogateescape")).digest()
         self.random.seed(self.numpy.frombuffer(digest, dtype="<u4"))
         added, factors = (self.random.standard_normal(len(self.prices)) * sd for sd in self.sds)
@@ -83,20 +92,20 @@ class Sampler:
         volumes = self.numpy.rint(self.volumes * (1 + factors)[self.owners]).clip(1, rules.GREATEST_VOLUME)
         return prices.astype(int), volumes.astype(int)
 
-    def draw_text(self, number):
+    def draw_text(self, number: int) -> bytes:
         prices, volumes = self.draw_numbers(number)
         every = self.numpy.empty(len(prices) + len(volumes), dtype=int)
         every[self.at_price], every[self.at_volume] = prices, volumes
         return f"day,{self.held.periods},,,,,,,\n{self.template % tuple(every.tolist())}close,,,,,,,,\n".encode()
 
-    def draw_rows(self, number):
+    def draw_rows(self, number: int) -> dict[Key, Order]:
         prices, volumes = self.draw_numbers(number)
         rest, made = iter(volumes.tolist()), {}
         for (key, order), price in zip(self.held.rows.items(), prices.tolist()):
             made[key] = order._replace(price=price, volumes=tuple((period, next(rest)) for period, _ in order.volumes))
         return made
 
-    def draw_scenarios(self, count):
+    def draw_scenarios(self, count: int) -> Iterator[Scenario]:
         """The first scenarios, named by their numbers from 1."""
         for number in range(1, count + 1):
             yield Scenario(str(number), self.draw_text(number), functools.partial(self.draw_rows, number))
@@ -106,28 +115,29 @@ class Table:
     """The scenarios of a table: each is the book with the commands of its lines, which stand together. None is kept: a caller
     that goes through them again reads the table again. An error of the table is a fault."""
 
-    def __init__(self, name, data, held):
+    def __init__(self, name: str, data: bytes, held: Book) -> None:
         self.name, self.held = name, held
         try:
             self.columns = Columns(order_table.parse_cells(data, MOST_ROWS, is_long=True), (SCENARIO,))
         except order_table.BadOrders as fault:
-            raise Fault(f"{name}: {changes.first_lines_words(fault)}") from None
+            raise Fault(f"{name}: {changes.first_lines_text(fault)}") from None
         self.count = self.count_or_raise()
 
-    def __len__(self):
+    def __len__(self) -> int:
         return self.count
 
-    def __iter__(self):
+    def __iter__(self) -> Iterator[Listed]:
         return (Listed(scenario, self.book_or_raise(rows)) for scenario, rows in self.parts())
 
-    def parts(self):
+    def parts(self) -> Iterator[tuple[str, Iterator[Line]]]:
         """The name of each scenario, with its rows."""
         lines = ((line, self.columns.places.cell_text(cells, SCENARIO), cells) for line, cells in self.columns.table.rows)
         return itertools.groupby(lines, lambda each: each[1])
 
-    def count_or_raise(self):
+    def count_or_raise(self) -> int:
         """The number of the scenarios, which are right. They are tried out in one book, since a copy for each would take long."""
-        seen, trial = {}, self.held.copy()
+        trial = self.held.copy()
+        seen: dict[str, int] = {}
         for scenario, rows in self.parts():
             first = next(rows)
             if not scenario:
@@ -147,7 +157,7 @@ class Table:
             raise Fault(f"{self.name}: it has no scenarios")
         return len(seen)
 
-    def book_or_raise(self, rows):
+    def book_or_raise(self, rows: Iterable[Line]) -> Book:
         """The book of the day with the commands of the lines of a scenario, which it takes."""
         after = self.held
         for line, command in self.commands_or_raise(rows):
@@ -155,57 +165,55 @@ class Table:
             self.enter_or_raise(after, line, command)
         return after
 
-    def try_out_or_raise(self, trial, rows):
+    def try_out_or_raise(self, trial: Book, rows: Iterable[Line]) -> None:
         """Enters the commands of the lines of a scenario, and takes them back."""
-        before = {}
+        before: dict[Key, Order | None] = {}
         for line, command in self.commands_or_raise(rows):
-            before.setdefault((command.who, command.name), trial.order_or_none(command))
+            before.setdefault((command.who, command.name), trial.order_of(command))
             self.enter_or_raise(trial, line, command)
         for key, order in before.items():
             trial.put_back(key, order)
 
-    def commands_or_raise(self, rows):
+    def commands_or_raise(self, rows: Iterable[Line]) -> Iterator[tuple[int, OwnCommand]]:
         """The commands of lines, each with its line."""
         for line, _, cells in rows:
             if (command := self.command_or_raise(line, cells)) is not None:
                 yield line, command
 
-    def enter_or_raise(self, held, line, command):
+    def enter_or_raise(self, held: Book, line: int, command: OwnCommand) -> None:
         try:
             changes.enter_or_raise(held, f"line {line}", command)
         except Fault as fault:
             raise Fault(f"{self.name}: {fault}") from None
 
-    def command_or_raise(self, line, cells):
-        """The command of a line; None if it has none."""
+    def command_or_raise(self, line: int, cells: list[str]) -> OwnCommand | None:
         try:
             cell_values.refuse_unlike(self.columns.places.given_cell(cells, SCENARIO), True)
         except order_table.BadOrders as fault:
             raise Fault(f"{self.name}: line {line}, column {SCENARIO}: {fault}") from None
         command, faults = self.columns.parse_row_and_faults(cells, self.held.periods)
         if faults:
-            wrong = "\n".join(order_table.row_fault_words(line, words) for words in faults)
-            raise Fault(f"{self.name}: {changes.first_lines_words(wrong)}")
+            wrong = "\n".join(order_table.row_fault_text(line, words) for words in faults)
+            raise Fault(f"{self.name}: {changes.first_lines_text(wrong)}")
         return command
 
 
-def parse_table_and_notes(name, data, held):
-    """The scenarios of a table, and notes on it."""
+def parse_table_and_notes(name: str, data: bytes, held: Book) -> tuple[Table, list[str]]:
     made = Table(name, data, held)
     return made, made.columns.table.notes
 
 
-def welfare_rows(scenario, before, after, _):
+def welfare_rows(scenario: str, before: Cleared, after: Cleared, _: object) -> Iterator[Cells]:
     number_format = changes.NumberFormat(after)
     yield [scenario, number_format.eur_text(after.welfare), number_format.eur_text(after.welfare - before.welfare)]
 
 
-def price_rows(scenario, before, after, _):
+def price_rows(scenario: str, before: Cleared, after: Cleared, _: object) -> Iterator[Cells]:
     for period, (cents, volume, was) in enumerate(zip(after.prices, after.volumes, before.prices), 1):
         yield [scenario, period, text.eur_per_mwh(cents), text.mw(volume), text.eur_per_mwh(cents - was)]
 
 
-def order_rows(scenario, _, after, is_asked):
+def order_rows(scenario: str, _: object, after: Cleared, is_asked: Callable[[tuple[str, str | None]], bool]) -> Iterator[Cells]:
     number_format = changes.NumberFormat(after)
     for key, order in after.rows.items():
         if is_asked(key):
@@ -214,7 +222,7 @@ def order_rows(scenario, _, after, is_asked):
             yield [scenario, *key, order.kind, after.outcome(key), energy, surplus, amount]
 
 
-def participant_rows(scenario, _, after, is_asked):
+def participant_rows(scenario: str, _: object, after: Cleared, is_asked: Callable[[tuple[str, str | None]], bool]) -> Iterator[Cells]:
     number_format = changes.NumberFormat(after)
     for who in sorted({who for who, name in after.rows if is_asked((who, None))}):
         own = [key for key in after.rows if key[0] == who]
@@ -235,17 +243,17 @@ TABLES = {
 class Distribution:
     """What becomes of some blocks over many scenarios: whether each is accepted, and its surplus at the prices."""
 
-    def __init__(self, held, keys):
+    def __init__(self, held: Book, keys: Sequence[Key]) -> None:
         self.rows, self.keys, self.periods, self.hours = held.rows, keys, held.periods, rules.DAYS[held.periods]
-        self.surpluses = {key: [] for key in keys}  # of the scenarios that accept it
+        self.surpluses: dict[Key, list[int]] = {key: [] for key in keys}  # of the scenarios that accept it
         self.rejected = dict.fromkeys(keys, 0)
 
-    def add_or_raise(self, name, printed):
+    def add_or_raise(self, name: str, printed: bytes) -> None:
         """Adds a scenario by the output of `dam clear` for it. A fault if it isn't of this book, or a surplus isn't the one at its prices."""
         try:
             lines = printed.decode().split("\n", self.periods + 2)[2:-1]  # after the day and the welfare
             prices = {number: int(line.split(",")[2]) for number, line in enumerate(lines, 1)}
-            found = {key: (*parse_block(printed, key), selection.surplus_or_none(self.rows[key], prices)) for key in self.keys}
+            found = {key: (*parse_block(printed, key), selection.surplus_at(self.rows[key], prices)) for key in self.keys}
         except (ValueError, LookupError):
             raise Fault(NO_RESULTS) from None
         for key, (is_accepted, amount, right) in found.items():
@@ -257,42 +265,41 @@ class Distribution:
             else:
                 self.rejected[key] += 1
 
-    def heads(self):
+    def heads(self) -> Cells:
         return [*BLOCK, *(f"p{part:02}_eur" for part in PARTS)]
 
-    def table_rows(self):
+    def table_rows(self) -> Iterator[Cells]:
         """A row for each block; amounts are rounded to whole cents."""
         yield self.heads()
         for key in self.keys:
             surpluses = sorted(self.surpluses[key])
             whole = len(surpluses) + self.rejected[key]
-            amounts = [Fraction(sum(surpluses), whole), *(quantile_or_none(surpluses, part) for part in PARTS)]
-            shares = [whole, len(surpluses), f"{len(surpluses) / whole:.4f}"]
+            amounts: list[Fraction | int | None] = [Fraction(sum(surpluses), whole), *(quantile(surpluses, part) for part in PARTS)]
+            shares: Cells = [whole, len(surpluses), f"{len(surpluses) / whole:.4f}"]
             yield [*key, text.eur_per_mwh(self.rows[key].price), *shares, *map(self.eur_text, amounts)]
 
-    def eur_text(self, amount):
+    def eur_text(self, amount: Fraction | int | None) -> str:
         return "" if amount is None else f"{float(amount * self.hours / 1_000):.2f}"
 
 
-def parse_block(printed, key):
+def parse_block(printed: bytes, key: Key) -> tuple[bool, int]:
     """Whether a block is accepted in an output of `dam clear`, and its surplus; a ValueError or a KeyError if it isn't there."""
     begin = printed.index(f"\nblock,{key[0]},{key[1]},".encode()) + 1
     outcome, surplus = printed[begin : printed.index(b"\n", begin)].split(b",")[3:]
     return {b"accepted": True, b"rejected": False}[outcome], int(surplus)
 
 
-def quantile_or_none(numbers, part):
-    """The number of a sorted list that this per cent of it are at most; None of an empty list."""
+def quantile(numbers: Sequence[Number], part: int) -> Number | None:
+    """The number of a sorted list that this per cent of it are at most."""
     return numbers[max(-(-len(numbers) * part // 100) - 1, 0)] if numbers else None
 
 
-def distribution_lines(distribution):
+def distribution_lines(distribution: Distribution) -> Iterator[str]:
     """One line for each block."""
     for key in distribution.keys:
         found = distribution.surpluses[key]
         whole = len(found) + distribution.rejected[key]
         line = f"{' '.join(key)} is accepted in {len(found):,} of {whole:,} scenarios"
-        if found:
-            middle = text.amount(quantile_or_none(sorted(found), 50), distribution.hours)
-            line += f"; the median of its surplus is then {middle} EUR"
+        if (middle := quantile(sorted(found), 50)) is not None:
+            line += f"; the median of its surplus is then {text.amount(middle, distribution.hours)} EUR"
         yield line

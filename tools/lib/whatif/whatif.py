@@ -5,25 +5,33 @@ import collections
 import contextlib
 import itertools
 import json
+from argparse import Namespace
+from collections.abc import Callable, Iterable, Iterator, Mapping, Sequence
 
 from ..base import place, rules, text
+from ..day import day_files
+from ..journal.book import Book
+from ..journal.journal import Key, Order
 from ..runs import by_program, cleared, cluster, engine, errors, which
+from ..runs.by_program import Running
 from ..runs.cleared import Cleared
-from ..tool import command_line, day_files, exits, file_io, modules, output
+from ..tool import command_line, exits, file_io, modules, output
 from . import changes, limits, options, scenarios
+from .changes import Cells
+
+Given = scenarios.Scenario | scenarios.Listed
 
 GRID = 2_000, 100  # cents per MWh: how far the limits of an hourly order reach from the price, and their distance
 MOST_LIMITS = 100_000
 
 
-def main(description, epilog):
-    """Reads the command line, and does what it says."""
+def main(description: str, epilog: str) -> int:
     parser = command_line.Parser("whatif", description, epilog)
     commands = parser.add_subparsers(dest="command", metavar="COMMAND", required=True)
     for add, call in (
-        (options.add_limit_command, write_limit_and_return_status),
-        (options.add_change_command, write_change_and_return_status),
-        (options.add_scenarios_command, write_scenarios_and_return_status),
+        (options.add_limit_command, write_limit),
+        (options.add_change_command, write_change),
+        (options.add_scenarios_command, write_scenarios),
     ):
         add(commands, call, epilog[epilog.index("\nstatuses:") :])
     args = parser.parse_args()
@@ -33,16 +41,16 @@ def main(description, epilog):
         raise exits.Stop(str(fault), status_of(fault)) from None
 
 
-def status_of(fault):
+def status_of(fault: errors.Fault) -> int:
     if isinstance(fault, errors.Wrong):
         return exits.DIFFERS
     is_failure = isinstance(fault, (errors.Unstarted, errors.TimedOut)) or fault.is_failure()
     return exits.FAILED if is_failure else exits.NO_INPUT
 
 
-def require_and_set_program(args):
+def require_and_set_program(args: Namespace) -> None:
     """Ends the tool if there is neither the library nor a program."""
-    if args.program or not which.find_library_or_none():
+    if args.program or not which.find_library():
         try:
             args.program = by_program.require_program(args.program)
         except errors.Fault:
@@ -52,7 +60,7 @@ def require_and_set_program(args):
             raise exits.Stop(words, exits.FAILED) from None
 
 
-def read_closed_book(args):
+def read_closed_book(args: Namespace) -> Book:
     """The book of the journal, which has to be closed."""
     found = day_files.require_journal(args.journal, file_io.read_bytes(args.journal))
     try:
@@ -61,12 +69,12 @@ def read_closed_book(args):
         raise exits.Stop(f"{exits.shown(args.journal)}: {fault}") from None
 
 
-def engine_function(program, running=None):
+def engine_function(program: str | None, running: Running | None = None) -> Callable[[bytes], bytes | errors.Fault]:
     """The engine that clears a text; a run that fails is a `Fault`."""
     return lambda given: engine.clear_and_return_output_or_fault(given, program, running)
 
 
-def write_limit_and_return_status(args):
+def write_limit(args: Namespace) -> int:
     """Prints the worst limit at which a block is accepted, to the cent, or why no limit is enough. It adds the prices, the block's surplus,
     the participant's gain and the welfare at that limit and one cent past it, and the other orders whose results differ. The answer is in
     words; with --decimal-comma, or a file whose name ends with .csv or .xlsx, it is a table of one row. For an hourly order it prints the
@@ -77,12 +85,12 @@ def write_limit_and_return_status(args):
     require_and_set_program(args)
     held = read_closed_book(args)
     if args.all:
-        return write_all_limits_and_return_status(args, held)
+        return write_all_limits(args, held)
     key = args.participant, args.order
     if key not in held.rows:
-        raise exits.Stop(unknown_order_words(held, *key))
+        raise exits.Stop(unknown_order_text(held, *key))
     if held.rows[key].kind == "hour":
-        return write_samples_and_return_status(args, held, key)
+        return write_samples(args, held, key)
     if (args.least, args.greatest, args.step) != (None,) * 3:
         raise exits.Stop("--from, --to and --step can't be used with a block, whose limit is found exactly", exits.COMMAND_LINE)
     search = limits.LimitSearch(held, key, engine_function(args.program))
@@ -98,8 +106,7 @@ def write_limit_and_return_status(args):
     return exits.DONE
 
 
-def unknown_order_words(held, who, name):
-    """The message about an order that isn't in the book."""
+def unknown_order_text(held: Book, who: str, name: str | None) -> str:
     own = [other for owner, other in held.rows if owner == who]
     if not own:
         return f"{who} has no order in the book"
@@ -108,15 +115,14 @@ def unknown_order_words(held, who, name):
     return f"{who} has no order {name} in the book: {shown}"
 
 
-def write_all_limits_and_return_status(args, held):
-    """The worst limits of all blocks of a participant, as a table."""
+def write_all_limits(args: Namespace, held: Book) -> int:
     keys = [key for key, order in held.rows.items() if key[0] == args.participant and order.kind == "block"]
     if not keys:
         raise exits.Stop(f"{args.participant} has no block in the book")
 
     with engine.running_team(args.jobs or engine.count_processors()) as (team, running):
 
-        def row(key):
+        def row(key: Key) -> Cells:
             search = limits.LimitSearch(held, key, engine_function(args.program, running))
             return limits.limit_cells(search, search.search_for_worst())
 
@@ -126,7 +132,7 @@ def write_all_limits_and_return_status(args, held):
     return exits.DONE
 
 
-def write_samples_and_return_status(args, held, key):
+def write_samples(args: Namespace, held: Book, key: Key) -> int:
     """An hourly order under a grid of limits, as a table."""
     search = limits.LimitSearch(held, key, engine_function(args.program))
     period = held.rows[key].volumes[0][0]
@@ -157,7 +163,7 @@ def write_samples_and_return_status(args, held, key):
     return exits.DONE
 
 
-def write_change_and_return_status(args):
+def write_change(args: Namespace) -> int:
     """Prints the differences if further commands are put before the close: the welfare, prices and volumes, and each order's executed
     energy and amount, in the table of tools/compare."""
     output.exec_or_refuse_wrong_options(args, args.journal, args.changes)
@@ -179,20 +185,21 @@ def write_change_and_return_status(args):
     return exits.DONE
 
 
-def capture_difference_rows(books, who, program):
+def capture_difference_rows(books: Sequence[Book], who: str | None, program: str | None) -> Iterator[Cells]:
     """The differences between the results of two books, as a table: of one participant, or of all."""
     if who is not None and not any(who == owner for one in books for owner, _ in one.rows):
         raise errors.Fault(f"{who or text.quoted(who)} has no order in the book, before or after the changes")
     printed = list(engine.iterate_outputs_or_faults([cleared.journal_bytes(one.rows, one.periods) for one in books], program=program))
-    for found in printed:
-        if isinstance(found, errors.Fault):
-            raise found
+    faults = [found for found in printed if isinstance(found, errors.Fault)]
+    if faults:
+        raise faults[0]
     names = cleared.THE_DAY, f"{cleared.THE_DAY} with the changes"
-    days = [Cleared.of_text(one.rows, one.periods, found, name) for one, found, name in zip(books, printed, names)]
-    return changes.difference_rows(*days, who)
+    named = [(one, found, name) for one, found, name in zip(books, printed, names) if isinstance(found, bytes)]
+    before, after = (Cleared.of_text(one.rows, one.periods, found, name) for one, found, name in named)
+    return changes.difference_rows(before, after, who)
 
 
-def require_asked_order(args, books):
+def require_asked_order(args: Namespace, books: Iterable[Iterable[Key]]) -> None:
     """Ends the tool if no book has an order that is asked for."""
     is_asked = key_test(args)
     if not any(map(is_asked, itertools.chain.from_iterable(books))):
@@ -200,12 +207,11 @@ def require_asked_order(args, books):
         raise exits.Stop(f"{args.participant} has no order{name} in the book or in a scenario")
 
 
-def require_asked_blocks(args, held):
-    """The blocks whose distribution is asked for."""
+def require_asked_blocks(args: Namespace, held: Book) -> list[Key]:
     if args.order and (args.participant, args.order) not in held.rows:
-        raise exits.Stop(unknown_order_words(held, args.participant, args.order))
+        raise exits.Stop(unknown_order_text(held, args.participant, args.order))
     if not any(who == args.participant for who, _ in held.rows):
-        raise exits.Stop(unknown_order_words(held, args.participant, None))
+        raise exits.Stop(unknown_order_text(held, args.participant, None))
     blocks = [key for key, order in held.rows.items() if key[0] == args.participant and order.kind == "block"]
     own = [key for key in blocks if args.order in (None, key[1])]
     if not own:
@@ -215,7 +221,7 @@ def require_asked_blocks(args, held):
 
 
 @contextlib.contextmanager
-def connecting_executor(args):
+def connecting_executor(args: Namespace) -> Iterator[tuple[cluster.Cluster | None, Callable[..., engine.Answer]]]:
     """The executor of the cluster that is named, or None; and the engine that it calls."""
     if args.cluster is None:
         yield None, engine.clear_and_return_answer
@@ -226,7 +232,7 @@ def connecting_executor(args):
         yield executor, dam_tools.engine.clear_and_return_answer  # by the name that it has in the package
 
 
-def write_scenarios_and_return_status(args):
+def write_scenarios(args: Namespace) -> int:
     """Prints the results of many scenarios. In a table, each scenario has a name, with the orders or commands that it adds to the journal.
     With --sample the scenarios are random: the orders of all but one participant have other limits and volumes. An output that ends with
     .svg or .png is a picture of these."""
@@ -240,9 +246,10 @@ def write_scenarios_and_return_status(args):
         modules.exec_or_require_modules("distributed")
     require_and_set_program(args)
     held = read_closed_book(args)
+    given: Iterable[Given]
     if args.sample is None:
-        given = read_scenarios_and_print_notes(args, held)
-        count = len(given)
+        given = table = read_scenarios_and_print_notes(args, held)
+        count = len(table)
     else:
         given, count = draw_scenarios(args, held), args.sample
     if args.sample and not args.rows:
@@ -254,8 +261,7 @@ def write_scenarios_and_return_status(args):
     return exits.DONE
 
 
-def read_scenarios_and_print_notes(args, held):
-    """The scenarios of a table. Notes on the table are printed."""
+def read_scenarios_and_print_notes(args: Namespace, held: Book) -> scenarios.Table:
     data = file_io.read_bytes(args.scenarios)
     given, notes = scenarios.parse_table_and_notes(exits.shown(args.scenarios), data, held)
     for note in [] if args.quiet else notes:
@@ -265,17 +271,17 @@ def read_scenarios_and_print_notes(args, held):
     return given
 
 
-def draw_scenarios(args, held):
+def draw_scenarios(args: Namespace, held: Book) -> Iterator[scenarios.Scenario]:
     """As many random scenarios as the options ask for."""
     sds = [3 if args.price_sd is None else args.price_sd, 0.1 if args.volume_sd is None else args.volume_sd]
     sampler = scenarios.Sampler(held, args.participant, args.seed or "1", sds[0] * 100, sds[1])
     return sampler.draw_scenarios(args.sample)
 
 
-def capture_scenario_rows(args, held, given, count):
+def capture_scenario_rows(args: Namespace, held: Book, given: Iterable[Given], count: int) -> list[Cells]:
     """The rows of the table of the scenarios, of which the first is the head."""
     make, heads = scenarios.TABLES[args.rows or "welfare"]
-    rows = [["scenario", *heads]]
+    rows: list[Cells] = [["scenario", *heads]]
     with clearing_scenarios(args, held, given, count) as (before, printed_scenarios):
         for scenario, printed in printed_scenarios:
             after = require_day(f"scenario {scenario.name}", scenario.rows(), held.periods, printed)
@@ -283,7 +289,7 @@ def capture_scenario_rows(args, held, given, count):
     return rows
 
 
-def clear_and_add_scenarios_or_stop(over, args, held, given, count):
+def clear_and_add_scenarios_or_stop(over: scenarios.Distribution, args: Namespace, held: Book, given: Iterable[Given], count: int) -> None:
     """Clears the scenarios, and adds their results to a distribution. One of `scenarios.EACH` is checked by all rules."""
     with clearing_scenarios(args, held, given, count) as (_, printed_scenarios):
         for number, (scenario, printed) in enumerate(printed_scenarios):
@@ -294,11 +300,13 @@ def clear_and_add_scenarios_or_stop(over, args, held, given, count):
 
 
 @contextlib.contextmanager
-def clearing_scenarios(args, held, given, count):
+def clearing_scenarios(
+    args: Namespace, held: Book, given: Iterable[Given], count: int
+) -> Iterator[tuple[Cleared, Iterator[tuple[Given, bytes | errors.Fault]]]]:
     """The cleared day as it was; and each scenario with the output of `dam clear` for it, or its fault, in their order."""
-    waiting = collections.deque()
+    waiting: collections.deque[Given] = collections.deque()
 
-    def texts():
+    def texts() -> Iterator[bytes]:
         yield cleared.journal_bytes(held.rows, held.periods)
         for scenario in given:
             waiting.append(scenario)
@@ -313,24 +321,24 @@ def clearing_scenarios(args, held, given, count):
         yield before, ((waiting.popleft(), printed) for printed in shown)
 
 
-def key_test(args):
+def key_test(args: Namespace) -> Callable[[tuple[str, str | None]], bool]:
     """Whether an order, or a participant's name with None, is asked for."""
     return lambda key: args.participant in (None, key[0]) and (key[1] is None or args.order in (None, key[1]))
 
 
-def require_printed(name, printed):
+def require_printed(name: str, printed: bytes | errors.Fault) -> bytes:
     """The printed text; ends the tool if it is a fault."""
     if isinstance(printed, errors.Fault):
         raise exits.Stop(f"{text.safe(name)}: {printed}", status_of(printed))
     return printed
 
 
-def require_day(name, rows, periods, printed):
+def require_day(name: str, rows: Mapping[Key, Order], periods: int, printed: bytes | errors.Fault) -> Cleared:
     """The cleared day of a printed text, which has to be no fault, and to obey the rules."""
     return Cleared.of_text(rows, periods, require_printed(name, printed), text.safe(name))
 
 
-def write_distribution(args, held, over):
+def write_distribution(args: Namespace, held: Book, over: scenarios.Distribution) -> None:
     """The table of the blocks over all scenarios, or a picture and then the table on standard output."""
     if not args.quiet:
         for line in scenarios.distribution_lines(over):

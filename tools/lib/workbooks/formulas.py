@@ -1,6 +1,7 @@
 """The formulas of a workbook: which ones Excel computes again once it opens the workbook."""
 
 import re
+from collections.abc import Collection, Mapping
 
 # The functions that Excel computes again once it opens a workbook.
 VOLATILE = re.compile(r"\b(?:NOW|TODAY|RAND(?:BETWEEN|ARRAY)?|OFFSET|INDIRECT|CELL|INFO|RTD)\s*\(")
@@ -12,22 +13,21 @@ QUOTED = re.compile(r'''"[^"]*"|'[^']*'|\[(?:[^\[\]']|'.|\[(?:[^\[\]']|'.)*\])*\
 NAME = re.compile(r"[\w.\\?]+")
 
 
-def unquoted(formula):
+def unquoted(formula: str) -> str:
     """A formula in capitals, with a mark in place of each such part, up to a bracket that Excel doesn't write."""
     return QUOTED.sub(r"\1'", formula.upper())
 
 
-def has_volatile_function(formula):
-    """Whether a formula has one of these functions."""
+def has_volatile_function(formula: str) -> bool:
     return bool(VOLATILE.search(formula.upper()) and VOLATILE.search(unquoted(formula)))
 
 
-def has_name(formula, names):
+def has_name(formula: str, names: Collection[str]) -> bool:
     """Whether a formula has one of these names, which are in capitals."""
     return bool(names) and any(found[0] in names for found in NAME.finditer(unquoted(formula)))
 
 
-def volatile_names(formulas):
+def volatile_names(formulas: Mapping[str, str]) -> set[str]:
     """Of formulas by their names, in capitals, the names of those that have a volatile function, or such a name. None names itself, also
     by others: Excel allows no circle."""
     codes = {name: unquoted(formula) for name, formula in formulas.items()}

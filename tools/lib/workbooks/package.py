@@ -1,8 +1,10 @@
 """The zip archive of a workbook, whose files are its parts."""
 
 import io
+import re
 import zipfile
-from xml.parsers import expat
+from collections.abc import Callable, Iterator
+from typing import TypeVar
 
 from ..base import text
 from .limits import CHUNK, LONGEST_NAME, MOST_PARTS, MOST_UNPACKED, broken_error, too_many_error
@@ -10,18 +12,20 @@ from .limits import CHUNK, LONGEST_NAME, MOST_PARTS, MOST_UNPACKED, broken_error
 DIRECTORY = b"PK\x01\x02"  # begins the entry of a file in the directory of a zip archive
 END, END_SIZE = b"PK\x05\x06", 22  # begins the end of the archive, which a comment may follow; its bytes
 
+Result = TypeVar("Result")
+
 
 class Package:
     """The parts of a workbook: the files of a zip archive, whose names don't differ by capitals alone."""
 
-    def __init__(self, data):
+    def __init__(self, data: bytes) -> None:
         # The archive's directory is read whole, so its entries are counted first.
         if data.count(DIRECTORY) > MOST_PARTS:
             raise too_many_error(MOST_PARTS, "parts")
         self.archive = call_zipfile_or_refuse(lambda: zipfile.ZipFile(io.BytesIO(data)))
-        self.parts = {}
+        self.parts: dict[str, zipfile.ZipInfo] = {}
         files = self.archive.infolist()
-        if files and min(info.header_offset for info in files):
+        if min((info.header_offset for info in files), default=0):
             raise broken_error("other bytes stand before its archive, such as another workbook")
         if not data.startswith(END, len(data) - len(self.archive.comment) - END_SIZE):
             raise broken_error("other bytes stand after its archive, such as another workbook")
@@ -30,10 +34,10 @@ class Package:
                 raise broken_error(f"two parts are named {text.quoted(info.filename)}")
         self.unpacked = self.elements = 0
 
-    def has(self, name):
+    def has(self, name: str) -> bool:
         return part_key(name) in self.parts
 
-    def has_match(self, name, pattern):
+    def has_match(self, name: str, pattern: re.Pattern[bytes]) -> bool:
         """Whether a part has a match, of no more bytes than a name, as it is stored."""
         end = b""
         for chunk in self.read_chunks(self.parts[part_key(name)]) if self.has(name) else ():
@@ -42,16 +46,12 @@ class Package:
             end = chunk[-LONGEST_NAME:]
         return False
 
-    def parse_into_or_refuse(self, name, part):
-        """Parses a part from its beginning to its end."""
+    def require_chunks(self, name: str) -> Iterator[bytes]:
         if not self.has(name):
             raise broken_error(f"it has no part {text.quoted(name)}")
-        try:
-            part.parse_or_refuse(self, self.read_chunks(self.parts[part_key(name)]))
-        except expat.ExpatError as fault:
-            raise broken_error(f"{text.quoted(name)}: {fault}") from None
+        return self.read_chunks(self.parts[part_key(name)])
 
-    def read_chunks(self, info):
+    def read_chunks(self, info: zipfile.ZipInfo) -> Iterator[bytes]:
         if info.compress_type not in (zipfile.ZIP_STORED, zipfile.ZIP_DEFLATED):
             raise broken_error(f"{text.quoted(info.filename)} is compressed in another way than Excel does it")
         length = 0
@@ -66,12 +66,11 @@ class Package:
             raise broken_error(f"{text.quoted(info.filename)} has {length} bytes instead of {info.file_size}")
 
 
-def part_key(name):
-    """The name of a part, as it is looked up."""
+def part_key(name: str) -> str:
     return name.replace("\\", "/").lstrip("/").lower()
 
 
-def call_zipfile_or_refuse(call):
+def call_zipfile_or_refuse(call: Callable[[], Result]) -> Result:
     """The result of a call of zipfile, which raises any exception if the archive is broken."""
     try:
         return call()

@@ -63,11 +63,11 @@ share (pos (suc n)) q left = q
 share (negsuc n) q left = 0
 
 -- the volumes of the steps in book order: one whose limit is the price leaves the later ones of its side that much less
-abbrev pub fill : ℤ → List Step → (Side → ℕ) → List ℕ
-fill price [] left = []
-fill price (step ∷ steps) left =
+abbrev pub volumes_in_turn : ℤ → List Step → (Side → ℕ) → List ℕ
+volumes_in_turn price [] left = []
+volumes_in_turn price (step ∷ steps) left =
     share (margin_of step.side step.price price) step.qty (left step.side)
-    ∷ fill price steps (λ side. left side - volume_on side step.side (if_at (margin_of step.side step.price price) step.qty))
+    ∷ volumes_in_turn price steps (λ side. left side - volume_on side step.side (if_at (margin_of step.side step.price price) step.qty))
 
 -- the total of the side
 abbrev pub total_on : Side → ℕ → ℕ → ℕ

@@ -2,7 +2,7 @@
 use Rattle.std.specs.Prelude.{◌≡◌, ◌≤◌, ℕ, zero, suc, ◌+◌, [], ◌∷◌, ◌++◌, List, length, map, Result, MatchResult}
 use Rattle.dam_book.specs.declared.command.Command.{Command}
 use Rattle.dam_results.specs.Limits.{most_records}
-use Rattle.dam_results.specs.Records.{Fields, row_of}
+use Rattle.dam_results.specs.Records.{Fields, record_of_command}
 use Rattle.dam_results.specs.Rules.{FieldRule, Empty, IsLeastBroken}
 use Rattle.dam_results.specs.Journal.{IsCommand}
 use Rattle.dam_results.specs.declared.nine_fields.NineFields.{NineFields}
@@ -21,9 +21,9 @@ fields_in r =
 
 -- the record of this command, which is within its limits, or the least field that breaks its rule
 abbrev pub ReadsCommand : List FieldRule → NineFields → Command → Result Unit ℕ → Type 0
-ReadsCommand rules row command read = MatchResult read
-    (λ _. IsCommand command × (fields_in row ≡ row_of command))
-    (IsLeastBroken rules (fields_in row))
+ReadsCommand rules fields command read = MatchResult read
+    (λ _. IsCommand command × (fields_in fields ≡ record_of_command command))
+    (IsLeastBroken rules (fields_in fields))
 
 abbrev pub AreEmpty : Fields → Type 0
 AreEmpty [] = Unit {0}
@@ -37,11 +37,11 @@ ChecksEmpty first fields checked = MatchResult checked (λ _. AreEmpty fields)
     × IsLeastBroken (map (λ _. Empty) fields) fields (suc place))
 
 -- the record of that entry is within the limit and says a command, which was taken
-pub record TakesRow {T : Type 0} (MadeOf : ℕ → List Command → T → Type 0) (number : ℕ)
-    (row : Fields) (before after : T) : Type 0 where
+pub record TakesRecord {T : Type 0} (MadeOf : ℕ → List Command → T → Type 0) (number : ℕ)
+    (fields : Fields) (before after : T) : Type 0 where
   pub few : number + 1 ≤ most_records
   pub command : Command
   pub valid : IsCommand command
-  pub written : row ≡ row_of command
+  pub written : fields ≡ record_of_command command
   pub made : (periods : ℕ) (commands : List Command) → length commands + 1 ≡ number
       → MadeOf periods commands before → MadeOf periods (commands ++ command ∷ []) after

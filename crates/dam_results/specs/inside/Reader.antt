@@ -24,8 +24,8 @@ abbrev pub fields_of : List Field → Fields
 fields_of fields = map bytes_of fields
 
 -- the records that are left
-abbrev pub rows_left : Records → List Fields
-rows_left records = records_of records.rest.now
+abbrev pub records_left : Records → List Fields
+records_left records = records_of records.rest.now
 
 -- whether a byte ends a line
 abbrev pub ends_line : ℕ → Bool
@@ -59,21 +59,21 @@ pub record Continues (before : State) (begun text : List ℕ) (after : State) (f
   pub shorter : length rest ≤ length text
 
 -- the text begins with a record, of which these fields are kept
-pub record BeginsWithRow (text rest : List ℕ) (kept : Fields) : Type 0 where
-  pub row : Fields
+pub record BeginsWithRecord (text rest : List ℕ) (kept : Fields) : Type 0 where
+  pub fields : Fields
   pub next : State
   pub between : ends_at_end next ≡ false
-  pub read : next_record default_config st.StartField [] [] text ≡ Some (row, next, rest)
-  pub first : kept ≡ take most_kept row
+  pub read : next_record default_config st.StartField [] [] text ≡ Some (fields, next, rest)
+  pub first : kept ≡ take most_kept fields
 
 -- the text has line ends, and then the text that starts with a record
-pub record StartsRow (text start : List ℕ) : Type 0 where
+pub record StartsRecord (text start : List ℕ) : Type 0 where
   pub same : next_record default_config st.StartRecord [] [] text
       ≡ next_record default_config st.StartField [] [] start
   pub shorter : length start ≤ length text
 
 -- the first of the records left is read, and of its fields the first ones are kept
 pub record TakesFirst (before after : List Fields) (kept : Fields) : Type 0 where
-  pub row : Fields
-  pub rows : before ≡ row ∷ after
-  pub first : kept ≡ take most_kept row
+  pub fields : Fields
+  pub records : before ≡ fields ∷ after
+  pub first : kept ≡ take most_kept fields

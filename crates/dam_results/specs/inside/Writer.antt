@@ -15,7 +15,7 @@ pub record Wrote {A : Type 0} (out : Writer (Vec ℕ A)) (text : List ℕ) : Typ
   pub bytes : text_written (λ (v : Vec ℕ A). Some v.items) out ≡ Some text
 
 -- it has written one more command, which is within its limits
-pub record PutsCommand {A : Type 0} (before after : Writer (Vec ℕ A)) (command : Command)
+pub record WritesCommand {A : Type 0} (before after : Writer (Vec ℕ A)) (command : Command)
     : Type 0 where
   pub valid : IsCommand command
   pub line : (text : List ℕ) → Wrote before text → Wrote after (text ++ command_line command)

@@ -15,18 +15,18 @@ use Rattle.dam_search.specs.Words.{most_pieces}
 
 -- a worker's answer about a piece of the cutting: it is sound, and read no more than some eligible
 -- selection has. If a piece can have more nodes than the limit, it kept to it. Otherwise it is done
-pub record IsWorked (problem : ProblemState) (depth nodes : ℕ) (a : PieceAnswer) : Type 0 where
-  pub in_cutting : a.piece < 2 ^ depth
-  pub sound : IsSoundAnswer problem depth a
-  pub reached : IsReached problem a.incumbent_read
-  pub spent : nodes < node_count (length problem.blocks - depth)
-      → IsSpent problem (choice depth a.piece) (length problem.blocks - depth) 0 nodes
-      a.visited a.incumbent_read a.done
-  pub done : node_count (length problem.blocks - depth) ≤ nodes → a.done ≡ true
+pub record IsWorked (problem : ProblemState) (depth node_limit : ℕ) (answer : PieceAnswer) : Type 0 where
+  pub in_cutting : answer.piece < 2 ^ depth
+  pub sound : IsSoundAnswer problem depth answer
+  pub reached : IsReached problem answer.incumbent_read
+  pub spent : node_limit < node_count (length problem.blocks - depth)
+      → IsSpent problem (choice depth answer.piece) (length problem.blocks - depth) 0 node_limit
+      answer.visited answer.incumbent_read answer.done
+  pub done : node_count (length problem.blocks - depth) ≤ node_limit → answer.done ≡ true
 
 -- how many answers there are about the piece
 abbrev pub answers_about : List PieceAnswer → ℕ → ℕ
-answers_about answers piece = count_by (λ (a : PieceAnswer). a.piece == piece) answers
+answers_about answers piece = count_by (λ (answer : PieceAnswer). answer.piece == piece) answers
 
 -- there is one answer about each of this number of pieces
 abbrev pub AreOneEach : List PieceAnswer → ℕ → Type 0
@@ -45,25 +45,25 @@ pub record AreAnswerCounts (answers : List PieceAnswer) (counts : List ℕ) : Ty
 
 -- whether the answer isn't done, and is about a lesser piece than that one
 abbrev pub is_lesser_unfinished : PieceAnswer → Option PieceAnswer → Bool
-is_lesser_unfinished a None = not a.done
-is_lesser_unfinished a (Some u) = not a.done && nat_lt a.piece u.piece
+is_lesser_unfinished answer None = not answer.done
+is_lesser_unfinished answer (Some unfinished) = not answer.done && nat_lt answer.piece unfinished.piece
 
 -- a selection that was found is as long as selections are
 abbrev pub IsLong : Option Solution → Type 0
 IsLong None = Unit {0}
-IsLong (Some b) = length b.selection ≡ most_blocks
+IsLong (Some best) = length best.selection ≡ most_blocks
 
 -- the highest selection that the answers found, or none if they found none
 abbrev pub IsHighestFound : List PieceAnswer → Option Solution → Type 0
-IsHighestFound answers None = All (λ (a : PieceAnswer). a.best ≡ None) answers
-IsHighestFound answers (Some b) = IsHighest answers b
+IsHighestFound answers None = All (λ (answer : PieceAnswer). answer.best ≡ None) answers
+IsHighestFound answers (Some best) = IsHighest answers best
 
 -- the answer about the least piece of those that aren't done
 abbrev pub IsLeastUnfinished : List PieceAnswer → Option PieceAnswer → Type 0
-IsLeastUnfinished answers None = All (λ (a : PieceAnswer). a.done ≡ true) answers
-IsLeastUnfinished answers (Some u) =
-    Contains answers u × (u.done ≡ false)
-    × All (λ (a : PieceAnswer). a.done ≡ false → u.piece ≤ a.piece) answers
+IsLeastUnfinished answers None = All (λ (answer : PieceAnswer). answer.done ≡ true) answers
+IsLeastUnfinished answers (Some unfinished) =
+    Contains answers unfinished × (unfinished.done ≡ false)
+    × All (λ (answer : PieceAnswer). answer.done ≡ false → unfinished.piece ≤ answer.piece) answers
 
 -- the result of answers about the pieces of a cutting of this depth: the first piece that lacks one
 -- or has several, else the least unfinished one, else the highest selection that was found
@@ -73,7 +73,7 @@ IsCollected depth answers (Err (AnswerMissingOrRepeated piece)) =
     (piece < 2 ^ depth) × IsFirstFaulty answers piece
 IsCollected depth answers (Err (Unfinished piece visited)) =
     AreOneEach answers (2 ^ depth)
-    × ((u : PieceAnswer) × IsLeastUnfinished answers (Some u) × (u.piece ≡ piece)
-    × (u.visited ≡ visited))
+    × ((unfinished : PieceAnswer) × IsLeastUnfinished answers (Some unfinished) × (unfinished.piece ≡ piece)
+    × (unfinished.visited ≡ visited))
 IsCollected depth answers (Ok best) =
     AreOneEach answers (2 ^ depth) × IsLeastUnfinished answers None × IsHighest answers best

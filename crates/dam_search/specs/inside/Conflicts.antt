@@ -29,17 +29,17 @@ is_other_of_group blocks place at = not (at == place) && are_two_of_group (slice
 
 -- if an eligible selection accepts the place, it accepts all of these
 abbrev pub Needs : ProblemState → ℕ → List Bool → Type 0
-Needs problem place places = (selection : List Bool) (w : ℤ) → IsEligible problem selection w
+Needs problem place places = (selection : List Bool) (welfare : ℤ) → IsEligible problem selection welfare
     → accepts selection place ≡ true → AcceptsAll places selection
 
 -- if an eligible selection accepts one of these, it accepts the place
 abbrev pub IsNeededBy : ProblemState → ℕ → List Bool → Type 0
-IsNeededBy problem place places = (selection : List Bool) (w : ℤ) → IsEligible problem selection w
+IsNeededBy problem place places = (selection : List Bool) (welfare : ℤ) → IsEligible problem selection welfare
     → (j : ℕ) → accepts places j ≡ true → accepts selection j ≡ true → accepts selection place ≡ true
 
 -- if an eligible selection accepts the place, it accepts none of these
 abbrev pub Excludes : ProblemState → ℕ → List Bool → Type 0
-Excludes problem place places = (selection : List Bool) (w : ℤ) → IsEligible problem selection w
+Excludes problem place places = (selection : List Bool) (welfare : ℤ) → IsEligible problem selection welfare
     → accepts selection place ≡ true → AcceptsNone places selection
 
 -- what each place needs, is needed by and excludes

@@ -20,50 +20,50 @@ pub record Finds (problem : ProblemState) (prefix : List Bool) (before after : O
 -- or below the selection that was found
 abbrev pub Covers : ProblemState → List Bool → Option Solution → ℕ → Type 0
 Covers problem prefix best read =
-    (sel : List Bool) (w : ℤ) → IsCompletion prefix sel → IsEligible problem sel w
-    → (w <ℤ pos read) ⊎ IsMatched w sel best
+    (selection : List Bool) (welfare : ℤ) → IsCompletion prefix selection → IsEligible problem selection welfare
+    → (welfare <ℤ pos read) ⊎ IsMatched welfare selection best
 
 -- the nodes visited before and after, if this number of blocks is undecided and the value was read
 -- before
 pub record Spends (problem : ProblemState) (prefix : List Bool)
-    (left greatest_read nodes before after : ℕ) (done : Bool) : Type 0 where
+    (undecided_count greatest_read node_limit before after : ℕ) (done : Bool) : Type 0 where
   pub grows : before ≤ after
-  pub within : after ≤ nodes
-  pub all : after + 1 ≤ before + 2 ^ (left + 1)
-  pub live : (v : ℕ) → v ≤ greatest_read → after ≤ before + 1 + 2 * live_count problem v prefix left
-  pub unfinished : done ≡ false → after ≡ nodes
-  pub over_all : done ≡ false → nodes + 1 < before + 2 ^ (left + 1)
+  pub within : after ≤ node_limit
+  pub all : after + 1 ≤ before + 2 ^ (undecided_count + 1)
+  pub live : (v : ℕ) → v ≤ greatest_read → after ≤ before + 1 + 2 * live_count problem v prefix undecided_count
+  pub unfinished : done ≡ false → after ≡ node_limit
+  pub over_all : done ≡ false → node_limit + 1 < before + 2 ^ (undecided_count + 1)
   pub over_live : done ≡ false → (v : ℕ) → v ≤ greatest_read
-      → nodes < before + 1 + 2 * live_count problem v prefix left
+      → node_limit < before + 1 + 2 * live_count problem v prefix undecided_count
 
 -- the greatest value read by the walk before and after, compared with the greatest value read of
 -- its incumbent
-pub record ReadsIncumbent (left visited_before visited_after read_before read_after greatest_read_before
+pub record ReadsIncumbent (undecided_count visited_before visited_after read_before read_after greatest_read_before
     greatest_read_after : ℕ) : Type 0 where
   pub grows : read_before ≤ read_after
   pub greatest_read : greatest_read_after ≡ max greatest_read_before read_after
-  pub asked : visited_before < visited_after → 0 < left → read_after ≡ greatest_read_after
+  pub asked : visited_before < visited_after → 0 < undecided_count → read_after ≡ greatest_read_after
   pub unvisited : visited_after ≡ visited_before → read_after ≡ read_before
-  pub full : left ≡ 0 → read_after ≡ read_before
+  pub full : undecided_count ≡ 0 → read_after ≡ read_before
 
 -- a walk before it goes on: it may visit this number of nodes, and these are the greatest value read
 -- of its incumbent and the greatest that was offered
-pub record IsGoing (problem : ProblemState) (nodes greatest_read greatest_offer : ℕ) (found : WalkState)
+pub record IsGoing (problem : ProblemState) (node_limit greatest_read greatest_offer : ℕ) (state : WalkState)
     : Type 0 where
-  pub within : found.visited ≤ nodes
-  pub read : found.incumbent_read ≤ greatest_read
-  pub best : IsFind problem [] found.best
-  pub offered : welfare_found found.best ≤ greatest_offer
+  pub within : state.visited ≤ node_limit
+  pub read : state.incumbent_read ≤ greatest_read
+  pub best : IsFind problem [] state.best
+  pub offered : welfare_found state.best ≤ greatest_offer
 
 -- a walk from the prefix, and whether it is done: its find, value read and visited nodes before and
 -- after, and the greatest value read of its incumbent and offered to it before and after
 pub record IsWalked (problem : ProblemState) (prefix : List Bool)
-    (nodes greatest_read_before greatest_offer_before greatest_read_after greatest_offer_after : ℕ)
+    (node_limit greatest_read_before greatest_offer_before greatest_read_after greatest_offer_after : ℕ)
     (before after : WalkState) (done : Bool) : Type 0 where
   pub finds : Finds problem prefix before.best after.best
   pub covers : done ≡ true → Covers problem prefix after.best after.incumbent_read
   pub spends : Spends problem prefix (length problem.blocks - length prefix) greatest_read_before
-      nodes before.visited after.visited done
+      node_limit before.visited after.visited done
   pub needed : done ≡ true → HasNeeded problem prefix (length problem.blocks - length prefix)
       after.incumbent_read (after.visited - before.visited)
   pub reads : ReadsIncumbent (length problem.blocks - length prefix) before.visited after.visited

@@ -1,9 +1,5 @@
 -- A block more.
-use Rattle.std.proofs.Common.{◌∙◌, sym, arith, rules}
-use Rattle.std.proofs.lemmas.Int.{ints}
-use Rattle.std.proofs.lemmas.Option.{slice_get_read}
-use Rattle.dam_hour.specs.Limits.{greatest_value}
-use Rattle.dam_blocks.specs.Selection.{value_in}
+use Rattle.dam_blocks.proofs.Common.{◌∙◌, sym, arith, rules, ints, slice_get_read, greatest_value, value_in}
 use Rattle.dam_blocks.proofs.RunningSums.{sum_more, sum_same}
 use Rattle.dam_blocks.proofs.block_effects.accepted_value.Goals as goal
 use Rattle.dam_blocks.proofs.block_effects.accepted_value.Goals.{then-has, else-has}

@@ -1,6 +1,5 @@
 -- The sum so far; each block adds at most a greatest value.
-use Rattle.dam_hour.specs.Limits.{greatest_value}
-use Rattle.dam_blocks.specs.Selection.{value_in}
+use Rattle.dam_blocks.proofs.Common.{greatest_value, value_in}
 use Rattle.dam_blocks.proofs.RunningSums.{IsSumSoFar}
 use Rattle.dam_blocks.proofs.block_effects.accepted_value.Given as goal
 

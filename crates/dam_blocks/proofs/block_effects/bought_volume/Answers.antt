@@ -1,8 +1,5 @@
 -- A block more.
-use Rattle.std.proofs.Common.{pos, ap, ◌∙◌, sym, arith, rules}
-use Rattle.std.proofs.lemmas.Int.{ints}
-use Rattle.std.proofs.lemmas.Option.{slice_get_read}
-use Rattle.dam_book.specs.Limits.{greatest_volume}
+use Rattle.dam_blocks.proofs.Common.{pos, ap, ◌∙◌, sym, arith, rules, ints, slice_get_read, greatest_volume}
 use Rattle.dam_blocks.specs.Selection.{bought_volume_of_block}
 use Rattle.dam_blocks.proofs.RunningSums.{sum_more, sum_same}
 use Rattle.dam_blocks.proofs.block_effects.bought_volume.Goals as goal

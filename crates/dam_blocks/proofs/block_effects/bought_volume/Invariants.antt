@@ -1,6 +1,5 @@
 -- The sum so far; each block adds at most a greatest volume.
-use Rattle.std.proofs.Common.{pos}
-use Rattle.dam_book.specs.Limits.{greatest_volume}
+use Rattle.dam_blocks.proofs.Common.{pos, greatest_volume}
 use Rattle.dam_blocks.specs.Selection.{bought_volume_of_block}
 use Rattle.dam_blocks.proofs.RunningSums.{IsSumSoFar}
 use Rattle.dam_blocks.proofs.block_effects.bought_volume.Given as goal

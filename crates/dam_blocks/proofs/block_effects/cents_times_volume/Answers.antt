@@ -1,7 +1,6 @@
 -- The product is the product of the arguments, and in range.
-use Rattle.std.proofs.Common.{◌≡◌, ℤ, pos, neg_ℤ, ◌*ℤ◌, ◌≤ℤ◌, FitsSigned, to_z, of_z, w64, ap, ap₂, ◌∙◌, sym, subst, arith}
-use Rattle.std.proofs.lemmas.Int.{ints}
-use Rattle.dam_blocks.specs.Magnitude.{IsWithin, greatest_gain}
+use Rattle.dam_blocks.proofs.Common.{◌≡◌, ℤ, pos, neg_ℤ, ◌*ℤ◌, ◌≤ℤ◌, w64, ap, ap₂, ◌∙◌, sym, subst, arith, ints, IsWithin, greatest_gain}
+use Rattle.std.proofs.Common.{FitsSigned, to_z, of_z}
 use Rattle.dam_blocks.proofs.Products.{product_within}
 use Rattle.dam_blocks.proofs.block_effects.cents_times_volume.Goals as goal
 

@@ -1,9 +1,5 @@
 -- A block more.
-use Rattle.std.proofs.Common.{◌∙◌, sym, arith, rules}
-use Rattle.std.proofs.lemmas.Int.{ints}
-use Rattle.std.proofs.lemmas.Option.{slice_get_read}
-use Rattle.dam_book.specs.Limits.{greatest_volume}
-use Rattle.dam_blocks.specs.Selection.{net_volume_of_block}
+use Rattle.dam_blocks.proofs.Common.{◌∙◌, sym, arith, rules, ints, slice_get_read, greatest_volume, net_volume_of_block}
 use Rattle.dam_blocks.proofs.RunningSums.{sum_more, sum_same}
 use Rattle.dam_blocks.proofs.block_effects.net_volume.Goals as goal
 use Rattle.dam_blocks.proofs.block_effects.net_volume.Goals.{then-has, else-has}

@@ -1,6 +1,5 @@
 -- The sum so far; each block adds at most a greatest volume.
-use Rattle.dam_book.specs.Limits.{greatest_volume}
-use Rattle.dam_blocks.specs.Selection.{net_volume_of_block}
+use Rattle.dam_blocks.proofs.Common.{greatest_volume, net_volume_of_block}
 use Rattle.dam_blocks.proofs.RunningSums.{IsSumSoFar}
 use Rattle.dam_blocks.proofs.block_effects.net_volume.Given as goal
 

@@ -1,7 +1,5 @@
 -- A limit times a volume in range.
-use Rattle.std.proofs.Common.{◌≡◌, arith, rules}
-use Rattle.std.proofs.lemmas.Int.{ints}
-use Rattle.dam_blocks.specs.Selection.{value_in}
+use Rattle.dam_blocks.proofs.Common.{◌≡◌, arith, rules, ints, value_in}
 use Rattle.dam_blocks.proofs.Magnitudes.{value_within}
 use Rattle.dam_blocks.proofs.block_effects.value_in.Goals as goal
 

@@ -1,6 +1,5 @@
 -- The pairs that are left have the same volume in the period as all of them.
-use Rattle.std.proofs.Common.{◌≡◌, drop}
-use Rattle.dam_blocks.specs.Selection.{volume_in}
+use Rattle.dam_blocks.proofs.Common.{◌≡◌, drop, volume_in}
 use Rattle.dam_blocks.proofs.block_effects.volume_in.Given as goal
 
 abbrev pub invariant-loop-own : goal.invariant-loop-own

@@ -1,6 +1,5 @@
 -- If the parent is another block, the chain goes on from it.
-use Rattle.std.proofs.Common.{◌≡◌, ℕ, ◌+◌, ◌-◌, Option, length, ap, ◌∙◌, arith, rules}
-use Rattle.dam_blocks.specs.Family.{leads_to}
+use Rattle.dam_blocks.proofs.Common.{◌≡◌, ℕ, ◌+◌, ◌-◌, Option, length, ap, ◌∙◌, arith, rules, leads_to}
 use Rattle.dam_blocks.proofs.Families.{next_link}
 use Rattle.dam_blocks.proofs.family.descends.Goals as goal
 

@@ -1,6 +1,5 @@
 -- The rest of the chain leads to the ancestor if all of it does.
-use Rattle.std.proofs.Common.{◌≡◌, ◌-◌, length}
-use Rattle.dam_blocks.specs.Family.{leads_to, descends}
+use Rattle.dam_blocks.proofs.Common.{◌≡◌, ◌-◌, length, leads_to, descends}
 use Rattle.dam_blocks.proofs.family.descends.Given as goal
 
 abbrev pub invariant-loop : goal.invariant-loop

@@ -1,10 +1,6 @@
 -- The first block that is named stands at the place of the parent.
-use Rattle.std.proofs.Common.{◌≡◌, ℕ, get_or, ap, ◌∙◌, sym, inl, inr, arith, rules}
-use Rattle.std.proofs.lemmas.Bool.{cases_lt}
-use Rattle.std.proofs.lemmas.Option.{slice_get_read, get_or_from_slice_get, gets}
-use Rattle.std.proofs.lemmas.Grind.{common_steps}
-use Rattle.dam_blocks.specs.declared.problem.Block.{Block}
-use Rattle.dam_blocks.specs.Family.{names}
+use Rattle.dam_blocks.proofs.Common.{◌≡◌, ℕ, get_or, ap, ◌∙◌, sym, inl, inr, arith, rules, cases_lt, slice_get_read, get_or_from_slice_get, gets, common_steps}
+use Rattle.dam_blocks.proofs.Common.{Block, names}
 use Rattle.dam_blocks.proofs.Families.{first_parent, no_parent}
 use Rattle.dam_blocks.proofs.family.parent_place.Goals as goal
 

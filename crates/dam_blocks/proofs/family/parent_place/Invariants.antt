@@ -1,6 +1,5 @@
 -- No block so far is named.
-use Rattle.std.proofs.Common.{◌≡◌, ℕ, ◌<◌, false, get_or}
-use Rattle.dam_blocks.specs.Family.{names}
+use Rattle.dam_blocks.proofs.Common.{◌≡◌, ℕ, ◌<◌, false, get_or, names}
 use Rattle.dam_blocks.proofs.family.parent_place.Given as goal
 
 abbrev pub invariant-loop-at : goal.invariant-loop-at

@@ -1,9 +1,7 @@
 -- A block more.
-use Rattle.std.proofs.Common.{◌≡◌, ℕ, List, Some, [], ◌∷◌, ◌++◌, length, length-append, ap, subst, sym, refl, arith}
+use Rattle.dam_blocks.proofs.Common.{◌≡◌, ℕ, List, Some, [], ◌∷◌, ◌++◌, length, length-append, ap, subst, sym, refl, arith, slice_get_read, AreHindrances}
+use Rattle.dam_blocks.proofs.Common.{Hindrances}
 use Rattle.std.specs.List.{slice_get}
-use Rattle.std.proofs.lemmas.Option.{slice_get_read}
-use Rattle.dam_blocks.specs.inside.Hindrances.{AreHindrances}
-use Rattle.dam_blocks.specs.declared.hindrances.Hindrances.{Hindrances}
 use Rattle.dam_blocks.proofs.Hindering.{all_more}
 use Rattle.dam_blocks.proofs.hindrances.all_hindrances.Goals as goal
 

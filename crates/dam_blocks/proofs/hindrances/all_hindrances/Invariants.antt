@@ -1,8 +1,6 @@
 -- Those of each block so far.
-use Rattle.std.proofs.Common.{◌≡◌, ℕ, Some, length}
+use Rattle.dam_blocks.proofs.Common.{◌≡◌, ℕ, Some, length, Hindrances, AreHindrances}
 use Rattle.std.specs.List.{slice_get}
-use Rattle.dam_blocks.specs.declared.hindrances.Hindrances.{Hindrances}
-use Rattle.dam_blocks.specs.inside.Hindrances.{AreHindrances}
 use Rattle.dam_blocks.proofs.hindrances.all_hindrances.Given as goal
 
 abbrev pub invariant-loop-place : goal.invariant-loop-place

@@ -1,7 +1,5 @@
 -- A block more, and all of them.
-use Rattle.std.proofs.Common.{ℕ, ◌+◌, List, ◌∙◌, sym, subst, refl, rules}
-use Rattle.std.proofs.lemmas.Option.{slice_get_read}
-use Rattle.dam_blocks.specs.Selection.{are_of_one_group}
+use Rattle.dam_blocks.proofs.Common.{ℕ, ◌+◌, List, ◌∙◌, sym, subst, refl, rules, slice_get_read, are_of_one_group}
 use Rattle.dam_blocks.proofs.Hindering.{AreFoundSoFar, found_more, found_same, found_all}
 use Rattle.dam_blocks.proofs.hindrances.group_places.Goals.{then-are_of_one_group, else-are_of_one_group}
 use Rattle.dam_blocks.proofs.hindrances.group_places.Goals as goal

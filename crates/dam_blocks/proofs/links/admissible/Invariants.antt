@@ -1,6 +1,5 @@
 -- Each accepted place so far is allowed.
-use Rattle.std.proofs.Common.{◌≡◌, ℕ, ◌<◌, true}
-use Rattle.dam_blocks.specs.Selection.{accepts, IsAllowed}
+use Rattle.dam_blocks.proofs.Common.{◌≡◌, ℕ, ◌<◌, true, accepts, IsAllowed}
 use Rattle.dam_blocks.proofs.links.admissible.Given as goal
 
 abbrev pub invariant-loop-place : goal.invariant-loop-place

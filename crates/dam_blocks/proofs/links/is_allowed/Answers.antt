@@ -1,6 +1,5 @@
 -- Its parent is accepted if it has one, and no more of its group than may be.
-use Rattle.std.proofs.Common.{◌∙◌, sym, arith}
-use Rattle.std.proofs.lemmas.Bool.Decides.{nat_tests}
+use Rattle.dam_blocks.proofs.Common.{◌∙◌, sym, arith, nat_tests}
 use Rattle.dam_blocks.proofs.Hindering.{allowed_by, parents_accepted, group_within}
 use Rattle.dam_blocks.proofs.links.is_allowed.Goals as goal
 

@@ -1,6 +1,5 @@
 -- The list of the order's period is longer by its step.
-use Rattle.std.proofs.Common.{Vec, ◌<◌, ◌-◌, length, ◌∙◌, arith}
-use Rattle.dam_hour.specs.declared.step.Step.{Step}
+use Rattle.dam_blocks.proofs.Common.{Vec, ◌<◌, ◌-◌, length, ◌∙◌, arith, Step}
 use Rattle.dam_blocks.proofs.RowByRow.{same_step, list_grown}
 use Rattle.dam_blocks.proofs.problem_making.add_step.Goals as goal
 

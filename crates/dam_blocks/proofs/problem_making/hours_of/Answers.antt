@@ -1,8 +1,6 @@
 -- An hour more.
-use Rattle.std.proofs.Common.{Vec, length, ap, ◌∙◌, refl, arith}
-use Rattle.std.proofs.lemmas.Option.{slice_get_read}
+use Rattle.dam_blocks.proofs.Common.{Vec, length, ap, ◌∙◌, refl, arith, slice_get_read, Step}
 use Rattle.std.proofs.lemmas.List.{take_all, length-map}
-use Rattle.dam_hour.specs.declared.step.Step.{Step}
 use Rattle.dam_blocks.proofs.RowByRow.{hour_more, few_of_period}
 use Rattle.dam_blocks.proofs.problem_making.hours_of.Goals as goal
 

@@ -1,7 +1,6 @@
 -- An empty list more.
-use Rattle.std.proofs.Common.{Vec, List, ◌∷◌, ◌++◌, [], map, ap, ◌∙◌}
+use Rattle.dam_blocks.proofs.Common.{Vec, List, ◌∷◌, ◌++◌, [], map, ap, ◌∙◌, Step}
 use Rattle.std.proofs.lemmas.List.{map-append}
-use Rattle.dam_hour.specs.declared.step.Step.{Step}
 use Rattle.dam_blocks.proofs.RowByRow.{none_more}
 use Rattle.dam_blocks.proofs.problem_making.no_steps.Goals as goal
 

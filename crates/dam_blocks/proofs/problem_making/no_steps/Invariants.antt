@@ -1,6 +1,5 @@
 -- The lists so far, and those that are left.
-use Rattle.std.proofs.Common.{◌≡◌, ◌+◌, ◌-◌, ◌++◌, [], map}
-use Rattle.dam_blocks.specs.Problem.{hours_from}
+use Rattle.dam_blocks.proofs.Common.{◌≡◌, ◌+◌, ◌-◌, ◌++◌, [], map, hours_from}
 use Rattle.dam_blocks.proofs.problem_making.no_steps.Given as goal
 
 abbrev pub invariant-loop : goal.invariant-loop

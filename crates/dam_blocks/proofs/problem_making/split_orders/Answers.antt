@@ -1,13 +1,9 @@
 -- A row more, with its place, among those of its kind and period.
-use Rattle.std.proofs.Common.{◌≡◌, ℕ, Vec, Some, List, [], ◌++◌, map, ap, length, take, ◌∙◌, refl, arith, rules}
+use Rattle.dam_blocks.proofs.Common.{◌≡◌, ℕ, Vec, Some, List, [], ◌++◌, map, ap, length, take, ◌∙◌, refl, arith, rules, Row, Order, Step, Block, hours_from}
+use Rattle.dam_blocks.proofs.Common.{block_under, blocks_in}
 use Rattle.std.proofs.lemmas.List.{length-map}
-use Rattle.dam_book.specs.Book.{Row}
-use Rattle.dam_book.specs.declared.order.Order.{Order}
-use Rattle.dam_hour.specs.declared.step.Step.{Step}
-use Rattle.dam_blocks.specs.declared.problem.Block.{Block}
 use Rattle.dam_blocks.specs.declared.problem.Place.{Place}
 use Rattle.dam_blocks.specs.declared.problem.Place.TheVariants.{Hour as AtHour, Block as AtBlock}
-use Rattle.dam_blocks.specs.Problem.{hours_from, block_under, blocks_in}
 use Rattle.dam_blocks.proofs.FromBook.{length-hours_from}
 use Rattle.dam_blocks.proofs.RowByRow.{in_day, nothing_placed, hour_placed, block_placed, more_some, more_none, same_block, one_longer}
 use Rattle.dam_blocks.proofs.problem_making.split_orders.Goals as goal

@@ -1,6 +1,5 @@
 -- The rows so far have their places, and are parted by their kind and period.
-use Rattle.std.proofs.Common.{◌≡◌, ◌++◌, drop, length, map}
-use Rattle.dam_blocks.specs.Problem.{blocks_in}
+use Rattle.dam_blocks.proofs.Common.{◌≡◌, ◌++◌, drop, length, map, blocks_in}
 use Rattle.dam_blocks.proofs.RowByRow.{IsPlacedSoFar}
 use Rattle.dam_blocks.proofs.problem_making.split_orders.Given as goal
 

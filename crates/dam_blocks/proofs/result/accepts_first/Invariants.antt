@@ -1,6 +1,5 @@
 -- The rests of the two are ordered as they are.
-use Rattle.std.proofs.Common.{◌≡◌, drop}
-use Rattle.dam_blocks.specs.Result.{accepts_first}
+use Rattle.dam_blocks.proofs.Common.{◌≡◌, drop, accepts_first}
 use Rattle.dam_blocks.proofs.result.accepts_first.Given as goal
 
 abbrev pub invariant-loop-place : goal.invariant-loop-place

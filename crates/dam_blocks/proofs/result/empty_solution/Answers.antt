@@ -1,6 +1,5 @@
 -- The empty selection is eligible, so that no other verdict comes.
-use Rattle.std.proofs.Common.{List, Bool, sym, subst}
-use Rattle.dam_blocks.specs.Eligible.{IsEligible}
+use Rattle.dam_blocks.proofs.Common.{List, Bool, sym, subst, IsEligible}
 use Rattle.dam_blocks.proofs.Verdicts.{verdict_eligible}
 use Rattle.dam_blocks.proofs.result.empty_solution.Goals as goal
 

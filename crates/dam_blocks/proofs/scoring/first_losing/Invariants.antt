@@ -1,7 +1,5 @@
 -- No accepted block so far loses.
-use Rattle.std.proofs.Common.{◌≡◌, ℕ, ◌<◌, pos, ◌≤ℤ◌, true}
-use Rattle.dam_blocks.specs.Selection.{accepts}
-use Rattle.dam_blocks.specs.Eligible.{family_surplus}
+use Rattle.dam_blocks.proofs.Common.{◌≡◌, ℕ, ◌<◌, pos, ◌≤ℤ◌, true, accepts, family_surplus}
 use Rattle.dam_blocks.proofs.scoring.first_losing.Given as goal
 
 abbrev pub invariant-loop-place : goal.invariant-loop-place

@@ -1,11 +1,6 @@
 -- A period more, all of them, and one that doesn't balance.
-use Rattle.std.proofs.Common.{List, length, ap, ◌∙◌, sym, subst, take, arith, rules}
-use Rattle.std.proofs.lemmas.Int.{ints}
-use Rattle.std.proofs.lemmas.Option.{slice_get_read}
-use Rattle.dam_hour.specs.declared.step.Step.{Step}
-use Rattle.dam_blocks.specs.declared.problem.Block.{Block}
-use Rattle.dam_blocks.specs.Selection.{net_volume, accepted_value}
-use Rattle.dam_blocks.specs.Eligible.{ArePrices, welfare_from}
+use Rattle.dam_blocks.proofs.Common.{List, length, ap, ◌∙◌, sym, subst, take, arith, rules, ints, slice_get_read, Step, Block, net_volume, accepted_value}
+use Rattle.dam_blocks.proofs.Common.{ArePrices, welfare_from}
 use Rattle.dam_blocks.proofs.PeriodByPeriod.{period_read, periods_read, cleared_more, all_prices, all_welfare, first_unbalanced}
 use Rattle.dam_blocks.proofs.scoring.price_day.Goals as goal
 

@@ -1,6 +1,5 @@
 -- A period more.
-use Rattle.std.proofs.Common.{arith}
-use Rattle.std.proofs.lemmas.Int.{ints}
+use Rattle.dam_blocks.proofs.Common.{arith, ints}
 use Rattle.dam_blocks.proofs.RunningSums.{surplus_more}
 use Rattle.dam_blocks.proofs.surpluses.surplus.Goals as goal
 

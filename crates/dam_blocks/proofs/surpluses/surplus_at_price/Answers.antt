@@ -1,9 +1,6 @@
 -- The sign of a product in range.
-use Rattle.std.proofs.Common.{◌≡◌, ◌≤ℤ◌, ℤ, pos, neg_ℤ, ◌*ℤ◌, ◌-ℤ◌, to_z, of_z, w32, w64, ap, ap₂, ◌∙◌, sym, subst, arith}
-use Rattle.std.proofs.lemmas.Int.{ints}
-use Rattle.dam_hour.specs.Best.{signed}
-use Rattle.dam_book.specs.declared.order.Side.{Side}
-use Rattle.dam_blocks.specs.Magnitude.{IsWithin, greatest_gain}
+use Rattle.dam_blocks.proofs.Common.{◌≡◌, ◌≤ℤ◌, ℤ, pos, neg_ℤ, ◌*ℤ◌, ◌-ℤ◌, w64, ap, ap₂, ◌∙◌, sym, subst, arith, ints, signed, Side, IsWithin, greatest_gain}
+use Rattle.std.proofs.Common.{to_z, of_z, w32}
 use Rattle.dam_blocks.proofs.Magnitudes.{signed_within}
 use Rattle.dam_blocks.proofs.surpluses.surplus_at_price.Goals as goal
 

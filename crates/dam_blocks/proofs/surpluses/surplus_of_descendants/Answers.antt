@@ -1,9 +1,6 @@
 -- A block more.
-use Rattle.std.proofs.Common.{◌∙◌, sym, arith, rules}
-use Rattle.std.proofs.lemmas.Int.{ints}
+use Rattle.dam_blocks.proofs.Common.{◌∙◌, sym, arith, rules, ints, slice_get_read, surplus_of}
 use Rattle.std.proofs.lemmas.Bool.{and_from, and_left, and_right}
-use Rattle.std.proofs.lemmas.Option.{slice_get_read}
-use Rattle.dam_blocks.specs.Eligible.{surplus_of}
 use Rattle.dam_blocks.specs.Magnitude.{greatest_surplus}
 use Rattle.dam_blocks.proofs.RunningSums.{sum_more, sum_same}
 use Rattle.dam_blocks.proofs.Families.{accepts_descendant}

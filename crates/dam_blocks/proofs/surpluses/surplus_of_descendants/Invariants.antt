@@ -1,6 +1,5 @@
 -- The sum so far over the accepted descendants; each adds at most a greatest surplus.
-use Rattle.dam_blocks.specs.Family.{accepted_descendants}
-use Rattle.dam_blocks.specs.Eligible.{surplus_of}
+use Rattle.dam_blocks.proofs.Common.{accepted_descendants, surplus_of}
 use Rattle.dam_blocks.specs.Magnitude.{greatest_surplus}
 use Rattle.dam_blocks.proofs.RunningSums.{IsSumSoFar}
 use Rattle.dam_blocks.proofs.surpluses.surplus_of_descendants.Given as goal

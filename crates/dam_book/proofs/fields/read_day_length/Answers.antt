@@ -1,6 +1,5 @@
 -- Texts of different numbers differ, and a day's number of periods is small.
-use Rattle.std.proofs.Common.{◌≡◌, true, ℕ, arith}
-use Rattle.dam_book.specs.Book.{is_day}
+use Rattle.dam_book.proofs.Common.{arith, is_day, true, ℕ, ◌≡◌}
 use Rattle.dam_book.proofs.FieldTexts.{number_of}
 use Rattle.dam_book.proofs.fields.read_day_length.Goals as goal
 

@@ -1,6 +1,5 @@
 -- Texts of different numbers differ.
-use Rattle.std.proofs.Common.{arith}
-use Rattle.dam_book.specs.Period.{IsPeriod}
+use Rattle.dam_book.proofs.Common.{IsPeriod, arith}
 use Rattle.dam_book.proofs.FieldTexts.{number_of}
 use Rattle.dam_book.proofs.fields.read_period.Goals as goal
 

@@ -14,4 +14,4 @@ returns-then-has_leading_zero c = λ n small e.
     no_leading_zero _ n small c.if-has_leading_zero.ensures.0 c.if-has_leading_zero.ensures.1 e
 
 pub returns : goal.returns
-returns c = number_read _ _ (search rules) (search rules) c.if-has_leading_zero.ensures c.value_of.ensures
+returns c = number_read _ _ (search rules) (search rules) c.if-has_leading_zero.ensures c.value_of_digits.ensures

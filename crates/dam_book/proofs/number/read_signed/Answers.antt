@@ -1,6 +1,5 @@
 -- After a dash stands the text of a number above zero.
-use Rattle.std.proofs.Common.{arith, rules, sym, ◌∙◌, ◌≡◌, ◌∷◌}
-use Rattle.std.proofs.lemmas.Fmt.{decimal_injective}
+use Rattle.dam_book.proofs.Common.{arith, decimal_injective, rules, sym, ◌∙◌, ◌∷◌, ◌≡◌}
 use Rattle.dam_book.proofs.NumberTexts.{below_zero}
 use Rattle.dam_book.proofs.number.read_signed.Goals as goal
 

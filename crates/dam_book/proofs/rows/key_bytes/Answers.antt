@@ -1,7 +1,6 @@
 -- The first text, the second one and the zeros that are left lie one after another.
-use Rattle.std.proofs.Common.{rules, ◌≡◌, ◌++◌, length, replicate, ℕ, List, ap, ap₂, ◌∙◌}
+use Rattle.dam_book.proofs.Common.{List, ap, ap₂, drop_at, length, replicate, rules, take_at, ℕ, ◌++◌, ◌∙◌, ◌≡◌}
 use Rattle.std.proofs.Math.ListN.{drop}
-use Rattle.std.proofs.lemmas.List.{take_at, drop_at}
 use borrow.Rule.Slice.PartMut.{put_mid}
 use Rattle.dam_book.proofs.rows.key_bytes.Goals as goal
 

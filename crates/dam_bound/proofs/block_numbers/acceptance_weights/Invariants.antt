@@ -1,7 +1,6 @@
 -- The counts of the places so far.
-use Rattle.std.proofs.Common.{◌≡◌, ℕ, ◌<◌, ℤ, pos, cond, length, get_or}
-use Rattle.dam_book.specs.Limits.{most_blocks}
-use Rattle.dam_blocks.specs.Selection.{accepts}
+use Rattle.dam_bound.proofs.Common.{◌≡◌, ℕ, ◌<◌, ℤ, cond, length, get_or, most_blocks, accepts}
+use Rattle.std.proofs.Common.{pos}
 use Rattle.dam_bound.proofs.block_numbers.acceptance_weights.Given as goal
 
 abbrev pub invariant-loop-place : goal.invariant-loop-place

@@ -1,13 +1,9 @@
 -- A place more.
-use Rattle.std.proofs.Common.{◌≡◌, ◌*◌, ◌<◌, ℕ, pos, ℤ, ◌+ℤ◌, ◌*ℤ◌, List, length, get_or, slice_set, ap, ap₂, ◌∙◌, sym, inl, inr, arith}
-use Rattle.std.proofs.lemmas.Int.{ints, to_z-of_z}
-use Rattle.std.proofs.lemmas.Bool.{cases_eq}
-use Rattle.std.proofs.lemmas.List.{get_or-set_same, get_or-set_other, length-set}
+use Rattle.dam_bound.proofs.Common.{◌≡◌, ◌*◌, ◌<◌, ℕ, ℤ, ◌+ℤ◌, ◌*ℤ◌, List, length, get_or, slice_set, ap, ap₂, ◌∙◌, sym, inl, inr, arith, ints, to_z-of_z}
+use Rattle.dam_bound.proofs.Common.{cases_eq, get_or-set_same, get_or-set_other, length-set, greatest_volume, last_period, greatest_price, IsWithin}
+use Rattle.std.proofs.Common.{pos}
 use mir.Syntax.{w32}
 use mir.Val.{to_z, of_z}
-use Rattle.dam_book.specs.Limits.{greatest_volume, last_period}
-use Rattle.dam_hour.specs.Limits.{greatest_price}
-use Rattle.dam_blocks.specs.Magnitude.{IsWithin}
 use Rattle.dam_bound.proofs.PlaceSums.{gain_raised, get_or-any}
 use Rattle.dam_bound.proofs.block_numbers.add_priced_nets.Goals as goal
 

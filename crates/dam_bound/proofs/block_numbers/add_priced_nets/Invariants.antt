@@ -1,6 +1,5 @@
 -- The gains of the places so far are raised, and the others are as they were.
-use Rattle.std.proofs.Common.{◌≡◌, ℕ, ◌<◌, ◌≤◌, ℤ, ◌+ℤ◌, ◌*ℤ◌, length, get_or}
-use Rattle.dam_book.specs.Limits.{most_blocks}
+use Rattle.dam_bound.proofs.Common.{◌≡◌, ℕ, ◌<◌, ◌≤◌, ℤ, ◌+ℤ◌, ◌*ℤ◌, length, get_or, most_blocks}
 use Rattle.dam_bound.proofs.block_numbers.add_priced_nets.Given as goal
 
 abbrev pub invariant-loop-place : goal.invariant-loop-place

@@ -1,9 +1,8 @@
 -- A place more, and all of them.
-use Rattle.std.proofs.Common.{◌≡◌, suc, ◌+◌, ℕ, pos, drop, get_or, ap, arith}
-use Rattle.std.proofs.lemmas.Int.{ints}
+use Rattle.dam_bound.proofs.Common.{◌≡◌, suc, ◌+◌, ℕ, drop, get_or, ap, arith, ints, weighted_sum}
+use Rattle.std.proofs.Common.{pos}
 use mir.Syntax.{w32}
 use mir.Val.{to_z}
-use Rattle.dam_bound.specs.inside.BlockNumbers.{weighted_sum}
 use Rattle.dam_bound.proofs.PlaceSums.{weighted_from, weight_added}
 use Rattle.dam_bound.proofs.block_numbers.weighted_sum.Goals as goal
 

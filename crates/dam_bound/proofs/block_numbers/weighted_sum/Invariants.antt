@@ -1,8 +1,5 @@
 -- The places so far.
-use Rattle.std.proofs.Common.{◌≡◌, ◌*◌, ◌+ℤ◌, drop}
-use Rattle.dam_book.specs.Limits.{greatest_volume}
-use Rattle.dam_blocks.specs.Magnitude.{IsWithin}
-use Rattle.dam_bound.specs.inside.BlockNumbers.{weighted_sum}
+use Rattle.dam_bound.proofs.Common.{◌≡◌, ◌*◌, ◌+ℤ◌, drop, greatest_volume, IsWithin, weighted_sum}
 use Rattle.dam_bound.proofs.block_numbers.weighted_sum.Given as goal
 
 abbrev pub invariant-loop-place : goal.invariant-loop-place

@@ -1,11 +1,8 @@
 -- A period more, and all of them.
-use Rattle.std.proofs.Common.{◌≡◌, ◌≢◌, ◌+◌, ◌<◌, length, [], ◌∷◌, ◌++◌, slice_index_or, ap, ◌∙◌, sym, subst, refl, rules, arith}
-use Rattle.dam_book.specs.Limits.{most_blocks}
-use Rattle.dam_curve.specs.Curve.{CurvesState}
-use Rattle.dam_blocks.specs.Selection.{net_volume_of_block}
+use Rattle.dam_bound.proofs.Common.{◌≡◌, ◌≢◌, ◌+◌, ◌<◌, length, [], ◌∷◌, ◌++◌, slice_index_or, ap, ◌∙◌, sym, subst, refl, rules, arith, most_blocks}
+use Rattle.dam_bound.proofs.Common.{CurvesState, net_volume_of_block, at_places}
 use Rattle.dam_bound.specs.Classes.{first_of_class}
 use Rattle.dam_bound.specs.Relaxed.{without_rows}
-use Rattle.dam_bound.specs.Sums.{at_places}
 use Rattle.dam_bound.proofs.MakingClasses.{AreClassesSoFar, one_class, no_new_class, all_classes}
 use Rattle.dam_bound.proofs.class_making.add_class_curves.Goals as goal
 use Rattle.dam_bound.proofs.class_making.add_class_curves.Goals.{then-firsts-at+in_ok-curve+in_ok-push, else-firsts-at}

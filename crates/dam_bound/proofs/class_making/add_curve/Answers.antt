@@ -1,8 +1,7 @@
 -- A period more, and all of them.
-use Rattle.std.proofs.Common.{◌≡◌, ◌≢◌, ◌+◌, ◌-◌, ℕ, length, slice_index_or, ap, ◌∙◌, sym, subst, refl, rules, arith}
-use Rattle.std.specs.List.{slice_get}
+use Rattle.dam_bound.proofs.Common.{◌≡◌, ◌≢◌, ◌+◌, ◌-◌, ℕ, length, slice_index_or, ap, ◌∙◌, sym, subst, refl, rules, arith, slice_get, negative_sum}
 use Rattle.std.specs.Option.{option_copied}
-use Rattle.dam_bound.specs.inside.BlockNumbers.{negative_sum, positive_sum}
+use Rattle.dam_bound.specs.inside.BlockNumbers.{positive_sum}
 use Rattle.dam_bound.proofs.DayLevels.{one_at}
 use Rattle.dam_bound.proofs.Ranges.{day_small}
 use Rattle.dam_bound.proofs.MakingClasses.{orders_from, few_from, IsCurveFrom, curve_kept, curve_more}

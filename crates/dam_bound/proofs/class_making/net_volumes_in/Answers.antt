@@ -1,7 +1,5 @@
 -- A block more, and all of them.
-use Rattle.std.proofs.Common.{◌+◌, ◌∙◌, ap, rules}
-use Rattle.std.proofs.lemmas.Option.{slice_get_read}
-use Rattle.dam_blocks.specs.Selection.{net_volume_of_block}
+use Rattle.dam_bound.proofs.Common.{◌+◌, ◌∙◌, ap, rules, slice_get_read, net_volume_of_block}
 use Rattle.dam_bound.proofs.MakingClasses.{number_more, nets_within, net_fits}
 use Rattle.dam_bound.proofs.class_making.net_volumes_in.Goals as goal
 

@@ -1,8 +1,5 @@
 -- The net volumes of the blocks so far.
-use Rattle.std.proofs.Common.{◌≡◌, ◌+◌, take}
-use Rattle.dam_book.specs.Limits.{most_blocks}
-use Rattle.dam_blocks.specs.Selection.{net_volume_of_block}
-use Rattle.dam_bound.specs.Sums.{at_places}
+use Rattle.dam_bound.proofs.Common.{◌≡◌, ◌+◌, take, most_blocks, net_volume_of_block, at_places}
 use Rattle.dam_bound.proofs.class_making.net_volumes_in.Given as goal
 
 abbrev pub invariant-loop-place : goal.invariant-loop-place

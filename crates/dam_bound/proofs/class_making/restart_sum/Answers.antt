@@ -1,8 +1,6 @@
 -- A net volume more.
-use Rattle.std.proofs.Common.{◌∙◌, pos, ℤ, ◌+ℤ◌, get_or, ap, arith}
-use Rattle.std.specs.Int.{int_max, int_min}
-use Rattle.std.proofs.lemmas.Int.{ints, to_z-of_z}
-use Rattle.std.proofs.lemmas.Option.{slice_get-get_or}
+use Rattle.dam_bound.proofs.Common.{◌∙◌, ℤ, ◌+ℤ◌, get_or, ap, arith, int_max, int_min, ints, to_z-of_z, slice_get-get_or}
+use Rattle.std.proofs.Common.{pos}
 use mir.Syntax.{w32, w64}
 use mir.Val.{to_z}
 use Rattle.dam_bound.proofs.MakingClasses.{parts_of, range_more}

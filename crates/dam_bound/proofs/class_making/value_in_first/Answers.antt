@@ -1,9 +1,7 @@
 -- A period more.
-use Rattle.std.proofs.Common.{◌∙◌, ap, ℕ, arith}
-use Rattle.std.proofs.lemmas.Int.{ints}
+use Rattle.dam_bound.proofs.Common.{◌∙◌, ap, ℕ, arith, ints, value_in}
 use mir.Syntax.{w64}
 use mir.Val.{to_z}
-use Rattle.dam_blocks.specs.Selection.{value_in}
 use Rattle.dam_bound.proofs.MakingClasses.{value_more}
 use Rattle.dam_bound.proofs.Sizes.{added_to}
 use Rattle.dam_bound.proofs.class_making.value_in_first.Goals as goal

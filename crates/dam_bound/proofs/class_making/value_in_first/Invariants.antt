@@ -1,9 +1,5 @@
 -- The value in the periods so far.
-use Rattle.std.proofs.Common.{◌≡◌, suc, ◌-◌, ◌*◌, ◌+ℤ◌}
-use Rattle.dam_hour.specs.Limits.{greatest_value}
-use Rattle.dam_blocks.specs.Magnitude.{IsWithin}
-use Rattle.dam_blocks.specs.Selection.{value_in}
-use Rattle.dam_bound.specs.Sums.{over_periods}
+use Rattle.dam_bound.proofs.Common.{◌≡◌, suc, ◌-◌, ◌*◌, ◌+ℤ◌, greatest_value, IsWithin, value_in, over_periods}
 use Rattle.dam_bound.proofs.class_making.value_in_first.Given as goal
 
 abbrev pub invariant-loop-at : goal.invariant-loop-at

@@ -1,10 +1,7 @@
 -- A block more.
-use Rattle.std.proofs.Common.{◌≡◌, ◌∙◌, rules}
-use Rattle.std.proofs.lemmas.Option.{slice_get_read}
+use Rattle.dam_bound.proofs.Common.{◌≡◌, ◌∙◌, rules, slice_get_read, value_in, over_periods}
 use mir.Syntax.{w64}
 use mir.Val.{to_z, of_z}
-use Rattle.dam_blocks.specs.Selection.{value_in}
-use Rattle.dam_bound.specs.Sums.{over_periods}
 use Rattle.dam_bound.proofs.MakingClasses.{number_more}
 use Rattle.dam_bound.proofs.class_making.values_of.Goals as goal
 

@@ -1,8 +1,5 @@
 -- The values of the blocks so far.
-use Rattle.std.proofs.Common.{◌≡◌, take}
-use Rattle.dam_book.specs.Limits.{most_blocks}
-use Rattle.dam_blocks.specs.Selection.{value_in}
-use Rattle.dam_bound.specs.Sums.{at_places, over_periods}
+use Rattle.dam_bound.proofs.Common.{◌≡◌, take, most_blocks, value_in, at_places, over_periods}
 use Rattle.dam_bound.proofs.class_making.values_of.Given as goal
 
 abbrev pub invariant-loop-place : goal.invariant-loop-place

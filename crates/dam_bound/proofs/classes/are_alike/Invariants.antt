@@ -1,6 +1,5 @@
 -- The blocks so far are alike.
-use Rattle.std.proofs.Common.{◌≡◌, drop}
-use Rattle.dam_bound.specs.Classes.{are_alike}
+use Rattle.dam_bound.proofs.Common.{◌≡◌, drop, are_alike}
 use Rattle.dam_bound.proofs.classes.are_alike.Given as goal
 
 abbrev pub invariant-loop-block : goal.invariant-loop-block

@@ -1,6 +1,5 @@
 -- No place so far is alike.
-use Rattle.std.proofs.Common.{◌≡◌, ◌-◌}
-use Rattle.dam_bound.specs.Classes.{first_from}
+use Rattle.dam_bound.proofs.Common.{◌≡◌, ◌-◌, first_from}
 use Rattle.dam_bound.proofs.classes.first_of_class.Given as goal
 
 abbrev pub invariant-loop-other : goal.invariant-loop-other

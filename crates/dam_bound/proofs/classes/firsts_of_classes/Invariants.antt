@@ -1,6 +1,5 @@
 -- The first places of the periods so far.
-use Rattle.std.proofs.Common.{◌≡◌, ◌<◌, ℕ, length, slice_index_or}
-use Rattle.dam_book.specs.Limits.{last_period}
+use Rattle.dam_bound.proofs.Common.{◌≡◌, ◌<◌, ℕ, length, slice_index_or, last_period}
 use Rattle.dam_bound.specs.Classes.{first_of_class}
 use Rattle.dam_bound.proofs.classes.firsts_of_classes.Given as goal
 

@@ -1,8 +1,6 @@
 -- The ancestors so far.
-use Rattle.std.proofs.Common.{◌≡◌, ℕ, ◌&&◌, nat_lt, length}
-use Rattle.dam_book.specs.Limits.{most_blocks}
-use Rattle.dam_blocks.specs.Selection.{accepts}
-use Rattle.dam_blocks.specs.Family.{descends}
+use Rattle.dam_bound.proofs.Common.{◌≡◌, ℕ, ◌&&◌, length, most_blocks, accepts, descends}
+use Rattle.std.proofs.Common.{nat_lt}
 use Rattle.dam_bound.proofs.families.ancestors_of.Given as goal
 
 abbrev pub invariant-loop-at : goal.invariant-loop-at

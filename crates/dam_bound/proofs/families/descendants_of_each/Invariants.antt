@@ -1,7 +1,5 @@
 -- One for each block so far.
-use Rattle.std.proofs.Common.{◌≡◌, ℕ, Bool, Option, Some, List, length}
-use Rattle.std.specs.List.{slice_get}
-use Rattle.dam_bound.specs.inside.Families.{IsFamily}
+use Rattle.dam_bound.proofs.Common.{◌≡◌, ℕ, Bool, Option, Some, List, length, slice_get, IsFamily}
 use Rattle.dam_bound.proofs.families.descendants_of_each.Given as goal
 
 abbrev pub invariant-loop-place : goal.invariant-loop-place

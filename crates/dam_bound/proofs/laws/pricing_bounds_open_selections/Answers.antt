@@ -1,6 +1,5 @@
 -- The bound of a pricing, over the gains of an open selection.
-use Rattle.std.proofs.Common.{arith}
-use Rattle.std.proofs.lemmas.Int.{ints}
+use Rattle.dam_bound.proofs.Common.{arith, ints}
 use Rattle.dam_bound.proofs.Opening.{open_gains}
 use Rattle.dam_bound.proofs.laws.pricing_bounds_open_selections.Goals as goal
 

@@ -1,6 +1,5 @@
 -- The volume of an accepted block, and none of a rejected one, is an execution of the block as a step.
-use Rattle.std.proofs.Common.{◌∙◌, ap, sym}
-use Rattle.dam_blocks.specs.Eligible.{welfare_from}
+use Rattle.dam_bound.proofs.Common.{◌∙◌, ap, sym, welfare_from}
 use Rattle.dam_bound.proofs.Covering.{none_of_none, completed_from}
 use Rattle.dam_bound.proofs.laws.relaxed_welfare_bounds_completions.Goals as goal
 

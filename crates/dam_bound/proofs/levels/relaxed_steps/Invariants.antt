@@ -1,6 +1,5 @@
 -- The steps so far, and the blocks that are left.
-use Rattle.std.proofs.Common.{◌≡◌, ◌++◌, drop}
-use Rattle.dam_bound.specs.Relaxed.{as_steps}
+use Rattle.dam_bound.proofs.Common.{◌≡◌, ◌++◌, drop, as_steps}
 use Rattle.dam_bound.proofs.levels.relaxed_steps.Given as goal
 
 abbrev pub invariant-loop-block : goal.invariant-loop-block

@@ -1,6 +1,5 @@
 -- The period at the place has its steps.
-use Rattle.std.proofs.Common.{◌≡◌, ◌-◌, ap, ◌∙◌, sym, arith}
-use Rattle.std.specs.List.{slice_get}
+use Rattle.dam_bound.proofs.Common.{◌≡◌, ◌-◌, ap, ◌∙◌, sym, arith, slice_get}
 use Rattle.std.specs.Option.{option_copied}
 use Rattle.dam_book.specs.Limits.{most_hourly}
 use Rattle.dam_bound.proofs.DayLevels.{few_in_period, made_at}

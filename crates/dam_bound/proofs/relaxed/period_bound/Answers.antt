@@ -1,6 +1,5 @@
 -- The hour at the depth has the period's steps, and after them the undecided blocks.
-use Rattle.std.proofs.Common.{arith, rules}
-use Rattle.std.proofs.lemmas.Int.{ints}
+use Rattle.dam_bound.proofs.Common.{arith, rules, ints}
 use Rattle.dam_bound.proofs.Bounding.{cleared_period}
 use Rattle.dam_bound.proofs.relaxed.period_bound.Goals as goal
 

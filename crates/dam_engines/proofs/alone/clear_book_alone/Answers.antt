@@ -14,12 +14,12 @@ returns-clause-done c =
     let best = c.in_ok-best.best in
     let problem = c.in_ok-problem.problem in
     let uncut : min 0 (length problem.blocks) ≡ 0 = omega arith in
-    let needed : PlanHasNeeded (terms_alone c.args.nodes) problem = record {
+    let needed : PlanHasNeeded (terms_alone c.args.node_limit) problem = record {
       selection = best.selection;
       welfare = best.welfare;
       best = c.in_ok-best.ensures.0;
-      needed = subst (λ (depth : ℕ). LimitHasNeeded problem depth c.args.nodes best.welfare) (sym uncut) c.in_ok-best.ensures.1;
+      needed = subst (λ (depth : ℕ). LimitHasNeeded problem depth c.args.node_limit best.welfare) (sym uncut) c.in_ok-best.ensures.1;
     } in (
       (found.welfare, found.periods.items, found.rows.items, clearing, c.in_ok-results_text.ensures),
-      subst (λ (problem : ProblemState). PlanHasNeeded (terms_alone c.args.nodes) problem) made.1 needed,
+      subst (λ (problem : ProblemState). PlanHasNeeded (terms_alone c.args.node_limit) problem) made.1 needed,
     )

@@ -13,7 +13,7 @@ returns-in_err-best-clause-fault g c =
     let made = c.in_ok-problem.ensures.ok in
     let plan = c.args.plan in let fault = c.in_err-best.field-0.0 in
     rw (p.1, p.2) (search_fault-book plan c.args.book.now fault made.0
-    (subst (λ (problem : ProblemState). IsSearched problem (min plan.cut (length problem.blocks)) plan.nodes (Err fault)) made.1
+    (subst (λ (problem : ProblemState). IsSearched problem (min plan.cut (length problem.blocks)) plan.node_limit (Err fault)) made.1
     c.in_err-best.ensures))
 
 pub returns-clause-done : goal.returns-clause-done

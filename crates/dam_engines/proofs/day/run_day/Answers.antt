@@ -14,20 +14,20 @@ use Rattle.dam_engines.proofs.day.run_day.Goals as goal
 pub returns-in_err-text-clause-ends : goal.returns-in_err-text-clause-ends
 returns-in_err-text-clause-ends g c =
     let p = err_from_is_err_and c.from_residual.result c.from_residual.ensures.1 in
-    rw (p.1, p.2) (known-unread (IsMadeFrom (IsDayText c.args.plan)) (IsRunFault (IsCommandsFault c.args.plan)) _ _ _ _ _
+    rw (p.1, p.2) (known-unread (IsMadeFrom (IsDayText c.args.plan.now.search)) (IsRunFault (IsCommandsFault c.args.plan.now.search)) _ _ _ _ _
     (λ given. tt) c.in_err-text.ensures.fault)
 
 pub returns-in_err-day-clause-ends : goal.returns-in_err-day-clause-ends
 returns-in_err-day-clause-ends g c =
     let p = err_from_is_err_and c.from_residual-in_err-day.result c.from_residual-in_err-day.ensures.1 in
     let fault = c.in_err-day.ensures.fault in
-    rw (p.1, p.2) (known-fault (IsMadeFrom (IsDayText c.args.plan)) (IsRunFault (IsCommandsFault c.args.plan)) _ _ _ _ _ _ (λ given written is. is.3)
-    (run_fault-given (IsCommandsFault c.args.plan)) c.in_ok-text.ensures.text fault)
+    rw (p.1, p.2) (known-fault (IsMadeFrom (IsDayText c.args.plan.now.search)) (IsRunFault (IsCommandsFault c.args.plan.now.search)) _ _ _ _ _ _ (λ given written is. is.3)
+    (run_fault-given (IsCommandsFault c.args.plan.now.search)) c.in_ok-text.ensures.text fault)
 
 pub returns-clause-ends : goal.returns-clause-ends
 returns-clause-ends g c =
     let done = c.in_ok-day.ensures.done in
-    known-written (IsDayText c.args.plan) (IsRunFault (IsCommandsFault c.args.plan)) _ _ _ _ _ _ _ _ c.in_ok-text.ensures.text c.as_slice.ensures.value
+    known-written (IsDayText c.args.plan.now.search) (IsRunFault (IsCommandsFault c.args.plan.now.search)) _ _ _ _ _ _ _ _ c.in_ok-text.ensures.text c.as_slice.ensures.value
     c.write_text.ensures.done c.write_text.ensures.fault (asked-within _ _ _ c.write_text.ensures.asked) done
 
 pub returns-in_err-text-clause-devices : goal.returns-in_err-text-clause-devices
@@ -42,7 +42,7 @@ returns-in_err-text-clause-devices g c =
 pub returns-in_err-day-clause-devices : goal.returns-in_err-day-clause-devices
 returns-in_err-day-clause-devices g c =
     let p = err_from_is_err_and c.from_residual-in_err-day.result c.from_residual-in_err-day.ensures.1 in
-    rw (p.1, p.2) (neither-failed (IsRunFault (IsCommandsFault c.args.plan) _) c.args.reader.now c.read_input.new.reader c.args.writer.now
+    rw (p.1, p.2) (neither-failed (IsRunFault (IsCommandsFault c.args.plan.now.search) _) c.args.reader.now c.read_input.new.reader c.args.writer.now
     (λ is. is.3) (λ written is. is.3) c.in_ok-text.ensures.cause c.requires.writes _ c.in_err-day.ensures.fault)
 
 pub returns-clause-devices : goal.returns-clause-devices

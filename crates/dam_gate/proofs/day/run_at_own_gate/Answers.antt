@@ -37,11 +37,11 @@ returns-clause-day g c =
     let ps = accounts ks in
     let settled = c.in_ok-settled.settled in
     let same : settled ≡ j = c.in_ok-settled.ensures.journal in
-    let periods : j.book.periods ≡ c.args.periods =
-    c.into_audited_journal-journal.ensures.day ∙ (sym (ap (λ (o : OpeningState). o.periods) c.requires.name) ∙ c.requires.day) in
+    let periods : j.book.periods ≡ c.args.start.periods =
+    c.into_audited_journal-journal.ensures.day ∙ (sym (ap (λ (o : OpeningState). o.periods) c.requires.name) ∙ c.args.start.same_day) in
     let legal = subst (λ (n : ℕ). IsLegalHistory n j.entries) periods c.into_audited_journal-journal.ensures.valid.history.legal in
     let all : passes ≡ ps ++ op ∷ [] = c.in_ok-accounts.ensures.accounts in
-    let run = day_run c.args.periods given participants j.entries ps op day.before legal
+    let run = day_run c.args.start.periods given participants j.entries ps op day.before legal
     (subst (λ (xs : List AccountState). AreReceipts j.entries (receipts_of xs)) all day.are) c.requires.givers c.in_ok-passes.ensures.ok
     day.closes closed.pass day.last in
     rw same (record {

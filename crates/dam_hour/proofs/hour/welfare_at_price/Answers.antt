@@ -1,13 +1,10 @@
 -- A price times a net volume fits.
-use Rattle.std.proofs.Common.{◌≡◌, ◌<◌, ◌≤◌, ◌^◌, ℤ, ◌*ℤ◌, ap₂, arith}
+use Rattle.dam_hour.proofs.Common.{◌≡◌, ◌<◌, ◌≤◌, ℤ, ◌*ℤ◌, ap₂, arith, ints, to_z-of_z, mul-le, w64, to_z, of_z, greatest_price, IsPrice}
+use Rattle.std.proofs.Common.{◌^◌}
 use Rattle.std.specs.Int.RustNames.{unsigned_abs}
-use Rattle.std.proofs.lemmas.Int.{ints, to_z-of_z, unsigned_abs-mul}
-use Rattle.std.proofs.lemmas.Nat.{mul-le}
-use mir.Syntax.{w64}
-use mir.Val.{to_z, of_z}
-use Rattle.dam_hour.specs.Limits.{greatest_net, greatest_price}
+use Rattle.std.proofs.lemmas.Int.{unsigned_abs-mul}
+use Rattle.dam_hour.specs.Limits.{greatest_net}
 use Rattle.dam_hour.specs.Execution.{IsNetVolume}
-use Rattle.dam_book.specs.Price.{IsPrice}
 use Rattle.dam_hour.proofs.hour.welfare_at_price.Goals as goal
 
 -- a price times a net volume is below 2 ^ 50

@@ -19,5 +19,5 @@ returns-in_err-check_no_order c =
     let who = rw c.in_ok-who.ensures.ok_part at c.new.ensures in
     let name = rw c.in_ok-name.ensures.ok_part at c.new-2.ensures in
     let broken = c.in_err-check_no_order.ensures in
-    stops cancel_rules c.args.row.now _ _ (suc (suc (suc (suc broken.0)))) _ c.from_residual-in_err-check_no_order.ensures.1
+    stops cancel_rules c.args.fields.now _ _ (suc (suc (suc (suc broken.0)))) _ c.from_residual-in_err-check_no_order.ensures.1
     (omega (arith, broken.1)) (is_word (codes "cancel") _ c.requires, (who.0, (name.0, broken.2)))

@@ -15,12 +15,12 @@ returns c =
 pub returns-in_err-check_empty : goal.returns-in_err-check_empty
 returns-in_err-check_empty c =
     let periods = rw c.in_ok-periods.ensures.ok_part at c.read_day_length.ensures in
-    day_stops c.args.row.now _ 3 _ c.from_residual-in_err-check_empty.ensures.1 c.in_err-check_empty.ensures.0
+    day_stops c.args.fields.now _ 3 _ c.from_residual-in_err-check_empty.ensures.1 c.in_err-check_empty.ensures.0
     (is_word (codes "day") _ c.requires, ((_, periods.0, periods.1), c.in_err-check_empty.ensures.1))
 
 pub returns-in_err-check_no_order : goal.returns-in_err-check_no_order
 returns-in_err-check_no_order c =
     let periods = rw c.in_ok-periods.ensures.ok_part at c.read_day_length.ensures in
     let broken = c.in_err-check_no_order.ensures in
-    day_stops c.args.row.now _ (suc (suc (suc (suc broken.0)))) _ c.from_residual-in_err-check_no_order.ensures.1 (omega (arith, broken.1))
+    day_stops c.args.fields.now _ (suc (suc (suc (suc broken.0)))) _ c.from_residual-in_err-check_no_order.ensures.1 (omega (arith, broken.1))
     (is_word (codes "day") _ c.requires, ((_, periods.0, periods.1), (c.in_ok-check_empty.ensures, broken.2)))

@@ -33,7 +33,7 @@ returns-in_err-check_no_family c =
     let price = rw c.in_ok-price.ensures.ok_part at c.read_price.ensures in
     let volume = rw c.in_ok-period.ensures.ok_part at c.read_one_pair.ensures in
     let broken = c.in_err-check_no_family.ensures in
-    stops (submit_of hour_rules) c.args.row.now _ _
+    stops (submit_of hour_rules) c.args.fields.now _ _
     (suc (suc (suc (suc (suc (suc (suc (suc broken.0)))))))) _ c.from_residual-in_err-check_no_family.ensures.1
     (omega (arith, broken.1)) (
       is_word (codes "submit") _ c.requires.kind,

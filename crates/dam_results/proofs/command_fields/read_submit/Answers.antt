@@ -7,10 +7,10 @@ use Rattle.dam_results.proofs.command_fields.read_submit.Goals as goal
 
 pub returns-in-hour : goal.returns-in-hour
 returns-in-hour c =
-    let form : c.args.row.now.form.now ≡ codes "hour" = grind (arith, common_steps) in
-    other_fault c.read_hourly_order.result _ _ _ (λ (n : ℕ). hour_broken (fields_in c.args.row.now) n form) c.read_hourly_order.ensures
+    let form : c.args.fields.now.form.now ≡ codes "hour" = grind (arith, common_steps) in
+    other_fault c.read_hourly_order.result _ _ _ (λ (n : ℕ). hour_broken (fields_in c.args.fields.now) n form) c.read_hourly_order.ensures
 
 pub returns-in-block : goal.returns-in-block
 returns-in-block c =
-    let form : c.args.row.now.form.now ≡ codes "block" = grind (arith, common_steps) in
-    other_fault c.read_block.result _ _ _ (λ (n : ℕ). block_broken (fields_in c.args.row.now) n form) c.read_block.ensures
+    let form : c.args.fields.now.form.now ≡ codes "block" = grind (arith, common_steps) in
+    other_fault c.read_block.result _ _ _ (λ (n : ℕ). block_broken (fields_in c.args.fields.now) n form) c.read_block.ensures

@@ -34,4 +34,4 @@ loop-place-preserved g c =
     text_more (day_line (length c.args.results.now.periods.items))
     (welfare_line c.args.results.now.welfare) c.loop-place.place _ c.args.results.now.periods.items c.period-item.result
     c.loop-place.text.items _
-    (omega arith) (search rules) refl c.in_ok-write_period.ensures c.loop-place.invariant
+    (omega arith) (search rules) refl c.in_ok-append_period.ensures c.loop-place.invariant

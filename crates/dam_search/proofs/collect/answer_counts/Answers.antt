@@ -1,8 +1,6 @@
 -- One answer more.
-use Rattle.std.proofs.Common.{◌<◌, sym, subst}
+use Rattle.dam_search.proofs.Common.{◌<◌, sym, subst, PieceAnswer, most_pieces}
 use Rattle.std.proofs.lemmas.List.Elements.{All-get_or}
-use Rattle.dam_search.specs.declared.answer.PieceAnswer.{PieceAnswer}
-use Rattle.dam_search.specs.Words.{most_pieces}
 use Rattle.dam_search.proofs.Answers.{none_counted, counts_step}
 use Rattle.dam_search.proofs.collect.answer_counts.Goals as goal
 

@@ -1,7 +1,5 @@
 -- One piece more has one answer.
-use Rattle.std.proofs.Common.{◌≡◌, ℕ, ◌<◌, below_more, ◌∙◌, sym, arith}
-use Rattle.dam_search.specs.Words.{most_pieces}
-use Rattle.dam_search.specs.inside.Collect.{answers_about}
+use Rattle.dam_search.proofs.Common.{◌≡◌, ℕ, ◌<◌, below_more, ◌∙◌, sym, arith, most_pieces, answers_about}
 use Rattle.dam_search.proofs.collect.first_faulty.Goals as goal
 
 pub loop-piece-preserved : goal.loop-piece-preserved

@@ -1,6 +1,5 @@
 -- Each piece before has one answer.
-use Rattle.std.proofs.Common.{◌≡◌, ℕ, ◌<◌}
-use Rattle.dam_search.specs.inside.Collect.{answers_about}
+use Rattle.dam_search.proofs.Common.{◌≡◌, ℕ, ◌<◌, answers_about}
 use Rattle.dam_search.proofs.collect.first_faulty.Given as goal
 
 abbrev pub invariant-loop-piece : goal.invariant-loop-piece

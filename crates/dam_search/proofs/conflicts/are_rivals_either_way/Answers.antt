@@ -4,6 +4,6 @@ use Rattle.dam_search.proofs.RulingOut.{not_true}
 use Rattle.dam_search.proofs.conflicts.are_rivals_either_way.Goals as goal
 
 pub returns-else-are_rivals : goal.returns-else-are_rivals
-returns-else-are_rivals g c e selection w eligible on =
-    not_true (accepts selection c.args.at)
-    (λ both. (let off = c.are_rivals-else-are_rivals.ensures e selection w eligible both in cc))
+returns-else-are_rivals g c e selection welfare eligible on =
+    not_true (accepts selection c.args.other)
+    (λ both. (let off = c.are_rivals-else-are_rivals.ensures e selection welfare eligible both in cc))

@@ -1,7 +1,5 @@
 -- Conclusive answers give the result, from the laws of the crate below.
-use Rattle.std.proofs.Common.{max}
-use Rattle.dam_blocks.specs.Problem.{ProblemState, IsProblem}
-use Rattle.dam_search.specs.Answer.{IsReached, greatest_found}
+use Rattle.dam_search.proofs.Common.{max, ProblemState, IsProblem, IsReached, greatest_found}
 use Rattle.dam_search.proofs.Collecting.{collected, some_found, reached_zero, reached_greater, reached_greatest, all_reached}
 use Rattle.dam_search.proofs.laws.conclusive_answers_give_result.Goals as goal
 

@@ -1,6 +1,5 @@
 -- Of the places so far, those that the selection rejects.
-use Rattle.std.proofs.Common.{not}
-use Rattle.dam_blocks.specs.Selection.{accepts}
+use Rattle.dam_search.proofs.Common.{not, accepts}
 use Rattle.dam_search.proofs.Sets.{IsSetSoFar}
 use Rattle.dam_search.proofs.price_walk.rejected_under.Given as goal
 

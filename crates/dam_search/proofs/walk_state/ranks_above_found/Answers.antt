@@ -1,8 +1,6 @@
 -- Of two selections the first ranks above the second, or at or below it.
-use Rattle.std.proofs.Common.{pos, Bool, true, false, Option, Some, MatchBool, sym, subst}
-use Rattle.dam_blocks.specs.declared.selection.Solution.{Solution}
-use Rattle.dam_blocks.specs.Result.{RanksAbove, RanksAtOrBelow}
-use Rattle.dam_search.specs.Piece.{IsMatched, Rises}
+use Rattle.dam_search.proofs.Common.{pos, Bool, true, false, Option, Some, MatchBool, sym, subst, Solution, RanksAtOrBelow, IsMatched, Rises}
+use Rattle.dam_blocks.specs.Result.{RanksAbove}
 use Rattle.dam_search.proofs.Ranks.{above_below}
 use Rattle.dam_search.proofs.walk_state.ranks_above_found.Goals as goal
 

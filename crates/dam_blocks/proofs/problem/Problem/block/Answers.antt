@@ -1,8 +1,6 @@
 -- A problem's blocks are within their limits.
-use Rattle.std.proofs.Common.{◌≡◌, Some, length, ap, sym, ◌∙◌, slice_get, rules, arith, List}
-use Rattle.std.proofs.lemmas.Grind.{common_steps}
-use Rattle.std.proofs.lemmas.Option.{gets}
-use Rattle.dam_blocks.specs.declared.problem.Block.{Block}
+use Rattle.dam_blocks.proofs.Common.{◌≡◌, Some, length, ap, sym, ◌∙◌, rules, arith, List, common_steps, gets, Block}
+use Rattle.std.proofs.Common.{slice_get}
 use Rattle.dam_blocks.proofs.Readers.{block_is}
 use Rattle.dam_blocks.proofs.problem.Problem.block.Goals as goal
 

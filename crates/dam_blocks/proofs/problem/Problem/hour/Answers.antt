@@ -1,8 +1,6 @@
 -- A problem's hours are in range, and few enough.
-use Rattle.std.proofs.Common.{◌≡◌, ◌-◌, Some, ap, sym, ◌∙◌, slice_get, arith, List}
-use Rattle.std.proofs.lemmas.Grind.{common_steps}
-use Rattle.std.proofs.lemmas.Option.{gets}
-use Rattle.dam_hour.specs.declared.step.Step.{Step}
+use Rattle.dam_blocks.proofs.Common.{◌≡◌, ◌-◌, Some, ap, sym, ◌∙◌, arith, List, common_steps, gets, Step}
+use Rattle.std.proofs.Common.{slice_get}
 use Rattle.dam_blocks.proofs.Readers.{hour_is}
 use Rattle.dam_blocks.proofs.problem.Problem.hour.Goals as goal
 

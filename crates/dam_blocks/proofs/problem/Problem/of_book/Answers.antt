@@ -1,7 +1,5 @@
 -- The book invariant, carried over to the problem of the book.
-use Rattle.std.proofs.Common.{Vec, List, length, map, ap, sym, ◌∙◌, subst, rules, arith}
-use Rattle.dam_hour.specs.declared.step.Step.{Step}
-use Rattle.dam_blocks.specs.declared.problem.Block.{Block}
+use Rattle.dam_blocks.proofs.Common.{Vec, List, length, map, ap, sym, ◌∙◌, subst, rules, arith, Step, Block}
 use Rattle.dam_blocks.specs.inside.Hindrances.{AreAllHindrances}
 use Rattle.dam_blocks.proofs.FromBook.{length-hours_from, problem_made, problem_kept, few_blocks}
 use Rattle.dam_blocks.proofs.RowByRow.{few_in_periods}

@@ -1,10 +1,7 @@
 -- The bit of the place's weight says whether it is accepted.
-use Rattle.std.proofs.Common.{◌≡◌, ℕ, ◌==◌, false, List, Bool, length, ap, ◌∙◌, sym, arith}
-use Rattle.std.proofs.lemmas.Bool.Decides.{nat_tests}
+use Rattle.dam_blocks.proofs.Common.{◌≡◌, ℕ, ◌==◌, false, List, Bool, length, ap, ◌∙◌, sym, arith, nat_tests, most_blocks, accepts}
 use Rattle.std.proofs.lemmas.List.{get_or_past}
 use Rattle.std.proofs.lemmas.Nat.Bits.{shr_and_one}
-use Rattle.dam_book.specs.Limits.{most_blocks}
-use Rattle.dam_blocks.specs.Selection.{accepts}
 use Rattle.dam_blocks.proofs.Bits.{length-flags, accepts-flags}
 use Rattle.dam_blocks.proofs.selection.Selection.has.Goals as goal
 

@@ -1,9 +1,7 @@
 -- One bit is reversed.
-use Rattle.std.proofs.Common.{◌≡◌, ℕ, ◌*◌, ◌%◌, ◌^◌, ◌<◌, not, List, Bool, slice_set, ap, ◌∙◌, sym, subst, arith}
+use Rattle.dam_blocks.proofs.Common.{◌≡◌, ℕ, ◌*◌, ◌%◌, ◌^◌, ◌<◌, not, List, Bool, slice_set, ap, ◌∙◌, sym, subst, arith, most_blocks, accepts}
 use Rattle.std.specs.Int.RustNames.{bit_xor}
 use Rattle.std.proofs.lemmas.Nat.{one_shl}
-use Rattle.dam_book.specs.Limits.{most_blocks}
-use Rattle.dam_blocks.specs.Selection.{accepts}
 use Rattle.dam_blocks.specs.inside.Bits.{flags}
 use Rattle.dam_blocks.proofs.Bits.{flags-turned, turned_small}
 use Rattle.dam_blocks.proofs.selection.Selection.reversed.Goals as goal

@@ -1,6 +1,5 @@
 -- There are as many bits as places.
-use Rattle.std.proofs.Common.{List, Bool, length, ap, ◌∙◌, sym}
-use Rattle.dam_book.specs.Limits.{most_blocks}
+use Rattle.dam_blocks.proofs.Common.{List, Bool, length, ap, ◌∙◌, sym, most_blocks}
 use Rattle.dam_blocks.proofs.Bits.{length-flags}
 use Rattle.dam_blocks.proofs.selection.Selection.use_invariant.Goals as goal
 

@@ -1,8 +1,7 @@
 -- One bit more is 1.
-use Rattle.std.proofs.Common.{◌≡◌, ℕ, ◌*◌, ◌%◌, ◌^◌, ◌<◌, true, List, Bool, slice_set, ap, ◌∙◌, sym, subst, arith}
+use Rattle.dam_blocks.proofs.Common.{◌≡◌, ℕ, ◌*◌, ◌%◌, ◌^◌, ◌<◌, true, List, Bool, slice_set, ap, ◌∙◌, sym, subst, arith, most_blocks}
 use Rattle.std.specs.Int.RustNames.{bit_or}
 use Rattle.std.proofs.lemmas.Nat.{one_shl}
-use Rattle.dam_book.specs.Limits.{most_blocks}
 use Rattle.dam_blocks.specs.inside.Bits.{flags}
 use Rattle.dam_blocks.proofs.Bits.{flags-set, set_small}
 use Rattle.dam_blocks.proofs.selection.Selection.with.Goals as goal

@@ -1,7 +1,6 @@
 -- If the two gain less than 0 together, one of them loses.
-use Rattle.std.proofs.Common.{to_z, of_z, w64, subst, refl, rules}
-use Rattle.dam_blocks.specs.Problem.{ProblemState}
-use Rattle.dam_bound.specs.ClassCurves.{AreClassCurves}
+use Rattle.dam_bound.proofs.Common.{subst, refl, rules, ProblemState, AreClassCurves}
+use Rattle.std.proofs.Common.{to_z, of_z, w64}
 use Rattle.dam_bound.proofs.Members.{family_read}
 use Rattle.dam_bound.proofs.Rivalry.{one_loses, lone, under_zero}
 use Rattle.dam_bound.proofs.class_curves.ClassCurves.are_rivals.Goals as goal

@@ -1,8 +1,6 @@
 -- Volumes of the two blocks in a class.
-use Rattle.std.proofs.Common.{pos, [], to_z, of_z, w64, subst, arith}
-use Rattle.dam_blocks.specs.Problem.{ProblemState}
-use Rattle.dam_bound.specs.ClassCurves.{AreClassCurves}
-use Rattle.dam_bound.specs.declared.class_curves.Class.{Class}
+use Rattle.dam_bound.proofs.Common.{[], subst, arith, ProblemState, AreClassCurves, Class}
+use Rattle.std.proofs.Common.{pos, to_z, of_z, w64}
 use Rattle.dam_bound.proofs.LineByLine.{own_class}
 use Rattle.dam_bound.proofs.Rivalry.{net_held, are_volumes}
 use Rattle.dam_bound.proofs.class_curves.ClassCurves.cancelling_weights.Goals as goal

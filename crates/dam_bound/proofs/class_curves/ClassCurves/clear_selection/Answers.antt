@@ -1,20 +1,13 @@
 -- A class less, and all of them; and their prices.
-use Rattle.std.proofs.Common.{◌≡◌, ◌+◌, ◌*◌, ℤ, pos, ◌+ℤ◌, [], List, length, get_or, slice_set, ap, ◌∙◌, sym, subst, rules, arith}
+use Rattle.dam_bound.proofs.Common.{◌≡◌, ◌+◌, ◌*◌, ℤ, ◌+ℤ◌, [], List, length, get_or, slice_set, ap, ◌∙◌, sym, subst, rules, arith, ints, to_z-of_z}
+use Rattle.dam_bound.proofs.Common.{joint_welfare, line_value, last_period, greatest_price, IsWithin, ProblemState, class_orders, AreClassCurves, line_in}
+use Rattle.dam_bound.proofs.Common.{over_gains, Class}
+use Rattle.std.proofs.Common.{pos}
 use Rattle.std.specs.Option.{option_map}
-use Rattle.std.proofs.lemmas.Int.{ints, to_z-of_z}
 use mir.Syntax.{w64}
 use mir.Val.{to_z, of_z}
-use Rattle.dam_curve.specs.Curve.{joint_welfare}
 use Rattle.dam_curve.specs.JointPrice.{IsJointPrice}
-use Rattle.dam_curve.specs.Line.{line_value}
 use Rattle.dam_curve.specs.declared.point.Point.{Point}
-use Rattle.dam_book.specs.Limits.{last_period}
-use Rattle.dam_hour.specs.Limits.{greatest_price}
-use Rattle.dam_blocks.specs.Magnitude.{IsWithin}
-use Rattle.dam_blocks.specs.Problem.{ProblemState}
-use Rattle.dam_bound.specs.ClassCurves.{class_orders, AreClassCurves}
-use Rattle.dam_bound.specs.Prices.{line_in, over_gains}
-use Rattle.dam_bound.specs.declared.class_curves.Class.{Class}
 use Rattle.dam_bound.specs.inside.BlockNumbers.{greatest_line_value}
 use Rattle.dam_bound.proofs.ClassPricing.{ArePricedSoFar, no_price, price_more, all_priced}
 use Rattle.dam_bound.proofs.LineByLine.{own_class, as_many}

@@ -1,10 +1,7 @@
 -- The block alone, a member more, and all of them.
-use Rattle.std.proofs.Common.{◌≡◌, ◌<◌, ℤ, ◌+ℤ◌, ap, ◌∙◌, length, refl, sym, subst, to_z, of_z, w64, rules, arith}
-use Rattle.std.proofs.lemmas.Int.{ints, to_z-of_z}
-use Rattle.std.proofs.lemmas.List.{drop_all}
-use Rattle.dam_blocks.specs.Problem.{ProblemState}
-use Rattle.dam_bound.specs.ClassCurves.{AreClassCurves}
-use Rattle.dam_bound.specs.inside.Families.{IsFamily}
+use Rattle.dam_bound.proofs.Common.{◌≡◌, ◌<◌, ℤ, ◌+ℤ◌, ap, ◌∙◌, length, refl, sym, subst, rules, arith, ints, to_z-of_z, drop_all, ProblemState, AreClassCurves}
+use Rattle.dam_bound.proofs.Common.{IsFamily}
+use Rattle.std.proofs.Common.{to_z, of_z, w64}
 use Rattle.dam_bound.proofs.ClassPricing.{IsFamilySum, own_sum, member_sum, whole_sum, lone_sum}
 use Rattle.dam_bound.proofs.Members.{family_read}
 use Rattle.dam_bound.proofs.class_curves.ClassCurves.family_gain.Goals as goal

@@ -1,11 +1,7 @@
 -- A class more, and all of them.
-use Rattle.std.proofs.Common.{◌≡◌, ◌+◌, ◌<◌, ℤ, pos, [], List, length, get_or, to_z, of_z, w32, w64, ap, ◌∙◌, refl, subst, arith}
-use Rattle.std.proofs.lemmas.Int.{ints, to_z-of_z}
-use Rattle.dam_book.specs.Limits.{most_blocks, greatest_volume}
-use Rattle.dam_blocks.specs.Magnitude.{IsWithin}
-use Rattle.dam_blocks.specs.Problem.{ProblemState}
-use Rattle.dam_bound.specs.ClassCurves.{AreClassCurves}
-use Rattle.dam_bound.specs.declared.class_curves.Class.{Class}
+use Rattle.dam_bound.proofs.Common.{◌≡◌, ◌+◌, ◌<◌, ℤ, [], List, length, get_or, ap, ◌∙◌, refl, subst, arith, ints, to_z-of_z, most_blocks, greatest_volume}
+use Rattle.dam_bound.proofs.Common.{IsWithin, ProblemState, AreClassCurves, Class}
+use Rattle.std.proofs.Common.{pos, to_z, of_z, w32, w64}
 use Rattle.dam_bound.proofs.ClassPlaces.{few_places}
 use Rattle.dam_bound.proofs.ClassPricing.{first_gain, gain_next, gain_small, whole_gain}
 use Rattle.dam_bound.proofs.LineByLine.{own_class, as_many}

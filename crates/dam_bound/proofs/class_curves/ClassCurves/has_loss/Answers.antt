@@ -1,14 +1,10 @@
 -- A block more, and all of them.
-use Rattle.std.proofs.Common.{◌≡◌, ℕ, pos, ◌≤ℤ◌, length, inl, inr, ap, ◌∙◌, sym, subst, refl, rules, arith}
-use Rattle.std.proofs.lemmas.Int.{ints}
-use Rattle.std.proofs.lemmas.Bool.{cases_lt}
-use Rattle.dam_blocks.specs.Problem.{ProblemState}
-use Rattle.dam_blocks.specs.Selection.{accepts}
-use Rattle.dam_blocks.specs.Eligible.{family_surplus}
-use Rattle.dam_bound.specs.ClassCurves.{AreClassCurves}
-use Rattle.dam_bound.proofs.LossPrices.{past_surplus}
+use Rattle.dam_bound.proofs.Common.{◌≡◌, ℕ, ◌≤ℤ◌, length, inl, inr, ap, ◌∙◌, sym, subst, refl, rules, arith, ints, cases_lt, ProblemState, accepts}
+use Rattle.dam_bound.proofs.Common.{family_surplus, AreClassCurves}
+use Rattle.std.proofs.Common.{pos}
 use mir.Syntax.{w64}
 use mir.Val.{to_z, of_z}
+use Rattle.dam_bound.proofs.LossPrices.{past_surplus}
 use Rattle.dam_bound.proofs.class_curves.ClassCurves.has_loss.Goals as goal
 use Rattle.dam_bound.proofs.class_curves.ClassCurves.has_loss.Goals.{else-has-via-then-has+else-family_gain-lt0, else-has-via-else-has}
 

@@ -1,7 +1,6 @@
 -- No accepted block so far loses.
-use Rattle.std.proofs.Common.{◌≡◌, ◌<◌, ℕ, ℤ, pos, ◌≤ℤ◌, true, List}
-use Rattle.dam_blocks.specs.Selection.{accepts}
-use Rattle.dam_blocks.specs.Eligible.{ArePrices, family_surplus}
+use Rattle.dam_bound.proofs.Common.{◌≡◌, ◌<◌, ℕ, ℤ, ◌≤ℤ◌, true, List, accepts, ArePrices, family_surplus}
+use Rattle.std.proofs.Common.{pos}
 use Rattle.dam_bound.proofs.class_curves.ClassCurves.has_loss.Given as goal
 
 abbrev pub invariant-loop-place : goal.invariant-loop-place

@@ -1,10 +1,7 @@
 -- The values of the two blocks, then a class more, and all of them.
-use Rattle.std.proofs.Common.{◌*◌, pos, [], List, length, get_or, to_z, of_z, w64, ap, ap₂, ◌∙◌, subst, rules, arith}
-use Rattle.dam_book.specs.Limits.{last_period, greatest_volume}
-use Rattle.dam_hour.specs.Limits.{greatest_value}
-use Rattle.dam_blocks.specs.Problem.{ProblemState}
-use Rattle.dam_bound.specs.ClassCurves.{AreClassCurves}
-use Rattle.dam_bound.specs.declared.class_curves.Class.{Class}
+use Rattle.dam_bound.proofs.Common.{◌*◌, [], List, length, get_or, ap, ap₂, ◌∙◌, subst, rules, arith, last_period, greatest_volume, greatest_value}
+use Rattle.dam_bound.proofs.Common.{ProblemState, AreClassCurves, Class}
+use Rattle.std.proofs.Common.{pos, to_z, of_z, w64}
 use Rattle.dam_bound.specs.inside.Rivals.{weigh}
 use Rattle.dam_bound.proofs.LineByLine.{own_class, as_many}
 use Rattle.dam_bound.proofs.Rivalry.{no_class, class_more, all_classes, value_held, net_held, values_held, volume_held}

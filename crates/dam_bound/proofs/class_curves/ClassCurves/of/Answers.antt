@@ -1,9 +1,5 @@
 -- The parts are those of the problem.
-use Rattle.std.proofs.Common.{◌≡◌, ◌∙◌, ℕ, length, List, ap₂, subst, arith}
-use Rattle.dam_book.specs.Limits.{most_blocks}
-use Rattle.dam_blocks.specs.declared.problem.Block.{Block}
-use Rattle.dam_blocks.specs.Selection.{value_in}
-use Rattle.dam_bound.specs.Sums.{at_places, over_periods}
+use Rattle.dam_bound.proofs.Common.{◌≡◌, ◌∙◌, ℕ, length, List, ap₂, subst, arith, most_blocks, Block, value_in, at_places, over_periods}
 use Rattle.dam_bound.specs.inside.Families.{AreFamilies}
 use Rattle.dam_bound.proofs.Ranges.{day_small}
 use Rattle.dam_bound.proofs.class_curves.ClassCurves.of.Goals as goal

@@ -1,12 +1,8 @@
 -- A line more, and all of them.
-use Rattle.std.proofs.Common.{◌≡◌, ◌+◌, ℤ, pos, [], List, length, get_or, ap, subst, rules, arith}
-use Rattle.dam_book.specs.Limits.{most_blocks}
-use Rattle.dam_blocks.specs.Problem.{ProblemState}
-use Rattle.dam_bound.specs.ClassCurves.{day_value, AreClassCurves}
-use Rattle.dam_bound.specs.Sums.{at_places}
-use Rattle.dam_bound.specs.declared.class_curves.Class.{Class}
+use Rattle.dam_bound.proofs.Common.{◌≡◌, ◌+◌, ℤ, [], List, length, get_or, ap, subst, rules, arith, most_blocks, ProblemState, day_value, AreClassCurves}
+use Rattle.dam_bound.proofs.Common.{at_places, Class, AreRaised}
+use Rattle.std.proofs.Common.{pos}
 use Rattle.dam_bound.proofs.LineByLine.{no_line, line_more, gains_within, base_added, all_lines, own_class, price_narrow}
-use Rattle.dam_bound.specs.inside.BlockNumbers.{AreRaised}
 use Rattle.dam_bound.proofs.class_curves.ClassCurves.write_pricing.Goals as goal
 
 abbrev nothing : Class

@@ -1,10 +1,7 @@
 -- A block with a volume adds an hour, and any other keeps the last one.
-use Rattle.std.proofs.Common.{◌≡◌, ℕ, List, length, ◌-◌, drop, ◌∷◌, [], ◌++◌, get_or, ap, ◌∙◌, rules, arith}
-use Rattle.std.proofs.lemmas.Option.{slice_get_read, get_or_from_slice_get}
+use Rattle.dam_bound.proofs.Common.{◌≡◌, ℕ, List, length, ◌-◌, drop, ◌∷◌, [], ◌++◌, get_or, ap, ◌∙◌, rules, arith, slice_get_read, get_or_from_slice_get, Step}
+use Rattle.dam_bound.proofs.Common.{volume_in, as_steps}
 use Rattle.std.proofs.lemmas.List.{length-append}
-use Rattle.dam_hour.specs.declared.step.Step.{Step}
-use Rattle.dam_blocks.specs.Selection.{volume_in}
-use Rattle.dam_bound.specs.Relaxed.{as_steps}
 use Rattle.dam_bound.proofs.Levelling.{first_level, level_below, new_level, same_level, last_level, moved}
 use Rattle.dam_bound.proofs.levels.Levels.of.Goals as goal
 use Rattle.dam_bound.proofs.levels.Levels.of.Goals.{then-volume_in-gt0+in_ok-hour+in_ok-push-3, else-volume_in-gt0}

@@ -1,11 +1,7 @@
 -- A slack more.
-use Rattle.std.proofs.Common.{◌≡◌, ◌∙◌, ℤ, pos, ◌-ℤ◌, get_or, to_z, of_z, w32, ap, sym, subst, inl, inr, arith}
-use Rattle.std.proofs.lemmas.Int.{ints, to_z-of_z}
-use Rattle.std.proofs.lemmas.Bool.{cases_eq}
-use Rattle.std.proofs.lemmas.List.{get_or-set_other, length-set}
-use Rattle.dam_book.specs.Limits.{greatest_volume}
-use Rattle.dam_blocks.specs.Magnitude.{IsWithin}
-use Rattle.dam_bound.specs.NetLimits.{limit_in, slack_taken}
+use Rattle.dam_bound.proofs.Common.{◌≡◌, ◌∙◌, ℤ, ◌-ℤ◌, get_or, ap, sym, subst, inl, inr, arith, ints, to_z-of_z, cases_eq, get_or-set_other, length-set}
+use Rattle.dam_bound.proofs.Common.{greatest_volume, IsWithin, limit_in, slack_taken}
+use Rattle.std.proofs.Common.{pos, to_z, of_z, w32}
 use Rattle.dam_bound.proofs.Limiting.{lowered_here, taken_within}
 use Rattle.dam_bound.proofs.net_limits.NetLimits.lowered.Goals as goal
 

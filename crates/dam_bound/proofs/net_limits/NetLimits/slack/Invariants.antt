@@ -1,6 +1,5 @@
 -- The slacks so far.
-use Rattle.std.proofs.Common.{◌≡◌, ℕ, ◌<◌, ℤ, length, get_or}
-use Rattle.dam_bound.specs.NetLimits.{most_limits, limit_in}
+use Rattle.dam_bound.proofs.Common.{◌≡◌, ℕ, ◌<◌, ℤ, length, get_or, most_limits, limit_in}
 use Rattle.dam_bound.proofs.net_limits.NetLimits.slack.Given as goal
 
 abbrev pub invariant-loop-k : goal.invariant-loop-k

@@ -1,7 +1,6 @@
 -- Some slack is below 0, or none is.
+use Rattle.dam_bound.proofs.Common.{arith, ints}
 use Rattle.std.specs.Prelude.{pos}
-use Rattle.std.proofs.Common.{arith}
-use Rattle.std.proofs.lemmas.Int.{ints}
 use Rattle.dam_bound.proofs.Limiting.{AreLowered, none_fits, still_slacks, still_has}
 use Rattle.dam_bound.proofs.net_limits.NetLimits.slack_after.Goals as goal
 

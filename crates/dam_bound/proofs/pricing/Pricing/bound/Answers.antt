@@ -1,13 +1,10 @@
 -- A place more, and all of them.
-use Rattle.std.proofs.Common.{◌≡◌, suc, ◌+◌, ◌<◌, ℕ, pos, ◌+ℤ◌, ℤ, Bool, drop, get_or, ap, ◌∙◌, sym, arith}
-use Rattle.std.proofs.lemmas.Int.{ints, to_z-of_z}
+use Rattle.dam_bound.proofs.Common.{◌≡◌, suc, ◌+◌, ◌<◌, ℕ, ◌+ℤ◌, ℤ, Bool, drop, get_or, ap, ◌∙◌, sym, arith, ints, to_z-of_z, slice_get-get_or, int_max, SFits}
+use Rattle.dam_bound.proofs.Common.{most_blocks, over_gains, greatest_priced_gain}
+use Rattle.std.proofs.Common.{pos}
 use Rattle.std.proofs.lemmas.List.Elements.{All-get_or}
-use Rattle.std.proofs.lemmas.Option.{slice_get-get_or}
-use Rattle.std.specs.Int.{int_max}
 use mir.Syntax.{w64}
-use mir.Val.{to_z, of_z, SFits}
-use Rattle.dam_book.specs.Limits.{most_blocks}
-use Rattle.dam_bound.specs.Prices.{over_gains, greatest_priced_gain}
+use mir.Val.{to_z, of_z}
 use Rattle.dam_bound.proofs.Accepted.{if_accepted}
 use Rattle.dam_bound.proofs.PlaceSums.{gains_from, no_gains, open_from, positive_within}
 use Rattle.dam_bound.proofs.Sizes.{added_to}

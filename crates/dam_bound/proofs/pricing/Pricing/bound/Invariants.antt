@@ -1,8 +1,6 @@
 -- The gains of the places so far.
-use Rattle.std.proofs.Common.{◌≡◌, ◌+◌, ◌*◌, ◌+ℤ◌, drop}
-use Rattle.dam_book.specs.Limits.{most_blocks}
-use Rattle.dam_blocks.specs.Magnitude.{IsWithin}
-use Rattle.dam_bound.specs.Prices.{over_gains, over_open, greatest_base, greatest_priced_gain}
+use Rattle.dam_bound.proofs.Common.{◌≡◌, ◌+◌, ◌*◌, ◌+ℤ◌, drop, most_blocks, IsWithin, over_gains, over_open, greatest_priced_gain}
+use Rattle.dam_bound.specs.Prices.{greatest_base}
 use Rattle.dam_bound.proofs.pricing.Pricing.bound.Given as goal
 
 abbrev pub invariant-loop-place : goal.invariant-loop-place

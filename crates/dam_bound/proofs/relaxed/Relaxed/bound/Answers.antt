@@ -1,15 +1,7 @@
 -- A period more, all of them, and one that doesn't balance.
-use Rattle.std.proofs.Common.{◌≡◌, List, ◌++◌, drop, map, length, ap, ◌∙◌, sym, rules, arith}
-use Rattle.std.specs.List.{slice_get}
-use Rattle.std.proofs.lemmas.Int.{ints}
+use Rattle.dam_bound.proofs.Common.{◌≡◌, List, ◌++◌, drop, map, length, ap, ◌∙◌, sym, rules, arith, slice_get, ints, slice_get_read, Step, Block, ProblemState}
+use Rattle.dam_bound.proofs.Common.{period_welfare, as_steps, last_steps}
 use Rattle.std.proofs.lemmas.List.{length-map}
-use Rattle.std.proofs.lemmas.Option.{slice_get_read}
-use Rattle.dam_hour.specs.declared.step.Step.{Step}
-use Rattle.dam_blocks.specs.declared.problem.Block.{Block}
-use Rattle.dam_blocks.specs.Problem.{ProblemState}
-use Rattle.dam_blocks.specs.Eligible.{period_welfare}
-use Rattle.dam_bound.specs.Relaxed.{as_steps}
-use Rattle.dam_bound.specs.inside.Levels.{last_steps}
 use Rattle.dam_bound.proofs.Bounding.{one_bound, none_bound, all_bound}
 use Rattle.dam_bound.proofs.Covering.{padded_welfare}
 use Rattle.dam_bound.proofs.DayLevels.{hour_of}

@@ -1,7 +1,5 @@
 -- The two products and their sum fit.
-use Rattle.std.proofs.Common.{◌*◌, sym, subst}
-use Rattle.dam_book.specs.Limits.{greatest_volume}
-use Rattle.dam_blocks.specs.Magnitude.{IsWithin}
+use Rattle.dam_bound.proofs.Common.{◌*◌, sym, subst, greatest_volume, IsWithin}
 use Rattle.dam_bound.proofs.Rivalry.{weigh_exact, weigh_within}
 use Rattle.dam_bound.proofs.rivals.Weights.weigh.Goals as goal
 

@@ -24,8 +24,8 @@ fill_period_segments-requires g c =
     let few = c.requires.5.is_hour.few in let same = ap length c.steps.ensures in
     omega (arith, long, few, same)
 
-pub add_segments-requires : goal.add_segments-requires
-add_segments-requires g c =
+pub fill_joint_segments-requires : goal.fill_joint_segments-requires
+fill_joint_segments-requires g c =
     let laws : Laws = record {
       reached = c.best_has_greatest_welfare.ensures.reached;
       bound = c.best_has_greatest_welfare.ensures.bound;
@@ -60,14 +60,14 @@ returns-clause-added g c ps least most ss is supply few =
     let own : c.deref.result.now ≡ own_segments c.args.supply.now = c.deref.ensures.value ∙ c.in_ok-fill_period_segments.ensures
     ∙ ap own_segments c.steps.ensures in
     let old : c.deref-2.result.now ≡ c.args.self.now = search rules in
-    let new : c.swap.new.x.items ≡ c.add_segments.new.sum.items = search rules in
+    let new : c.swap.new.x.items ≡ c.fill_joint_segments.new.sum.items = search rules in
     let period = subst (IsPeriodCurve ss) (sym own) (period_curve laws nothing ss c.args.supply.now supply) in
     let curve = subst (IsCurve ps least most) (sym old) is in
     subst (IsCurve (ss ∷ ps) least most) (sym new)
-    (curve_more ss ps least most c.deref.result.now c.deref-2.result.now c.add_segments.new.sum.items supply.is_hour period curve few
-    (c.in_ok-add_segments.ensures.segments _ _ period.are_segments curve.are_segments)
-    (c.in_ok-add_segments.ensures.under _ _ period.under curve.under)
-    (c.in_ok-add_segments.ensures.priced _ _ ss ps period.are_segments curve.are_segments period.priced curve.priced)
-    (c.in_ok-add_segments.ensures.within _ least most curve.are_segments curve.within)
-    (λ net. c.in_ok-add_segments.ensures.outside _ _ net period.are_segments curve.are_segments)
-    (c.in_ok-add_segments.ensures.small 1 (length ps) period.small curve.small))
+    (curve_more ss ps least most c.deref.result.now c.deref-2.result.now c.fill_joint_segments.new.sum.items supply.is_hour period curve few
+    (c.in_ok-fill_joint_segments.ensures.segments _ _ period.are_segments curve.are_segments)
+    (c.in_ok-fill_joint_segments.ensures.under _ _ period.under curve.under)
+    (c.in_ok-fill_joint_segments.ensures.priced _ _ ss ps period.are_segments curve.are_segments period.priced curve.priced)
+    (c.in_ok-fill_joint_segments.ensures.within _ least most curve.are_segments curve.within)
+    (λ net. c.in_ok-fill_joint_segments.ensures.outside _ _ net period.are_segments curve.are_segments)
+    (c.in_ok-fill_joint_segments.ensures.small 1 (length ps) period.small curve.small))

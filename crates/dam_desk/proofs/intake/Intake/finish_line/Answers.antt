@@ -15,15 +15,15 @@ returns c state given after none read =
     (c.in_ok-extend.ensures read.begun read.now.line) in
     let number = ap next read.now.answered in
     let answer = taken.answer
-    ∙ ap (λ n. c.args.self.now.answers.items ++ answer_to n read.last.journal taken.said) number in
+    ∙ ap (λ n. c.args.self.now.answers.items ++ answer_to n read.last.journal taken.meaning) number in
     record {
       lines = read.lines ++ line ∷ [];
       begun = [];
-      last = state_after read.last taken.said;
+      last = state_after read.last taken.meaning;
       split = read.split ∙ line_more read.lines read.begun piece after;
       whole = all_snoc (λ (l : List ℕ). has_byte 10 l ≡ false) read.lines line read.whole (none_both read.begun piece read.now.unended none);
-      answers = subst (λ (t : List ℕ). AreAnswers state (read.lines ++ line ∷ []) t (state_after read.last taken.said)) (sym answer)
-          (answers_snoc state read.lines line c.args.self.now.answers.items read.last taken.said read.answers taken.says);
+      answers = subst (λ (t : List ℕ). AreAnswers state (read.lines ++ line ∷ []) t (state_after read.last taken.meaning)) (sym answer)
+          (answers_snoc state read.lines line c.args.self.now.answers.items read.last taken.meaning read.answers taken.means);
       now = record {
         answered = c.in_ok-enter_line.ensures.answered ∙ number;
         day = taken.at.day;

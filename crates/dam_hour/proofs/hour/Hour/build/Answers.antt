@@ -1,8 +1,6 @@
 -- A step more, which is in range.
-use Rattle.std.proofs.Common.{List, sym, subst, arith}
+use Rattle.dam_hour.proofs.Common.{List, sym, subst, arith, Step, AreInRange}
 use Rattle.std.proofs.lemmas.Grind.{common_steps}
-use Rattle.dam_hour.specs.declared.step.Step.{Step}
-use Rattle.dam_hour.specs.Execution.{AreInRange}
 use Rattle.dam_hour.proofs.Ranges.{in_range_push}
 use Rattle.dam_hour.proofs.hour.Hour.build.Goals as goal
 

@@ -1,6 +1,5 @@
 -- The steps so far, each in range.
-use Rattle.std.proofs.Common.{◌≡◌, take}
-use Rattle.dam_hour.specs.Execution.{AreInRange}
+use Rattle.dam_hour.proofs.Common.{◌≡◌, take, AreInRange}
 use Rattle.dam_hour.proofs.hour.Hour.build.Given as goal
 
 abbrev pub invariant-loop-step : goal.invariant-loop-step

@@ -1,9 +1,5 @@
 -- The totals are those of the best execution, and its welfare is the greatest.
-use Rattle.std.proofs.Common.{ℤ, subst}
-use Rattle.std.proofs.lemmas.Int.{to_z-of_z}
-use mir.Syntax.{w64}
-use Rattle.dam_hour.specs.Execution.{IsUnbalanced}
-use Rattle.dam_hour.specs.Best.{AreBestTotals}
+use Rattle.dam_hour.proofs.Common.{ℤ, subst, to_z-of_z, w64, IsUnbalanced, AreBestTotals}
 use Rattle.dam_hour.proofs.Enumeration.{unbalanced_welfare}
 use Rattle.dam_hour.proofs.Answering.{totals_welfare}
 use Rattle.dam_hour.proofs.hour.Hour.clear.Goals as goal

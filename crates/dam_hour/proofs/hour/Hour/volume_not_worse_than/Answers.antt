@@ -1,9 +1,6 @@
 -- No step stands after the last place.
-use Rattle.std.proofs.Common.{◌+◌, List, ap, ◌∙◌}
+use Rattle.dam_hour.proofs.Common.{◌+◌, List, ap, ◌∙◌, Step, most_steps, better_volume, at_volume}
 use Rattle.std.proofs.lemmas.List.{take_all}
-use Rattle.dam_hour.specs.declared.step.Step.{Step}
-use Rattle.dam_hour.specs.Limits.{most_steps}
-use Rattle.dam_hour.specs.inside.Volumes.{better_volume, at_volume}
 use Rattle.dam_hour.proofs.hour.Hour.volume_not_worse_than.Goals as goal
 
 pub returns-clause-value : goal.returns-clause-value

@@ -1,6 +1,5 @@
 -- One decision more.
-use Rattle.std.proofs.Common.{◌≡◌, ◌+◌, [], ◌∷◌, ◌++◌, ◌∙◌, arith}
-use Rattle.dam_blocks.specs.Selection.{padded}
+use Rattle.dam_search.proofs.Common.{◌≡◌, ◌+◌, [], ◌∷◌, ◌++◌, ◌∙◌, arith, padded}
 use Rattle.dam_search.proofs.Prefixes.{prefix_is, prefix_kept, taken_next, length_more, length_next}
 use Rattle.dam_search.proofs.prefix.Prefix.extended.Goals as goal
 use Rattle.dam_search.proofs.prefix.Prefix.extended.Goals.{then-accept, else-accept}
@@ -9,8 +8,8 @@ next_is : (c : goal.Joined-accept) → c.if-accept.accepted ≡ padded (c.args.s
 next_is c =
     taken_next c.args.self.now c.self.inside.accepted c.if-accept.accepted c.self.inside.depth c.args.accept c.self.view_is c.self.invariant.0
     c.self.invariant.1 c.requires
-    (elim c.if-accept.branch [ then-accept w ↦ λ e. w.accepted-is ∙ w.with-accepted.ensures | else-accept w ↦ λ e. absurd (cc) ])
-    (elim c.if-accept.branch [ then-accept w ↦ λ e. absurd (cc) | else-accept w ↦ λ e. w.accepted-is ])
+    (elim c.if-accept.branch [ then-accept branch ↦ λ e. branch.accepted-is ∙ branch.with-accepted.ensures | else-accept branch ↦ λ e. absurd (cc) ])
+    (elim c.if-accept.branch [ then-accept branch ↦ λ e. absurd (cc) | else-accept branch ↦ λ e. branch.accepted-is ])
 
 pub invariant_of-result : goal.invariant_of-result
 invariant_of-result c =

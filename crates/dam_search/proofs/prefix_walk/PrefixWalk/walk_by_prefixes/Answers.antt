@@ -1,9 +1,6 @@
 -- The walk from the decisions of the piece, with nothing found before.
-use Rattle.std.proofs.Common.{◌≡◌, inl, inr, ℕ, ◌-◌, List, Bool, true, Option, None, length, ◌∙◌, ap, sym, subst, arith}
-use Rattle.dam_blocks.specs.declared.selection.Solution.{Solution}
-use Rattle.dam_blocks.specs.Problem.{ProblemState}
-use Rattle.dam_blocks.specs.Selection.{choice}
-use Rattle.dam_search.specs.Piece.{IsFind, IsSound, IsSpent}
+use Rattle.dam_search.proofs.Common.{◌≡◌, inl, inr, ℕ, ◌-◌, List, Bool, true, Option, None, length, ◌∙◌, ap, sym, subst, arith, Solution, ProblemState}
+use Rattle.dam_search.proofs.Common.{choice, IsFind, IsSound, IsSpent}
 use Rattle.dam_search.specs.inside.PrefixWalk.{Finds, Covers}
 use Rattle.dam_search.proofs.Prefixes.{length-choice}
 use Rattle.dam_search.proofs.Walks.{spent_from}
@@ -29,22 +26,22 @@ visit-done-requires-clause-going g c = record { within = omega arith; read = ome
 
 pub returns-clause-sound : goal.returns-clause-sound
 returns-clause-sound g c =
-    let found = c.visit-done.new.found in
-    subst (λ (prefix : List Bool). IsSound c.args.self.now.problem.now prefix found.best found.incumbent_read c.visit-done.result) c.of_piece-prefix.ensures
-    (sound c.args.self.now.problem.now c.of_piece-prefix.result found.best found.incumbent_read c.visit-done.result c.visit-done.ensures.walked.finds
+    let state = c.visit-done.new.state in
+    subst (λ (prefix : List Bool). IsSound c.args.self.now.problem.now prefix state.best state.incumbent_read c.visit-done.result) c.of_piece-prefix.ensures
+    (sound c.args.self.now.problem.now c.of_piece-prefix.result state.best state.incumbent_read c.visit-done.result c.visit-done.ensures.walked.finds
     c.visit-done.ensures.walked.covers)
 
 pub returns-clause-spent : goal.returns-clause-spent
 returns-clause-spent g c =
-    let told = g.I.Incumbent.greatest_read c.args.incumbent.now in let n = length c.args.self.now.problem.now.blocks in
+    let greatest_read = g.I.Incumbent.greatest_read c.args.incumbent.now in let n = length c.args.self.now.problem.now.blocks in
     let long = as_long c.of_piece-prefix.result c.args.depth c.args.piece c.of_piece-prefix.ensures in
-    let found = c.visit-done.new.found in let walked = c.visit-done.ensures.walked in
-    subst (λ (left : ℕ). IsSpent c.args.self.now.problem.now (choice c.args.depth c.args.piece) (n - left) told c.args.nodes found.visited
-    found.incumbent_read c.visit-done.result) long
-    (subst (λ (prefix : List Bool). IsSpent c.args.self.now.problem.now prefix (n - length c.of_piece-prefix.result) told c.args.nodes
-    found.visited found.incumbent_read c.visit-done.result) c.of_piece-prefix.ensures
-    (spent_from c.args.self.now.problem.now c.of_piece-prefix.result (n - length c.of_piece-prefix.result) told c.args.nodes found.visited
-    found.incumbent_read c.visit-done.result walked.spends walked.needed))
+    let state = c.visit-done.new.state in let walked = c.visit-done.ensures.walked in
+    subst (λ (undecided_count : ℕ). IsSpent c.args.self.now.problem.now (choice c.args.depth c.args.piece) (n - undecided_count) greatest_read c.args.node_limit state.visited
+    state.incumbent_read c.visit-done.result) long
+    (subst (λ (prefix : List Bool). IsSpent c.args.self.now.problem.now prefix (n - length c.of_piece-prefix.result) greatest_read c.args.node_limit
+    state.visited state.incumbent_read c.visit-done.result) c.of_piece-prefix.ensures
+    (spent_from c.args.self.now.problem.now c.of_piece-prefix.result (n - length c.of_piece-prefix.result) greatest_read c.args.node_limit state.visited
+    state.incumbent_read c.visit-done.result walked.spends walked.needed))
 
 pub returns-clause-read : goal.returns-clause-read
 returns-clause-read g c some few =

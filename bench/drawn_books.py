@@ -1,0 +1,72 @@
+"""What the generators share: orders, the market of a day, the books that they print, and the numbers of a command line."""
+
+import math
+import random
+from collections.abc import Sequence
+from dataclasses import dataclass
+from typing import NamedTuple
+
+from faults import BenchFault
+
+HOURS = 24
+PERIODS_OF_HOUR = (1, 4)
+MOST_BLOCKS, MOST_HOURLY = 24, 4_000  # the limits of a book
+PARTICIPANTS = ["ALPHA", "BRAVO", "CHARLIE", "DELTA", "ECHO", "FOXTROT", "GOLF", "HOTEL"]
+CLOSE = "close,,,,,,,,"
+
+
+@dataclass
+class Order:
+    """An order, with its volume in each period. As text it is the record of its submit."""
+
+    who: str
+    name: str
+    kind: str
+    side: str
+    price: int
+    volumes: dict[int, int]
+    parent: str = ""
+    group: str = ""
+
+    def __str__(self) -> str:
+        pairs = ";".join(f"{period}:{volume}" for period, volume in self.volumes.items())
+        return f"submit,{self.who},{self.name},{self.kind},{self.side},{self.price},{pairs},{self.parent},{self.group}"
+
+
+def draw_side(rng: random.Random) -> str:
+    return rng.choice(["buy", "sell"])
+
+
+class DayMarket:
+    """The periods of a day, of which each hour has as many, and the generator of its orders."""
+
+    def __init__(self, per_hour: int, rng: random.Random) -> None:
+        self.per_hour, self.rng = per_hour, rng
+        self.periods = HOURS * per_hour
+
+    def price_at(self, period: int) -> int:
+        """The price around which the hourly orders of a period lie, in cents per MWh."""
+        hour = 1 + (period - 1) // self.per_hour
+        return round(6_000 + 2_500 * math.sin((hour - 7) * math.pi / 12))
+
+    def periods_of(self, first: int, last: int) -> range:
+        """The periods of these hours, without the last one."""
+        return range(1 + self.per_hour * (first - 1), 1 + self.per_hour * (last - 1))
+
+
+class DrawnBook(NamedTuple):
+    """A book with the most blocks: its name, and the script and the arguments that print it."""
+
+    name: str
+    kind: str
+    script: str
+    words: list[str]
+    note: str = ""  # a fact about the book that explains a long search
+
+
+def parse_number(name: str, word: str, allowed: Sequence[int]) -> int:
+    """A number on the command line, one of the allowed ones: a range, or two numbers."""
+    if not (word.isascii() and word.isdecimal()) or int(word) not in allowed:
+        wanted = f"a number from 0 to {allowed[-1]}" if isinstance(allowed, range) else "{} or {}".format(*allowed)
+        raise BenchFault(f"{name} is '{word}' and should be {wanted}")
+    return int(word)

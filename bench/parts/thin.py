@@ -1,0 +1,35 @@
+"""The time of `dam clear` on 52 books of thin markets with 24 blocks that each move the prices.
+
+They have 200 to 1,500 hourly orders on days of 24 and of 96 periods, every realistic kind of block, links and groups, and limits mostly
+within 50 cents of the mean price. `dam clear` takes turns as timed_books.py says, without HiGHS.
+
+The books are drawn by make_blocks.py and make_family.py, and only the ten hardest, and two more, were chosen by their time: of books drawn
+at random for 20 minutes of one processor, those on which a plain search with bounds by prices took longest. If all limits are equal, a
+search looks for a subset of the volumes with the best sum, and hardly any bound helps; the lines of such books say so."""
+
+import itertools
+
+import make_blocks
+import make_family
+import timed_books
+from figures import Figures, at_most
+from make_blocks import THIN_SPREADS, USUAL_KINDS, book_of_kind
+from part import Part
+from running import Settings
+
+TARGETS = {**timed_books.TARGETS, "clear": at_most(3), "enumeration": at_most(0.5)}  # seconds; times as long
+BOOKS, PACKAGES = [*make_blocks.THIN, *make_family.THIN], ["python3-numpy"]
+CELLS = {
+    book_of_kind(kind, spread, 1, 4, orders).name: (kind, f"96 periods, {orders:,} hourly orders", f" (spread {spread})")
+    for kind, orders, spread in itertools.product(USUAL_KINDS, (500, 1_500), THIN_SPREADS)
+}
+
+
+def measure(figures: Figures, settings: Settings) -> None:
+    books = timed_books.make_asked_books(BOOKS, settings)
+    for book in books:
+        book.measure(figures)
+    timed_books.add_comparisons_of_all(figures, books)
+
+
+PART = Part("thin", __doc__, "5 to 10 minutes", ["dam"], targets=TARGETS, measure=measure, packages=PACKAGES, books=BOOKS, cells=CELLS)

@@ -1,7 +1,0 @@
--- The highest selection that the answers so far found.
-use Rattle.std.proofs.Common.{take}
-use Rattle.dam_search.specs.inside.Collect.{IsLong, IsHighestFound}
-use Rattle.dam_search.proofs.collect.highest.Given as goal
-
-abbrev pub invariant-loop-answer : goal.invariant-loop-answer
-invariant-loop-answer l = IsHighestFound (take l.answer-index l.answers) l.best × IsLong l.best

@@ -1,0 +1,1 @@
+"""The trial of wrong bodies, and the output of a check."""

@@ -1,0 +1,6 @@
+"""Names for the types of what is read from JSON, or written as JSON."""
+
+from typing import Any, Dict
+
+Json = Any
+JsonObject = Dict[str, Any]

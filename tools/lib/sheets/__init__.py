@@ -1,3 +1,0 @@
-"""Tables, as CSV or workbooks: reading orders and commands, and writing what the tools show.
-
-It may import: base, journal, results, workbooks."""
