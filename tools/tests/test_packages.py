@@ -6,9 +6,12 @@ import ast
 import collections
 import functools
 import re
+import runpy
 import subprocess
+import sys
 import unittest
 from pathlib import Path
+from unittest import mock
 
 import asked_names
 from support import TOP
@@ -247,6 +250,15 @@ class Packages(unittest.TestCase):
                 with self.subTest(path=path):
                     asked = [ast.unparse(node) for node in ast.walk(tree) if isinstance(node, ast.Attribute)]
                     self.assertNotIn("sys.path", asked)
+
+    def test_a_started_process_may_read_the_scripts_of_folders_again(self):
+        """A process of `multiprocessing` runs the script that started it under another name, with the path of modules that is set already."""
+        for script in sorted(TOP.glob("tests/*/run")):
+            if b"python3" in script.read_bytes().splitlines()[0]:
+                with self.subTest(script=script), mock.patch.object(sys, "path", list(sys.path)) as path:
+                    before = list(path)
+                    runpy.run_path(str(script), run_name="__mp_main__")
+                    self.assertEqual(path, before)
 
     def test_no_file_is_a_link(self):
         """`rt ci` refuses a clone that has one."""
