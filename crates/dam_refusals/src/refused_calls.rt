@@ -4,7 +4,9 @@ ghost use Rattle.std.specs.Prelude.{◌≡◌};
 use crate::answer::{Answer, Stop, TRIES, Told};
 use crate::day::settle_again;
 use crate::passes::Passes;
-use dam_book::{Command, HourOrder, Name, Order, Participant, Period, Price, Qty, Seed, Side};
+use dam_book::{
+    BlockOrder, Command, HourOrder, Name, Order, Participant, Period, Price, Qty, Seed, Side, Volumes,
+};
 use dam_gate::{
     Account, Gate, GateFault, GateName, Journal, MOST_PASSES, Mismatch, Opening, PassFault, settle,
 };
@@ -27,6 +29,18 @@ fn submit_command(who: &[u8], name: &[u8]) -> Option<Command> {
         who: Participant::new(who)?,
         name: Name::new(name)?,
         order: Order::Hour(order),
+    })
+}
+
+/// A submit of a block of one period, whose terms the gate packs on the heap.
+fn submit_block_command(who: &[u8], name: &[u8]) -> Option<Command> {
+    let pairs = [(Period::new(1)?, Qty::new(10)?)];
+    let volumes = Volumes::new(&pairs).ok()?;
+    let order = BlockOrder::new(Side::Sell, Price::new(3_000)?, volumes, None, None);
+    Some(Command::Submit {
+        who: Participant::new(who)?,
+        name: Name::new(name)?,
+        order: Order::Block(order),
     })
 }
 
@@ -82,8 +96,9 @@ fn fill_and_close<J: GateName, H: Wait + Drop>(
     passes: &mut Passes<J>,
 ) -> Result<(), Stop> {
     let first = submit_command(b"A", b"S1").ok_or(Stop::Wrong)?;
-    let second = submit_command(b"A", b"S2").ok_or(Stop::Wrong)?;
+    let second = submit_block_command(b"A", b"S2").ok_or(Stop::Wrong)?;
     passes.enter(rt, gate, &first, BEFORE_CLOSE - 1)?;
+    // refused for the full journal before anything is packed, so also while memory is refused
     let full = GateFault::JournalFull { held: BEFORE_CLOSE };
     passes.expect_refusal(rt, gate, 0, &second, BEFORE_CLOSE, full)?;
     passes.enter(rt, gate, &Command::Close, BEFORE_CLOSE)?;
@@ -93,8 +108,8 @@ fn fill_and_close<J: GateName, H: Wait + Drop>(
     passes.expect_refusal(rt, gate, 1, &Command::Close, BEFORE_CLOSE + 1, full)
 }
 
-/// Enters as many commands as a journal has room for but one; then, if the day is to be closed, a submit, another one,
-/// the close and another close, of which the second of each is refused.
+/// Enters as many commands as a journal has room for but one; then, if the day is to be closed, a submit, a block, the
+/// close and another close. The block and the second close are refused.
 pub fn fill_journal<R: Wait>(
     rt: &R,
     alloc: Global,
