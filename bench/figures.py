@@ -11,8 +11,8 @@ import statistics
 from collections.abc import Callable, Mapping, Sequence
 from typing import NamedTuple
 
-from faults import BenchFault
-from running import TimedRun
+from lib.tool import exits
+from running import BenchFault, TimedRun
 
 Values = Sequence[float]  # those of several runs
 Text = Callable[[float], str]  # of a value with its unit
@@ -62,20 +62,33 @@ class Figure(NamedTuple):
         return self.whole_name, self.value, self.quartiles, self.target, self.verdict.value, self.details
 
 
-class Target(NamedTuple):
-    """`least` or `most`, and the value that a figure must have at least or at most."""
+class Side(enum.Enum):
+    """On which side of its limit a target has a figure."""
 
-    kind: str
+    LEAST, MOST = "at least", "at most"
+
+
+class Target(NamedTuple):
+    """The value that a figure must have at least or at most."""
+
+    side: Side
     limit: float
 
     def is_met(self, value: float) -> bool:
-        return value <= self.limit if self.kind == "most" else value >= self.limit
+        return value <= self.limit if self.side is Side.MOST else value >= self.limit
 
     def text(self, shown: Text) -> str:
-        return f"at {self.kind} {shown(self.limit)}"
+        return f"{self.side.value} {shown(self.limit)}"
 
 
-at_most, at_least = functools.partial(Target, "most"), functools.partial(Target, "least")
+at_most, at_least = functools.partial(Target, Side.MOST), functools.partial(Target, Side.LEAST)
+Targets = Mapping[str, Target]  # by the key of a figure, or by the first word of the key
+
+
+def target_of(targets: Targets, key: str) -> Target:
+    if target := targets.get(key) or targets.get(key.partition("/")[0]):
+        return target
+    raise BenchFault(f"TARGETS has no '{key}'")
 
 
 class Quartiles(NamedTuple):
@@ -114,15 +127,10 @@ def span_text(least: str, greatest: str) -> str:
 
 
 class Figures:
-    """The figures of a part, each of which is printed. `targets` has the target of each, by its key or by the first word of the key."""
+    """The figures of a part, each of which is printed, and their targets."""
 
-    def __init__(self, targets: Mapping[str, Target]) -> None:
+    def __init__(self, targets: Targets) -> None:
         self.targets, self.added = targets, list[Figure]()
-
-    def target_of(self, label: Label) -> Target:
-        if target := self.targets.get(label.key) or self.targets.get(label.key.partition("/")[0]):
-            return target
-        raise BenchFault(f"TARGETS has no '{label.key}'")
 
     def add(self, figure: Figure) -> None:
         self.added.append(figure)
@@ -131,7 +139,7 @@ class Figures:
     def add_quartiles(self, label: Label, value: Quartiles, shown: Text, details: str) -> None:
         """Adds a median between its quartiles, with the verdict on its target."""
         quartiles = ONE_RUN if value.lower == value.upper else span_text(shown(value.lower), shown(value.upper))
-        target = self.target_of(label)
+        target = target_of(self.targets, label.key)
         is_met = [target.is_met(each) for each in value]
         verdict = Verdict.HOLDS if all(is_met) else Verdict.UNCLEAR if any(is_met) else Verdict.MISSED
         self.add(Figure(*label, shown(value.median), quartiles, target.text(shown), verdict, details, median=value.median))
@@ -141,7 +149,10 @@ class Figures:
 
     def add_ratio(self, label: Label, ours: Values, theirs: Values, shown: Text = seconds_text, note: str = "") -> None:
         """Adds the median of our values as a multiple of the median of theirs; the details have both."""
-        our, their, target = quartiles_of(ours), quartiles_of(theirs), self.target_of(label)
+        self.add_multiple(label, quartiles_of(ours), quartiles_of(theirs), shown, note)
+
+    def add_multiple(self, label: Label, our: Quartiles, their: Quartiles, shown: Text = seconds_text, note: str = "") -> None:
+        target = target_of(self.targets, label.key)
         value = Quartiles(our.lower / their.upper, our.median / their.median, our.upper / their.lower)
         # a figure on the wrong side of its target doesn't look equal to it
         is_equal = multiple_text(value.median) == multiple_text(target.limit)
@@ -157,10 +168,20 @@ class Figures:
 
     def add_unended(self, label: Label, least: float, shown: Text = seconds_text) -> None:
         """Adds a figure that is only known to be above this, since a program didn't end."""
-        target = self.target_of(label)
+        target = target_of(self.targets, label.key)
         verdict = Verdict.HOLDS if target.is_met(least) else Verdict.MISSED
         self.add(Figure(*label, f"> {shown(least)}", "", target.text(shown), verdict, details="", median=least))
 
     def add_without_value(self, label: Label, why: str) -> None:
         """Adds a figure that decides nothing."""
         self.add(Figure(*label, "?", quartiles="", target="", verdict=Verdict.NONE, details=why, median=None))
+
+
+def print_verdicts_and_return_status(figures: Sequence[Figure]) -> int:
+    """Prints the figures whose targets are missed or unclear, and the number of each verdict. The status is 1 if a target is missed."""
+    for figure in figures:
+        if figure.is_wrong:
+            print(*figure.line, sep="\t")
+    held, missed, unclear, _ = (sum(figure.verdict is verdict for figure in figures) for verdict in Verdict)
+    print(f"{held} figures hold, {missed} are missed, {unclear} are unclear")
+    return exits.DIFFERS if missed else exits.DONE

@@ -1,8 +1,7 @@
 #!/usr/bin/env python3
-"""make_blocks.py KIND SPREAD SEED [PERIODS [BLOCKS [HOURLY [BONDS]]]]: prints the journal of a closed day of 24 hours with blocks as users
-have them: BLOCKS of them (at most 24, which is the default), whose limits are within SPREAD cents of the mean price of their delivery,
-and HOURLY hourly orders (at most 4000; default: 3800). Each hour has PERIODS periods, 1 or 4 (default: 1), so with 4 the day has 96. A
-market is thin with 1,500 hourly orders or fewer: then each block moves the prices. Every run with the same arguments prints the same bytes.
+"""Prints the journal of a closed day of 24 hours with blocks as users have them, whose limits are within SPREAD cents of the mean price of
+their delivery, and with hourly orders. A market is thin with 1,500 hourly orders or fewer: then each block moves the prices. Every run with
+the same arguments prints the same bytes.
 
 base    baseload: one volume over the whole day
 peaks   by turns base, peak (hours 9 to 20) and night (the other hours), with one volume each
@@ -19,23 +18,19 @@ links   families of six: each block but the first has an earlier one of its fami
 groups  of each three blocks at most one is accepted
 both    families of four: of three blocks at most one is accepted, and the fourth is their parent"""
 
+import argparse
 import math
 import random
-import sys
 from collections.abc import Callable, Collection, Iterator
 
-from faults import BenchFault, run_main
-from drawn_books import CLOSE, HOURS, MOST_BLOCKS, MOST_HOURLY, PARTICIPANTS, PERIODS_OF_HOUR
-from drawn_books import DayMarket, DrawnBook, Order, draw_side, parse_number
+from drawn_books import CLOSE, HOURS, MOST_BLOCKS, MOST_HOURLY, PARTICIPANTS, PERIODS_OF_HOUR, DayMarket, DrawnBook, Order, Volumes
+from drawn_books import draw_side, hourly_order, number_up_to, print_day
 
 USUAL_HOURLY, USUAL_SPREAD = 3_800, 50
-LIMITS = {"SPREAD": range(10_001), "SEED": range(1_000_001), "PERIODS": PERIODS_OF_HOUR}
-LIMITS |= {"BLOCKS": range(MOST_BLOCKS + 1), "HOURLY": range(MOST_HOURLY + 1)}
 AROUND = 2_000  # by how many cents the limit of an hourly order differs from the price at most
 HOURLY_VOLUMES, BLOCK_VOLUMES = (50, 399), (20, 119)  # from the least to the greatest, in tenths of a MW
 LEVEL, LEVEL_VOLUMES = 6_000, (5_000, 8_999)  # the one price of the hourly orders of a wide book, in cents, and their volumes
 LEAST_WIDE, MOST_WIDE = 10, (60, 300)  # the least volume of a wide block, and between which two its greatest lies
-Volumes = dict[int, int]  # by the period or the hour
 ALL = range(1, HOURS + 1)
 PEAK = range(9, 21)
 NIGHT = [hour for hour in ALL if hour not in PEAK]
@@ -43,7 +38,13 @@ BY_TURNS = [ALL, PEAK, NIGHT]
 
 
 class BlockMarket(DayMarket):
-    """A day, and the generator of the volumes of its blocks."""
+    """A day, and the generator of its hourly orders and of the volumes of its blocks."""
+
+    def draw_hourly(self, number: int) -> Order:
+        period, side = 1 + number % self.periods, draw_side(self.rng)
+        price = self.price_at(period) + self.rng.randint(-AROUND, AROUND)
+        volume = self.rng.randint(*HOURLY_VOLUMES)
+        return hourly_order(self.rng.choice(PARTICIPANTS), number, side, price, period, volume)
 
     def draw_volume(self) -> int:
         return self.rng.randint(*BLOCK_VOLUMES)
@@ -69,16 +70,16 @@ class BlockMarket(DayMarket):
         hours = range(*sorted(self.rng.sample(range(1, HOURS + 2), 2)))
         return self.volumes_by_period({hour: self.draw_volume() for hour in hours}) if by_hour else self.draw_flat(hours)
 
-    def mean_price_of(self, volumes: Volumes) -> float:
-        """The mean price of these volumes."""
-        return sum(self.price_at(period) * volume for period, volume in volumes.items()) / sum(volumes.values())
-
 
 class LevelMarket(BlockMarket):
-    """A day of which every period has the same price."""
+    """A day of which every period has the same price, with a buy and a sell by turns."""
 
     def price_at(self, _period: int) -> int:
         return LEVEL
+
+    def draw_hourly(self, number: int) -> Order:
+        period, side = 1 + number % self.periods, "sell" if number // self.periods % 2 else "buy"
+        return hourly_order(self.rng.choice(PARTICIPANTS), number, side, LEVEL, period, self.rng.randint(*LEVEL_VOLUMES))
 
 
 def draw_mixed(day: BlockMarket, number: int) -> Volumes:
@@ -98,8 +99,8 @@ WIDE = "wide"
 KINDS = {**USUAL_KINDS, "mixed": draw_mixed, WIDE: lambda day, number: day.draw_noise((LEAST_WIDE, day.rng.randint(*MOST_WIDE)))}
 
 
-def set_participants_for_families(blocks: list[Order], size: int) -> Iterator[tuple[int, list[Order]]]:
-    """The blocks by families of this size, each with its number, and with the participant of its first block."""
+def iterate_families_with_one_participant(blocks: list[Order], size: int) -> Iterator[tuple[int, list[Order]]]:
+    """Yields the blocks by families of this size, each with its number, and gives them the participant of its first block."""
     for first in range(0, len(blocks), size):
         family = blocks[first : first + size]
         for block in family:
@@ -108,19 +109,19 @@ def set_participants_for_families(blocks: list[Order], size: int) -> Iterator[tu
 
 
 def set_links(blocks: list[Order], rng: random.Random) -> None:
-    for _, family in set_participants_for_families(blocks, 6):
+    for _, family in iterate_families_with_one_participant(blocks, 6):
         for place, block in enumerate(family[1:], 1):
             block.parent = rng.choice(family[:place]).name
 
 
 def set_groups(blocks: list[Order], _rng: random.Random) -> None:
-    for number, family in set_participants_for_families(blocks, 3):
+    for number, family in iterate_families_with_one_participant(blocks, 3):
         for block in family:
             block.group = f"GROUP-{number}"
 
 
 def set_links_and_groups(blocks: list[Order], _rng: random.Random) -> None:
-    for number, (parent, *children) in set_participants_for_families(blocks, 4):
+    for number, (parent, *children) in iterate_families_with_one_participant(blocks, 4):
         for block in children:
             block.parent, block.group = parent.name, f"GROUP-{number}"
 
@@ -130,15 +131,16 @@ Bond = Callable[[list[Order], random.Random], None]
 BONDS: dict[str, Bond] = {FREE: lambda blocks, rng: None, "links": set_links, "groups": set_groups, "both": set_links_and_groups}
 
 
-def book_of_kind(kind: str, spread: int, seed: int, per_hour: int, hourly: int = USUAL_HOURLY, bonds: str = FREE) -> DrawnBook:
+def book_of_kind(
+    kind: str, spread: int, seed: int, per_hour: int, hourly: int = USUAL_HOURLY, bonds: str = FREE, blocks: int = MOST_BLOCKS
+) -> DrawnBook:
     told = f", {bonds}" if bonds != FREE else ""
     told += f", {hourly:,} orders" if hourly != USUAL_HOURLY else ""
-    words = [kind, *map(str, (spread, seed, per_hour, MOST_BLOCKS, hourly)), bonds]
     return DrawnBook(
         name=f"{kind} {HOURS * per_hour}{told}, spread {spread:,}, seed {seed}",
         kind=kind,
         script="make_blocks.py",
-        words=words if told else words[:4],
+        words=[kind, *map(str, (spread, seed, per_hour, blocks, hourly)), bonds],
         note="a subset sum of equal limits" if spread == 0 and kind in ("base", "odd") else "",
     )
 
@@ -182,41 +184,34 @@ THIN += [
 THIN += [book_of_kind("base", 20, 1, per_hour, orders, bonds) for bonds in list(BONDS)[1:] for per_hour, orders in ((1, 200), (4, 500))]
 
 
-def draw_order(day: BlockMarket, number: int, is_wide: bool) -> Order:
-    """An hourly order; in a wide book by turns a buy and a sell of each period."""
-    period, name = 1 + number % day.periods, f"HOUR-{number}"
-    if is_wide:
-        side, price = "sell" if number // day.periods % 2 else "buy", LEVEL
-        return Order(day.rng.choice(PARTICIPANTS), name, "hour", side, price, {period: day.rng.randint(*LEVEL_VOLUMES)})
-    side, price = draw_side(day.rng), day.price_at(period) + day.rng.randint(-AROUND, AROUND)
-    volume = day.rng.randint(*HOURLY_VOLUMES)
-    return Order(day.rng.choice(PARTICIPANTS), name, "hour", side, price, {period: volume})
-
-
 def draw_block(day: BlockMarket, kind: str, spread: int, number: int) -> Order:
     volumes = KINDS[kind](day, number)
-    price = round(day.mean_price_of(volumes)) + day.rng.randint(-spread, spread)
+    price = round(day.mean_price(volumes)) + day.rng.randint(-spread, spread)
     side, who = draw_side(day.rng), day.rng.choice(PARTICIPANTS)
     return Order(who, f"BLOCK-{number}", "block", side, price, volumes)
 
 
+def parse_arguments() -> argparse.Namespace:
+    parser = argparse.ArgumentParser(description=__doc__, formatter_class=argparse.RawDescriptionHelpFormatter)
+    parser.add_argument("kind", metavar="KIND", choices=KINDS)
+    parser.add_argument("spread", type=number_up_to(10_000), help="of the blocks' limits around the mean price, in cents")
+    parser.add_argument("seed", type=number_up_to(1_000_000))
+    parser.add_argument("periods", metavar="PERIODS", type=int, choices=PERIODS_OF_HOUR, nargs="?", default=1, help="of an hour (default: 1)")
+    parser.add_argument("blocks", type=number_up_to(MOST_BLOCKS), nargs="?", default=MOST_BLOCKS, help="their number (default: %(default)s)")
+    parser.add_argument("hourly", type=number_up_to(MOST_HOURLY), nargs="?", default=USUAL_HOURLY, help="orders (default: %(default)s)")
+    parser.add_argument("bonds", metavar="BONDS", choices=BONDS, nargs="?", default=FREE)
+    return parser.parse_args()
+
+
 def main() -> None:
-    words = sys.argv[1:]
-    if not 3 <= len(words) <= 7 or words[0] not in KINDS:
-        sys.exit(__doc__)
-    kind, *given, bonds = [*words, *["1", str(MOST_BLOCKS), str(USUAL_HOURLY), FREE][len(words) - 3 :]]
-    spread, seed, per_hour, count, orders = map(parse_number, LIMITS, given, LIMITS.values())
-    if bonds not in BONDS:
-        raise BenchFault(f"BONDS is '{bonds}' and should be one of {' '.join(BONDS)}")
-    drawn = f"{kind} {spread} {seed} {per_hour}"
-    day = (LevelMarket if kind == WIDE else BlockMarket)(per_hour, random.Random(drawn))
-    print(f"day,{day.periods},,,,,,,")
-    for number in range(orders):
-        print(draw_order(day, number, kind == WIDE))
-    blocks = [draw_block(day, kind, spread, number) for number in range(count)]
-    BONDS[bonds](blocks, random.Random(f"{drawn} {bonds}"))
-    print(*blocks, CLOSE, sep="\n")
+    given = parse_arguments()
+    drawn = f"{given.kind} {given.spread} {given.seed} {given.periods}"
+    day = (LevelMarket if given.kind == WIDE else BlockMarket)(given.periods, random.Random(drawn))
+    hourly = [day.draw_hourly(number) for number in range(given.hourly)]
+    blocks = [draw_block(day, given.kind, given.spread, number) for number in range(given.blocks)]
+    BONDS[given.bonds](blocks, random.Random(f"{drawn} {given.bonds}"))
+    print_day(day.periods, [*hourly, *blocks, CLOSE])
 
 
 if __name__ == "__main__":
-    run_main("make_blocks.py", main)
+    main()

@@ -1,8 +1,6 @@
 #!/usr/bin/env python3
-"""make_family.py FAMILY HOURLY [BLOCKS [PERIODS]]: prints the journal of a closed day of 24 hours, with HOURLY hourly orders (at most
-4000) and BLOCKS blocks (at most 24, which is the default). Each hour has PERIODS periods, 1 or 4 (default: 1), so with 4 the day has
-96. The families are hard in different ways for a search over selections of blocks. Every run with the same arguments prints the same
-bytes.
+"""Prints the journal of a closed day of 24 hours, with hourly orders and blocks. The families are hard in different ways for a search over
+selections of blocks. Every run with the same arguments prints the same bytes.
 
 market    hourly orders around a daily curve of prices, and blocks around it
 paradox   blocks that gain alone and lose together, because each moves the price
@@ -12,17 +10,17 @@ links     deep families of linked blocks
 groups    exclusive groups of blocks
 ties      blocks that don't change the welfare, so that all selections are equally good"""
 
+import argparse
 import random
-import sys
-from collections.abc import Callable, Iterable, Iterator, Sequence
+from collections.abc import Callable, Iterable, Iterator
+from itertools import chain
 
-from faults import run_main
-from drawn_books import CLOSE, HOURS, MOST_BLOCKS, MOST_HOURLY, PARTICIPANTS, PERIODS_OF_HOUR
-from drawn_books import DayMarket, DrawnBook, Order, draw_side, parse_number
+from drawn_books import CLOSE, HOURS, MOST_BLOCKS, MOST_HOURLY, PARTICIPANTS, PERIODS_OF_HOUR, DayMarket, DrawnBook, Order, Volumes
+from drawn_books import draw_side, hourly_order, number_up_to, print_day
 
 Span = tuple[int, int]  # from the least to the greatest
 SEED = 20_251_001
-DEEP_HOURLY, THIN_HOURLY = (500, 4_000), (200,)
+FEW_HOURLY, MANY_HOURLY, THIN_HOURLY = 500, 4_000, 200
 
 
 class FamilyMarket(DayMarket):
@@ -33,19 +31,17 @@ class FamilyMarket(DayMarket):
         first = self.rng.randint(1, HOURS - length + 1)
         return self.periods_of(first, first + length)
 
-    def mean_price(self, periods: Sequence[int]) -> float:
-        return sum(map(self.price_at, periods)) / len(periods)
-
     def draw_blocks(self, count: int, hours: Span, sizes: Span, above: Callable[[], float], side: str = "") -> Iterator[Order]:
         """Blocks over a span of this number of hours, with one volume and of this side, or of a random one; `above` draws by how much the
         limit is above the mean price."""
         for number in range(count):
             periods, size = self.draw_span(*hours), self.rng.randint(*sizes)
-            price = round(self.mean_price(periods) + above())
-            yield block_of_alpha(number, side or draw_side(self.rng), price, dict.fromkeys(periods, size))
+            volumes = dict.fromkeys(periods, size)
+            price = round(self.mean_price(volumes) + above())
+            yield block_of_alpha(number, side or draw_side(self.rng), price, volumes)
 
 
-def block_of_alpha(number: int, side: str, price: int, volumes: dict[int, int]) -> Order:
+def block_of_alpha(number: int, side: str, price: int, volumes: Volumes) -> Order:
     return Order("ALPHA", f"BLOCK-{number}", "block", side, price, volumes)
 
 
@@ -53,7 +49,7 @@ def draw_hourly(day: FamilyMarket, number: int) -> Order:
     period = 1 + number % day.periods
     side = "buy" if (number // day.periods) % 2 == 0 else "sell"
     price = day.price_at(period) + round(day.rng.gauss(0, 1_500)) + (700 if side == "buy" else -700)
-    return Order(day.rng.choice(PARTICIPANTS), f"HOUR-{number}", "hour", side, price, {period: day.rng.randint(50, 500)})
+    return hourly_order(day.rng.choice(PARTICIPANTS), number, side, price, period, day.rng.randint(50, 500))
 
 
 def flat_hourly(day: FamilyMarket, number: int) -> Order:
@@ -61,7 +57,7 @@ def flat_hourly(day: FamilyMarket, number: int) -> Order:
     period, rank = 1 + number % day.periods, number // day.periods
     side = "buy" if rank % 2 == 0 else "sell"
     price, volume = (6_000, 50_000) if rank < 2 else (1_000 if side == "buy" else 11_000, 1)
-    return Order("ALPHA", f"HOUR-{number}", "hour", side, price, {period: volume})
+    return hourly_order("ALPHA", number, side, price, period, volume)
 
 
 def draw_market(day: FamilyMarket, count: int, volume: int) -> Iterable[Order]:
@@ -78,9 +74,9 @@ def draw_spread(day: FamilyMarket, count: int, volume: int) -> Iterable[Order]:
 
 
 def draw_nearties(day: FamilyMarket, count: int, volume: int) -> Iterable[Order]:
-    periods = day.periods_of(8, 21)
-    price = round(day.mean_price(periods)) - 300
-    return [block_of_alpha(number, "sell", price + 20 * number, dict.fromkeys(periods, volume // 4)) for number in range(count)]
+    volumes = dict.fromkeys(day.periods_of(8, 21), volume // 4)
+    price = round(day.mean_price(volumes)) - 300
+    return [block_of_alpha(number, "sell", price + 20 * number, volumes) for number in range(count)]
 
 
 def draw_links(day: FamilyMarket, count: int, volume: int) -> Iterable[Order]:
@@ -103,30 +99,33 @@ DRAWS = draw_market, draw_paradox, draw_spread, draw_nearties, draw_links, draw_
 FAMILIES = {draw.__name__.removeprefix("draw_"): draw for draw in DRAWS}
 
 
-def book_of_family(family: str, hourly: int, per_hour: int) -> DrawnBook:
+def book_of_family(family: str, hourly: int, per_hour: int, blocks: int = MOST_BLOCKS) -> DrawnBook:
     name = f"{family} {hourly:,}, {HOURS * per_hour} periods"
-    return DrawnBook(name, family, "make_family.py", [family, str(hourly), str(MOST_BLOCKS), str(per_hour)])
+    return DrawnBook(name, family, "make_family.py", [family, *map(str, (hourly, blocks, per_hour))])
 
 
-DEEP = [book_of_family(family, hourly, per_hour) for family in FAMILIES for hourly in DEEP_HOURLY for per_hour in PERIODS_OF_HOUR]
-THIN = [book_of_family(bond, hourly, per_hour) for bond in ("links", "groups") for hourly in THIN_HOURLY for per_hour in PERIODS_OF_HOUR]
+DEEP = [
+    book_of_family(family, hourly, per_hour)
+    for family in FAMILIES
+    for hourly in (FEW_HOURLY, MANY_HOURLY)
+    for per_hour in PERIODS_OF_HOUR
+]
+THIN = [book_of_family(bond, THIN_HOURLY, per_hour) for bond in ("links", "groups") for per_hour in PERIODS_OF_HOUR]
 
 
 def main() -> None:
-    words = sys.argv[1:]
-    if not 2 <= len(words) <= 4 or words[0] not in FAMILIES:
-        sys.exit(__doc__)
-    family, orders = words[0], parse_number("HOURLY", words[1], range(MOST_HOURLY + 1))
-    count = parse_number("BLOCKS", words[2], range(MOST_BLOCKS + 1)) if len(words) > 2 else MOST_BLOCKS
-    per_hour = parse_number("PERIODS", words[3], PERIODS_OF_HOUR) if len(words) > 3 else 1
-    day = FamilyMarket(per_hour, random.Random(f"{SEED} {family} {orders}"))
-    order = flat_hourly if family == "ties" else draw_hourly
-    volume = max(orders * 275 // day.periods // 20, 10)  # a tenth of that of one side of a period
-    print(f"day,{day.periods},,,,,,,")
-    for number in range(orders):
-        print(order(day, number))
-    print(*FAMILIES[family](day, count, volume), CLOSE, sep="\n")
+    parser = argparse.ArgumentParser(description=__doc__, formatter_class=argparse.RawDescriptionHelpFormatter)
+    parser.add_argument("family", metavar="FAMILY", choices=FAMILIES)
+    parser.add_argument("hourly", type=number_up_to(MOST_HOURLY), help=f"the number of hourly orders, at most {MOST_HOURLY}")
+    parser.add_argument("blocks", type=number_up_to(MOST_BLOCKS), nargs="?", default=MOST_BLOCKS, help="their number (default: %(default)s)")
+    parser.add_argument("periods", metavar="PERIODS", type=int, choices=PERIODS_OF_HOUR, nargs="?", default=1, help="of an hour (default: 1)")
+    given = parser.parse_args()
+    day = FamilyMarket(given.periods, random.Random(f"{SEED} {given.family} {given.hourly}"))
+    order = flat_hourly if given.family == "ties" else draw_hourly
+    volume = max(given.hourly * 275 // day.periods // 20, 10)  # a tenth of that of one side of a period
+    hourly = (order(day, number) for number in range(given.hourly))
+    print_day(day.periods, chain(hourly, FAMILIES[given.family](day, given.blocks, volume), [CLOSE]))
 
 
 if __name__ == "__main__":
-    run_main("make_family.py", main)
+    main()

@@ -8,10 +8,9 @@ import random
 import sys
 from collections.abc import Iterator
 
-from drawn_books import CLOSE, HOURS, PARTICIPANTS, Order, draw_side
+from drawn_books import CLOSE, HOURS, PARTICIPANTS, Order, draw_side, print_day
 
-RECORDS = 10_000
-DAY = f"day,{HOURS},,,,,,,"
+RECORDS, PERIODS_OF_BLOCKS = 10_000, 100
 # Of a hundred commands, how many submit a new order and how many cancel one; the book refuses the rest.
 SUBMITS, CANCELS = 62, 33
 
@@ -40,20 +39,22 @@ def draw_commands(count: int, rng: random.Random) -> Iterator[Order | str]:
 
 def draw_blocks(count: int, rng: random.Random) -> Iterator[Order]:
     for number in range(count):
-        volumes = {period: rng.randint(10_000, 99_999) for period in range(1, 101)}
+        volumes = {period: rng.randint(10_000, 99_999) for period in range(1, PERIODS_OF_BLOCKS + 1)}
         who, side = rng.choice(PARTICIPANTS), draw_side(rng)
         yield Order(who, f"BLOCK-{number}", "block", side, rng.randint(10_000, 99_999), volumes)
 
 
 def main() -> None:
-    kind, rng = sys.argv[1] if sys.argv[1:] else "closed", random.Random(20_240_601)
-    if kind == "blocks":
-        lines = ["day,100,,,,,,,", *draw_blocks(RECORDS, rng)]
-    elif kind == "day":
-        lines = [DAY, *draw_commands(RECORDS - 1, rng)]
-    else:
-        lines = [DAY, *draw_commands(RECORDS - 2, rng), CLOSE]
-    print(*lines, sep="\n")
+    rng = random.Random(20_240_601)
+    match sys.argv[1:]:
+        case []:
+            print_day(HOURS, [*draw_commands(RECORDS - 2, rng), CLOSE])
+        case ["day"]:
+            print_day(HOURS, draw_commands(RECORDS - 1, rng))
+        case ["blocks"]:
+            print_day(PERIODS_OF_BLOCKS, draw_blocks(RECORDS, rng))
+        case _:
+            sys.exit(__doc__)
 
 
 if __name__ == "__main__":

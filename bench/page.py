@@ -10,8 +10,8 @@ from pathlib import Path
 sys.dont_write_bytecode = True
 sys.path[:0] = [str(Path(__file__).resolve().parents[1] / folder) for folder in ("tools", "tests")]  # of `lib` and `shared`
 
-from figures import ONE_RUN, Figure, Verdict, span_text
-from part import Cells, Part
+from figures import ONE_RUN, Figure, Side, Targets, Verdict, span_text, target_of
+from part import Part
 from parts import PARTS
 from records import PartRecord, read_figures, read_part_records
 from running import TOP
@@ -33,18 +33,6 @@ def markdown_table(head: Sequence[str], rows: Iterable[Iterable[str]]) -> str:
     return "".join([first, "|---" * len(head) + "|\n", *others])
 
 
-def table_of_books(cells: Cells, figures: list[Figure]) -> str:
-    """The times of `dam clear` in the cells of their books."""
-    times = {}
-    for figure in figures:
-        if figure.key == "clear" and figure.variant in cells:
-            row, column, more = cells[figure.variant]
-            times[row, column] = figure.value + more
-    rows, columns = (list(dict.fromkeys(pair[at] for pair in times)) for at in (0, 1))
-    lines = [[row, *(times.get((row, column), "") for column in columns)] for row in rows]
-    return markdown_table(["`dam clear` by the default plan, seed 1", *columns], lines)
-
-
 def value_text(figures: list[Figure]) -> str:
     """The value of a figure with its quartiles, or why it has none; or the least and the greatest of several."""
     least, *_, greatest = sorted(2 * figures, key=lambda figure: figure.sort_key)
@@ -55,7 +43,7 @@ def value_text(figures: list[Figure]) -> str:
     return least.value if least.quartiles in ("", ONE_RUN) or len(figures) > 1 else f"{least.value} ({least.quartiles})"
 
 
-def missed_text(figures: list[Figure]) -> str:
+def missed_text(figures: list[Figure], targets: Targets) -> str:
     """How many figures of a kind missed their target, how many are unclear, and which is furthest from the target."""
     wrong = [figure for figure in figures if figure.is_wrong]
     if not wrong:
@@ -64,31 +52,29 @@ def missed_text(figures: list[Figure]) -> str:
         return f"**{wrong[0].verdict.value}**"
     verdicts = collections.Counter(figure.verdict for figure in wrong)
     counts = [f"{verdicts[verdict]} {verdict.value}" for verdict in (Verdict.MISSED, Verdict.UNCLEAR) if verdicts[verdict]]
-    furthest = (min if wrong[0].target.startswith("at least") else max)(wrong, key=lambda figure: figure.sort_key)
+    furthest = (min if target_of(targets, wrong[0].key).side is Side.LEAST else max)(wrong, key=lambda figure: figure.sort_key)
     return f"**{', '.join(counts)}** of {len(figures)}; worst: {furthest.variant}"
 
 
-def table_of_kinds(figures: Iterable[Figure]) -> str:
+def table_of_kinds(figures: Iterable[Figure], targets: Targets) -> str:
     """A row for each kind of figure: those with one name and target."""
     kinds = collections.defaultdict(list)
     for figure in figures:
         kinds[figure.name, figure.target].append(figure)
     names = {kind: each[0].whole_name if len(each) == 1 else each[0].name for kind, each in kinds.items()}
-    rows = ([names[kind], value_text(each), each[0].target, missed_text(each)] for kind, each in kinds.items())
+    rows = ([names[kind], value_text(each), each[0].target, missed_text(each, targets)] for kind, each in kinds.items())
     return markdown_table(["Figure", "Value", "Target", "Missed"], rows)
 
 
 def read_and_compose_section(part: Part) -> str:
-    """What a part measured, its times by books, its figures by kinds, and its picture."""
-    figures = read_figures(part.name)
-    by_books = table_of_books(part.cells, figures) if part.cells else ""
+    """What a part measured, its figures by kinds, and its picture."""
     head = f"## `bench/run {part.name}`\n\n{part.subject}\n"
-    return "\n".join(filter(None, [head, by_books, table_of_kinds(figures), part.picture]))
+    return "\n".join(filter(None, [head, table_of_kinds(read_figures(part.name), part.targets), part.picture]))
 
 
 def read_cells_of_part(record: PartRecord) -> list[str]:
     """The cells of the overview for a part: how many figures are recorded, how many of their targets are missed or unclear, the mean load
-    of the minute before, and the versions of compared programs."""
+    of the minute before, and the versions of its Debian packages."""
     figures = read_figures(record.part)
     counts = collections.Counter(figure.verdict for figure in figures if figure.verdict is not Verdict.NONE)
     unclear = f" ({counts[Verdict.UNCLEAR]} unclear)" if counts[Verdict.UNCLEAR] else ""
@@ -112,7 +98,7 @@ def read_and_compose_page() -> str:
     records = read_part_records()
     parts = [part for part in PARTS.values() if part.name in records]
     measured = [records[part.name] for part in parts]
-    overview = markdown_table(["Part", "Figures", "Missed", "Load", "Compared"], map(read_cells_of_part, measured))
+    overview = markdown_table(["Part", "Figures", "Missed", "Load", "Packages"], map(read_cells_of_part, measured))
     circumstances = "".join(text_of_values(measured, column, words) for column, words in CIRCUMSTANCES.items())
     circumstances = textwrap.fill(circumstances, 140, break_on_hyphens=False) + "\n"
     return "\n".join([HEAD, overview, circumstances, *map(read_and_compose_section, parts)])

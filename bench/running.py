@@ -1,4 +1,4 @@
-"""The settings of the bench, and runs of its programs by turns with their times."""
+"""The measured programs, and runs of programs by turns with their times."""
 
 import math
 import os
@@ -11,14 +11,14 @@ from dataclasses import dataclass
 from pathlib import Path
 from typing import NamedTuple, TypeVar
 
-from faults import BenchFault
+from lib.tool import exits
+from shared.generated_books import generate_book
 
 BENCH = Path(__file__).resolve().parent
 TOP, OUT = BENCH.parent, BENCH / "out"
 
 BASELINE, TWIN, PLAIN_GATE = (f"{OUT}/{name}" for name in ("baseline", "twin", "gate"))
-Plan = tuple[str, str]  # workers, and how many of the first blocks are cut
-DEFAULT_PLAN, ONE_WORKER = ("2", "3"), ("1", "0")
+RUN_SECONDS = 60.0  # after which a run is ended
 
 # By how many bytes a program's stack moves from turn to turn, and over how many places.
 STACK_STEP, STACK_PLACES = 32, 32
@@ -28,22 +28,30 @@ Key = TypeVar("Key", bound=Hashable)
 Result = TypeVar("Result")
 
 
-@dataclass(frozen=True)
-class Settings:
-    """The options of the command line, and the paths of the measured programs. `named` are the programs that the environment names."""
+class BenchFault(exits.Stop):
+    """Ends the bench with a line."""
 
-    limit: float = 60  # seconds after which a run is ended
-    kinds: tuple[str, ...] = ()
-    earlier: str | None = None
-    is_trial: bool = False
-    named: tuple[str, ...] = ()
+    def __init__(self, line: str) -> None:
+        super().__init__(line, exits.FAILED)
+
+
+class Plan(NamedTuple):
+    """The workers of a search, and how many of the first blocks are cut."""
+
+    workers: int
+    cut: int
+
+
+DEFAULT_PLAN, ONE_WORKER = Plan(2, 3), Plan(1, 0)
+
+
+@dataclass(frozen=True)
+class Programs:
+    """The paths of the measured programs."""
+
     dam: str = f"{TOP}/crates/dam_cli/out/dam_cli"
     desk: str = f"{TOP}/crates/dam_desk/out/dam_desk"
     probe: str = f"{OUT}/probe"
-
-    @property
-    def is_recorded(self) -> bool:
-        return not (self.is_trial or self.kinds or self.earlier or self.named)
 
 
 class TimedRun(NamedTuple):
@@ -62,14 +70,21 @@ class TimedRun(NamedTuple):
         return int(reported[name]) / 1e9
 
 
-def run_program(words: Words, limit: float, given: str = os.devnull) -> TimedRun:
+class Solved(NamedTuple):
+    """The greatest welfare that a program found, and its seconds."""
+
+    welfare: int
+    seconds: float
+
+
+def run_program(words: Words, given: str = os.devnull, limit: float = RUN_SECONDS) -> TimedRun:
     """Runs a program on a file. It is a fault if it doesn't end in time."""
-    if run := run_in_time(words, limit, given):
+    if run := run_in_time(words, given, limit):
         return run
     raise BenchFault(f"{' '.join(words)} < {given}: it didn't end in {limit:g} s")
 
 
-def run_in_time(words: Words, limit: float, given: str = os.devnull, padding: int = 0) -> TimedRun | None:
+def run_in_time(words: Words, given: str = os.devnull, limit: float = RUN_SECONDS, padding: int = 0) -> TimedRun | None:
     """Runs a program on a file, or returns None if it doesn't end in time. It is a fault if it fails. The padding is the number of bytes
     that are added to its environment, which move its stack."""
     with open(given, "rb") as text, tempfile.TemporaryFile() as printed, tempfile.TemporaryFile() as errors:
@@ -92,12 +107,11 @@ def run_in_time(words: Words, limit: float, given: str = os.devnull, padding: in
     return done
 
 
-def make_journal(name: str, script: str, *words: object) -> str:
-    """Writes the journal that a script of the bench prints to a file of this name, and returns its path."""
-    path = f"{OUT}/{name}.csv"
-    with open(path, "wb") as made:
-        subprocess.run([f"{BENCH}/{script}", *map(str, words)], stdout=made, check=True)
-    return path
+def make_journal(script: str, *words: object) -> str:
+    """Writes the journal that a script of the bench prints to a file that is named after its words, and returns its path."""
+    path = OUT / f"{'-'.join([script.removesuffix('.py'), *map(str, words)])}.csv"
+    path.write_bytes(generate_book(script, *words))
+    return str(path)
 
 
 def call_in_turns(
@@ -123,21 +137,24 @@ def call_in_turns(
     return found
 
 
+def run_function(words: Words, given: str) -> Callable[[int], TimedRun | None]:
+    """A function that runs a program on a file. Each turn has the program's stack at another place, because the time of a walk varies with
+    that."""
+    return lambda turn: run_in_time(words, given, padding=STACK_STEP * (turn % STACK_PLACES))
+
+
 def run_in_turns(
-    programs: Mapping[Key, Words], limit: float, given: str = os.devnull, most: int = 31, seconds: float = 5.0, longest: float = math.inf
+    programs: Mapping[Key, Words], given: str, most: int = 31, seconds: float = 5.0, longest: float = math.inf
 ) -> dict[Key, list[TimedRun]]:
-    """Runs programs on a file in turns, and returns the runs of each; a program that doesn't end in time has none. Each turn has their
-    stacks at another place, because the time of a walk varies with that."""
-
-    def runs(words: Words) -> Callable[[int], TimedRun | None]:
-        return lambda turn: run_in_time(words, limit, given, STACK_STEP * (turn % STACK_PLACES))
-
-    return call_in_turns({name: runs(words) for name, words in programs.items()}, most, seconds, longest)
+    """Runs programs on a file in turns, and returns the runs of each; a program that doesn't end in time has none."""
+    return call_in_turns({name: run_function(words, given) for name, words in programs.items()}, most, seconds, longest)
 
 
 def measure_peak_mebibytes(words: Words, given: str) -> float:
     """The peak memory of a program in MiB. (The system's report on a child of this process also counts this process's pages.)"""
     with open(given, "rb") as text, tempfile.NamedTemporaryFile("r") as used:
         timed = ["/usr/bin/time", "-f", "%M", "-o", used.name, *words]
-        subprocess.run(timed, stdin=text, stdout=subprocess.DEVNULL, stderr=subprocess.DEVNULL, check=True)
+        ran = subprocess.run(timed, stdin=text, stdout=subprocess.DEVNULL, stderr=subprocess.DEVNULL)
+        if ran.returncode:
+            raise BenchFault(f"{' '.join(words)} < {given}: status {ran.returncode}")
         return int(used.read()) / 1024

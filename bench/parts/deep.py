@@ -11,30 +11,24 @@ search of a few milliseconds."""
 
 import make_blocks
 import make_family
-import timed_books
-from drawn_books import HOURS, PERIODS_OF_HOUR
 from figures import Figures, at_least, at_most
-from make_blocks import USUAL_KINDS, USUAL_SPREAD, book_of_kind
 from part import Part
-from running import DEFAULT_PLAN, TWIN, Settings
+from running import DEFAULT_PLAN, TWIN, Programs
+from timed_books import LEAST_OF_HIGHS, TimedBook, add_worst_enumeration
 
-TARGETS = {**timed_books.TARGETS, "clear": at_most(0.15), "twin": at_most(2), "enumeration": at_most(0.1)}
-TARGETS["highs"] = at_least(timed_books.LEAST_OF_HIGHS)
+# Seconds, and times as long.
+TARGETS = {"clear": at_most(0.15), "highs": at_least(LEAST_OF_HIGHS), "twin": at_most(2), "enumeration": at_most(0.1)}
 BOOKS = [*make_blocks.DEEP, *make_family.DEEP]
-CELLS = {
-    book_of_kind(kind, USUAL_SPREAD, 1, per_hour).name: (kind, f"{HOURS * per_hour} periods, spread {USUAL_SPREAD}", "")
-    for kind in USUAL_KINDS
-    for per_hour in PERIODS_OF_HOUR
-}
 
 
-def measure(figures: Figures, settings: Settings) -> None:
-    books = timed_books.make_asked_books(BOOKS, settings)
-    for book in books:
-        book.measure(figures, [TWIN, *DEFAULT_PLAN] if book.drawn in make_family.DEEP else ())
+def measure(figures: Figures, programs: Programs) -> None:
+    books = []
+    for drawn in BOOKS:
+        books.append(book := TimedBook(drawn, programs.dam))
+        book.measure(figures, [TWIN, *map(str, DEFAULT_PLAN)] if drawn in make_family.DEEP else ())
         book.measure_highs(figures)
-    timed_books.add_comparisons_of_all(figures, books)
+    add_worst_enumeration(figures, books)
 
 
-PROGRAMS, PACKAGES = ["dam", "twin"], ["python3-scipy", "python3-numpy"]
-PART = Part("deep", __doc__, "10 to 20 minutes", PROGRAMS, targets=TARGETS, measure=measure, packages=PACKAGES, books=BOOKS, cells=CELLS)
+PACKAGES = ["python3-scipy", "python3-numpy"]
+PART = Part("deep", __doc__, "10 to 20 minutes", ["dam", "twin"], targets=TARGETS, measure=measure, packages=PACKAGES)

@@ -8,10 +8,10 @@ blocks."""
 
 import make_blocks
 import make_family
-from drawn_books import HOURS, PERIODS_OF_HOUR
+from drawn_books import HOURS, PERIODS_OF_HOUR, DrawnBook
 from figures import COUNT, Figures, Label, at_most
 from part import Part
-from running import ONE_WORKER, TWIN, Settings, make_journal, run_program
+from running import ONE_WORKER, TWIN, Programs, make_journal, run_program
 
 BLOCK_COUNTS = (8, 12, 16, 20, 24)
 TARGETS = {"nodes": at_most(2 ** (BLOCK_COUNTS[-1] + 1) // 100)}
@@ -23,22 +23,26 @@ BASE = "base"
 FAMILIES_AND_BASE = [*make_family.FAMILIES, BASE]
 
 
-def make_book_and_count_nodes(family: str, per_hour: int, blocks: int, limit: float) -> int:
-    """The nodes of a book, which is written first."""
-    script, words = "make_family.py", [family, 500, blocks, per_hour]
+def book_of(family: str, per_hour: int, blocks: int) -> DrawnBook:
     if family == BASE:
-        script, words = "make_blocks.py", [BASE, make_blocks.USUAL_SPREAD, 1, per_hour, blocks]
-    path = make_journal(f"growth-{family}-{per_hour}-{blocks}", script, *words)
-    return int(run_program([TWIN, *ONE_WORKER], limit, path).text.split()[-1])
+        return make_blocks.book_of_kind(BASE, make_blocks.USUAL_SPREAD, 1, per_hour, blocks=blocks)
+    return make_family.book_of_family(family, make_family.FEW_HOURLY, per_hour, blocks)
 
 
-def measure(figures: Figures, settings: Settings) -> None:
+def run_twin_for_nodes(drawn: DrawnBook) -> int:
+    """The nodes that the twin visits."""
+    run = run_program([TWIN, *map(str, ONE_WORKER)], make_journal(drawn.script, *drawn.words))
+    return int(run.text.split()[-1])
+
+
+def measure(figures: Figures, _: Programs) -> None:
     for family in FAMILIES_AND_BASE:
         for per_hour in PERIODS_OF_HOUR:
-            *smaller, most = (make_book_and_count_nodes(family, per_hour, blocks, settings.limit) for blocks in BLOCK_COUNTS)
+            *smaller, most = (run_twin_for_nodes(book_of(family, per_hour, blocks)) for blocks in BLOCK_COUNTS)
             details = "; ".join(f"{nodes:,} with {blocks}" for blocks, nodes in zip(BLOCK_COUNTS, smaller))
             label = Label("nodes", f"nodes with {BLOCK_COUNTS[-1]} blocks", f"{family}, {HOURS * per_hour} periods")
             figures.add_median(label, [most], COUNT, details)
 
 
-PART = Part("growth", __doc__, "a minute", ["twin"], targets=TARGETS, measure=measure, picture=PICTURE)
+PACKAGES = ["python3-matplotlib"]  # for the picture
+PART = Part("growth", __doc__, "a minute", ["twin"], targets=TARGETS, measure=measure, packages=PACKAGES, picture=PICTURE)

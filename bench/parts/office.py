@@ -10,11 +10,9 @@ import statistics
 import subprocess
 import sys
 
-from faults import BenchFault
 from figures import PER_SECOND, Figures, Label, at_least, at_most
 from part import Part
-from running import BENCH, Settings, call_in_turns
-from lib.tool import modules
+from running import BENCH, Programs, call_in_turns
 from shared.office_load import OfficeLoad
 from shared.served_office import ServedOffice, running_office
 
@@ -41,14 +39,14 @@ def run_load(office: ServedOffice, count: int) -> tuple[float, float]:
     return len(load.seconds) / took, statistics.median(load.seconds)
 
 
-def serve_and_load(settings: Settings, kind: type[ServedOffice]) -> tuple[float, float]:
-    with running_office(settings.dam, settings.desk, kind=kind, count=CONNECTIONS) as office:
+def serve_and_load(programs: Programs, kind: type[ServedOffice]) -> tuple[float, float]:
+    with running_office(programs.dam, programs.desk, kind=kind, count=CONNECTIONS) as office:
         office.start()
         return run_load(office, COMMANDS)
 
 
-def measure_comparison(figures: Figures, settings: Settings) -> None:
-    loads = {"ours": lambda _: serve_and_load(settings, ServedOffice), "theirs": lambda _: serve_and_load(settings, ServedPlain)}
+def measure_comparison(figures: Figures, programs: Programs) -> None:
+    loads = {"ours": lambda _: serve_and_load(programs, ServedOffice), "theirs": lambda _: serve_and_load(programs, ServedPlain)}
     found = call_in_turns(loads, TURNS, math.inf)
     (our_rates, our_times), (their_rates, their_times) = (zip(*results) for results in found.values())
     name = "an office compared with a plain one"
@@ -56,8 +54,8 @@ def measure_comparison(figures: Figures, settings: Settings) -> None:
     figures.add_ratio(Label("time", f"{name}, time of a command"), our_times, their_times)
 
 
-def measure_whole_day(figures: Figures, settings: Settings) -> None:
-    with running_office(settings.dam, settings.desk, count=CONNECTIONS) as office:
+def measure_whole_day(figures: Figures, programs: Programs) -> None:
+    with running_office(programs.dam, programs.desk, count=CONNECTIONS) as office:
         office.start()
         rate, _ = run_load(office, WHOLE_DAY)
         figures.add_median(Label("day", "commands of a day that an office takes"), [rate], PER_SECOND)
@@ -66,11 +64,10 @@ def measure_whole_day(figures: Figures, settings: Settings) -> None:
         figures.add_median(Label("close", "from the close to the results"), [office.close_day()])
 
 
-def measure(figures: Figures, settings: Settings) -> None:
-    if lacking := [module for module in ("aiohttp", "cryptography", "jinja2") if not modules.has_module(module)]:
-        raise BenchFault(f"office: {modules.missing_message(*lacking)}")
-    measure_comparison(figures, settings)
-    measure_whole_day(figures, settings)
+def measure(figures: Figures, programs: Programs) -> None:
+    measure_comparison(figures, programs)
+    measure_whole_day(figures, programs)
 
 
-PART = Part("office", __doc__, "a minute", ["dam", "desk"], targets=TARGETS, measure=measure, packages=["python3-aiohttp", "libsqlite3-0"])
+PACKAGES = ["python3-aiohttp", "python3-cryptography", "python3-jinja2", "libsqlite3-0"]
+PART = Part("office", __doc__, "a minute", ["dam", "desk"], targets=TARGETS, measure=measure, packages=PACKAGES)

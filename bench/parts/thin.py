@@ -7,29 +7,23 @@ The books are drawn by make_blocks.py and make_family.py, and only the ten harde
 at random for 20 minutes of one processor, those on which a plain search with bounds by prices took longest. If all limits are equal, a
 search looks for a subset of the volumes with the best sum, and hardly any bound helps; the lines of such books say so."""
 
-import itertools
-
 import make_blocks
 import make_family
-import timed_books
 from figures import Figures, at_most
-from make_blocks import THIN_SPREADS, USUAL_KINDS, book_of_kind
 from part import Part
-from running import Settings
+from running import Programs
+from timed_books import TimedBook, add_worst_enumeration
 
-TARGETS = {**timed_books.TARGETS, "clear": at_most(3), "enumeration": at_most(0.5)}  # seconds; times as long
-BOOKS, PACKAGES = [*make_blocks.THIN, *make_family.THIN], ["python3-numpy"]
-CELLS = {
-    book_of_kind(kind, spread, 1, 4, orders).name: (kind, f"96 periods, {orders:,} hourly orders", f" (spread {spread})")
-    for kind, orders, spread in itertools.product(USUAL_KINDS, (500, 1_500), THIN_SPREADS)
-}
+TARGETS = {"clear": at_most(3), "enumeration": at_most(0.5)}  # seconds; times as long
+BOOKS = [*make_blocks.THIN, *make_family.THIN]
 
 
-def measure(figures: Figures, settings: Settings) -> None:
-    books = timed_books.make_asked_books(BOOKS, settings)
-    for book in books:
+def measure(figures: Figures, programs: Programs) -> None:
+    books = []
+    for drawn in BOOKS:
+        books.append(book := TimedBook(drawn, programs.dam))
         book.measure(figures)
-    timed_books.add_comparisons_of_all(figures, books)
+    add_worst_enumeration(figures, books)
 
 
-PART = Part("thin", __doc__, "5 to 10 minutes", ["dam"], targets=TARGETS, measure=measure, packages=PACKAGES, books=BOOKS, cells=CELLS)
+PART = Part("thin", __doc__, "5 to 10 minutes", ["dam"], targets=TARGETS, measure=measure, packages=["python3-numpy"])

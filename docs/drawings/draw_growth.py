@@ -8,7 +8,7 @@ from pathlib import Path
 
 TOP = Path(__file__).resolve().parents[2]
 sys.dont_write_bytecode = True
-sys.path[:0] = [str(TOP / "tools"), str(TOP / "bench")]
+sys.path[:0] = [str(TOP / folder) for folder in ("tools", "tests", "bench")]
 
 import records
 from lib.tool import exits, modules

@@ -15,29 +15,32 @@ from pathlib import Path
 from support import TOP, load_tool, worked
 
 sys.path.insert(0, f"{TOP}/bench")
+import highs
+import make_family
 import running
 import timed_books
-from faults import BenchFault
-from figures import Figures, Label, Target, at_least, at_most, multiple_text
-from lib.tool import modules
+from figures import Figures, Label, Side, Target, at_least, at_most, multiple_text
+from lib.tool import exits, modules
 from part import Part
+from running import BenchFault, Solved
+from timed_books import Program
 
-HIGHS, THIN = TOP / "bench" / "highs.py", worked.read_cases_of_file("thin")
+THIN = worked.read_cases_of_file("thin")
 
 
 class Timed(timed_books.TimedBook):
     """A book whose runs took these seconds; those of `dam clear` and HiGHS, `answer` is that of HiGHS."""
 
-    def __init__(self, name, answer="", **walls):
-        self.walls, self.settings, self.path, self.answer = walls, running.Settings(), "", answer
+    def __init__(self, name, answer=None, **seconds):
+        self.seconds, self.answer = {Program[key.upper()]: each for key, each in seconds.items()}, answer
         self.drawn = types.SimpleNamespace(name=name, note="")
 
-    def run_in_turns_with_dam(self, rivals, limit):
-        highs = [running.TimedRun(self.answer.encode(), b"highs 4000000000\n", 5.0, 5.0)] if self.answer else []
-        return {"dam": [running.TimedRun(b"welfare,7\n", b"", wall, wall) for wall in self.walls["dam"]], "highs": highs}
+    def run_in_turns_with_highs(self, limit):
+        clears = [Solved(7, each) for each in self.seconds[Program.CLEAR]]
+        return {Program.CLEAR: clears, Program.HIGHS: [] if self.answer is None else [Solved(self.answer, 4.0)]}
 
 
-class Lines(unittest.TestCase):
+class Printed(unittest.TestCase):
     def printed(self, show, **targets):
         """The lines that are printed and added, each as a list of its fields."""
         figures, printed = Figures(targets), io.StringIO()
@@ -47,6 +50,8 @@ class Lines(unittest.TestCase):
             self.assertEqual(line.split(), " ".join(figure.line).split())
         return [list(figure.line) for figure in figures.added]
 
+
+class Lines(Printed):
     def test_a_missed_multiple_has_no_equal_figure(self):
         """And one that holds has two digits."""
         for value, shown in ((0.1734, ["0.173 x", "at most 0.167 x", "MISSED"]), (0.1634, ["0.16 x", "at most 0.17 x", "holds"])):
@@ -60,8 +65,8 @@ class Lines(unittest.TestCase):
 
     def test_a_target_between_the_quartiles_is_unclear(self):
         """Both for a figure that may be at most so much, and for one that must be at least so much."""
-        targets = {("most", 4): "holds", ("most", 3): "unclear", ("most", 1): "MISSED"}
-        targets |= {("least", 2): "holds", ("least", 4): "unclear", ("least", 5): "MISSED"}
+        targets = {(Side.MOST, 4): "holds", (Side.MOST, 3): "unclear", (Side.MOST, 1): "MISSED"}
+        targets |= {(Side.LEAST, 2): "holds", (Side.LEAST, 4): "unclear", (Side.LEAST, 5): "MISSED"}
         runs = Label("runs", "runs")
         for target, verdict in targets.items():
             (line,) = self.printed(lambda figures: figures.add_ratio(runs, [1.0, 2.0, 3.0, 4.0, 5.0], [1.0]), runs=Target(*target))
@@ -85,59 +90,84 @@ class Lines(unittest.TestCase):
             self.assertEqual((line[1], line[4]), ("> 60 s", verdict))
 
     def test_the_times_of_a_book(self):
-        book, targets = Timed("a", dam=[1.0, 3.0, 2.0], twin=[4.0], earlier=[]), {"clear": at_most(3), "twin": at_most(0.4)}
-        clear, earlier, twin = self.printed(book.add_times, **targets)
+        book, targets = Timed("a", clear=[1.0, 3.0, 2.0], twin=[4.0]), {"clear": at_most(3), "twin": at_most(0.4)}
+        clear, twin = self.printed(book.add_seconds, **targets)
         self.assertEqual(clear, ["dam clear: a", "2 s", "1.5 to 2.5 s", "at most 3 s", "holds", ""])
-        self.assertEqual(earlier, ["dam clear compared with the earlier program: a", "?", "", "", "", "one of them didn't end in 60 s"])
         self.assertEqual(twin[1:5], ["0.50 x", "0.38 to 0.62 x", "at most 0.40 x", "unclear"])
-        self.assertEqual([line[1] for line in self.printed(Timed("a", dam=[], twin=[4.0]).add_times, **targets)], ["> 60 s", "?"])
+        clear, twin = self.printed(Timed("a", clear=[], twin=[4.0]).add_seconds, **targets)
+        self.assertEqual(clear[1], "> 60 s")
+        self.assertEqual(twin, ["dam clear compared with the twin: a", "?", "", "", "", "one of them didn't end in 60 s"])
 
-    def test_the_worst_of_the_enumerations_and_the_sums(self):
-        books = [Timed("a", dam=[1.0], enumeration=[8.0]), Timed("b", dam=[4.0], enumeration=[2.0]), Timed("c", dam=[9.0])]
-        (line,) = self.printed(lambda figures: timed_books.add_comparisons_of_all(figures, books), enumeration=at_most(0.5))
+    def test_the_worst_of_the_enumerations(self):
+        books = [Timed("a", clear=[1.0], enumeration=[8.0]), Timed("b", clear=[4.0], enumeration=[2.0]), Timed("c", clear=[9.0])]
+        (line,) = self.printed(lambda figures: timed_books.add_worst_enumeration(figures, books), enumeration=at_most(0.5))
         self.assertEqual(line[:2], ["dam clear compared with the enumeration, the worst of 2 books: b", "2.00 x"])
-        books = [Timed("a", dam=[1.0, 3.0, 2.0], earlier=[8.0]), Timed("b", dam=[4.0], earlier=[4.0]), Timed("c", dam=[0.5])]
-        (line,) = self.printed(lambda figures: timed_books.add_comparisons_of_all(figures, books), earlier=at_most(0.6))
-        name = "dam clear compared with the earlier program: all books together"
-        self.assertEqual(line, [name, "0.50 x", "one run", "at most 0.60 x", "holds", "6 s and 12 s"])
-
-    def test_a_run_that_did_not_end_counts_as_the_limit(self):
-        books = [Timed("a", dam=[1.0], earlier=[]), Timed("b", dam=[], earlier=[1.0])]
-        (line,) = self.printed(lambda figures: timed_books.add_comparisons_of_all(figures, books), earlier=at_most(2))
-        self.assertEqual(line[1:], ["1.00 x", "one run", "at most 2.00 x", "holds", "61 s and 61 s; 1 of 2 didn't end"])
+        self.assertEqual(self.printed(lambda figures: timed_books.add_worst_enumeration(figures, books[2:])), [])
 
     def test_the_answers_of_highs(self):
-        figures = {"7": ["2.00 x", "MISSED", "4 s and 2 s"], "6": ["2.00 x", "MISSED", "4 s and 2 s; it finds less welfare, 6 of 7"]}
-        figures |= {"gave up": ["> 30.00 x", "holds", ""], "": ["> 30.00 x", "holds", ""]}
-        figures |= {"failed": ["?", "", "failed"], "missing: python3-scipy": ["?", "", "missing: python3-scipy"]}
-        for answer, wanted in figures.items():
-            (line,) = self.printed(Timed("a", answer, dam=[2.0]).measure_highs, highs=at_least(20))
+        figures = {7: ["2.00 x", "MISSED", "4 s and 2 s"], 6: ["2.00 x", "MISSED", "4 s and 2 s; it finds less welfare, 6 of 7"]}
+        for answer, wanted in {**figures, None: ["> 30.00 x", "holds", ""]}.items():
+            (line,) = self.printed(Timed("a", answer, clear=[2.0]).measure_highs, highs=at_least(20))
             self.assertEqual([line[1], *line[4:]], wanted, answer)
         with self.assertRaisesRegex(BenchFault, "a: HiGHS finds the welfare 8, and dam clear 7"):
-            Timed("a", "8", dam=[2.0]).measure_highs(Figures({}))
+            Timed("a", 8, clear=[2.0]).measure_highs(Figures({}))
+
+
+class Comparisons(Printed):
+    """With a program that was built before a change."""
+
+    @classmethod
+    def setUpClass(cls):
+        cls.tool = load_tool("../bench/compare-programs")
+
+    def test_the_sums(self):
+        """Of the medians and of both quartiles."""
+        books = [Timed("a", clear=[1.0, 3.0, 2.0], before=[8.0]), Timed("b", clear=[4.0], before=[4.0])]
+        for limit, verdict in ((0.6, "holds"), (0.5, "unclear"), (0.4, "MISSED")):
+            (line,) = self.printed(lambda figures: self.tool.add_sum(figures, books), before=at_most(limit))
+            wanted = ["0.50 x", "0.46 to 0.54 x", f"at most {limit:.2f} x", verdict, "6 s and 12 s"]
+            self.assertEqual(line, ["dam clear compared with the program before: all books together", *wanted])
+
+    def test_a_run_that_did_not_end_counts_as_the_limit(self):
+        books = [Timed("a", clear=[1.0], before=[]), Timed("b", clear=[], before=[1.0]), Timed("c", clear=[1.0], before=[1.0])]
+        (line,) = self.printed(lambda figures: self.tool.add_sum(figures, books), before=at_most(2))
+        self.assertEqual(line[1:], ["1.00 x", "one run", "at most 2.00 x", "holds", "62 s and 62 s; 2 of 3 didn't end"])
+
+    def test_a_book_with_other_results_has_a_note(self):
+        drawn = make_family.book_of_family("ties", 10, 1, 2)
+        with tempfile.TemporaryDirectory() as folder, unittest.mock.patch.object(running, "OUT", Path(folder)):
+            before, same, other = (Path(folder, name) for name in ("before", "same", "other"))
+            for path, said in (before, "one"), (same, "one"), (other, "two"):
+                path.write_text(f"#!/bin/sh\necho {said}\n")
+                path.chmod(0o755)
+            for after, noted in (same, False), (other, True):
+                (line,) = self.printed(lambda figures: self.tool.measure_book(figures, drawn, before, after), before=at_most(1_000))
+                self.assertEqual((line[0], line[4]), ("dam clear compared with the program before: ties 10, 24 periods", "holds"))
+                self.assertEqual(line[5].endswith("; other results"), noted)
 
 
 class Programs(unittest.TestCase):
     def test_a_program_that_fails_ends_the_bench(self):
         for words, said in (["false"], "false < /dev/null: status 1, "), (["sh", "-c", "echo why >&2; exit 3"], "status 3, why\n"):
             with self.assertRaisesRegex(BenchFault, said):
-                running.run_program(words, 60)
+                running.run_program(words)
 
     def test_a_time_that_a_program_does_not_print_ends_the_bench(self):
-        run = running.run_program(["sh", "-c", "echo looks 1500000000 >&2"], 60)
+        run = running.run_program(["sh", "-c", "echo looks 1500000000 >&2"])
         self.assertEqual(run.reported_seconds("looks"), 1.5)
         with self.assertRaisesRegex(BenchFault, "no time of 'calls'"):
             run.reported_seconds("calls")
 
     def test_a_program_that_does_not_end_is_ended(self):
-        self.assertIsNone(running.run_in_time(["sleep", "60"], 0.1))
+        self.assertIsNone(running.run_in_time(["sleep", "60"], limit=0.1))
         with self.assertRaisesRegex(BenchFault, "sleep 60 < /dev/null: it didn't end in 0.1 s"):
-            running.run_program(["sleep", "60"], 0.1)
+            running.run_program(["sleep", "60"], limit=0.1)
 
     def test_a_fault_ends_the_bench_with_a_line(self):
-        ran = subprocess.run([TOP / "bench" / "run", "thin", "shaped"], env={**os.environ, "DAM": "false"}, capture_output=True, text=True)
-        self.assertEqual(ran.returncode, 1)
-        self.assertRegex(ran.stderr, r"\Abench/run: false clear < .*\.csv: status 1, \n\Z")
+        programs = {"DAM": "/bin/false", "DAM_DESK": "/bin/false"}
+        ran = subprocess.run([TOP / "bench" / "run", "desk"], env={**os.environ, **programs}, capture_output=True, text=True)
+        self.assertEqual(ran.returncode, exits.FAILED)
+        self.assertRegex(ran.stderr, r"\Abench/run: \S*false \S*/day.desk < .*\.csv: status 1, \n\Z")
 
     def test_the_status_says_whether_a_target_is_missed(self):
         """Each missed or unclear figure has a line at the end; an unclear one leaves the status 0."""
@@ -145,24 +175,25 @@ class Programs(unittest.TestCase):
         for seconds, status, verdict in (([1.0], 0, None), ([1.0, 2.0, 3.0], 0, "unclear"), ([3.0], 1, "MISSED")):
             measure = lambda figures, _: figures.add_median(Label("wait", "a wait", "long"), seconds)
             part = Part("waits", "Waits.", duration="", programs=[], targets={"wait": at_most(2)}, measure=measure)
-            printed, settings = io.StringIO(), running.Settings(is_trial=True)
-            with unittest.mock.patch.object(tool, "parse_settings", lambda: ([part], settings)), contextlib.redirect_stdout(printed):
-                with self.assertRaises(SystemExit) as ended:
-                    tool.main()
-            self.assertEqual(ended.exception.code, status)
+            printed = io.StringIO()
+            with unittest.mock.patch.object(tool, "parse_arguments", lambda: ([part], {}, False)), contextlib.redirect_stdout(printed):
+                self.assertEqual(tool.main(), status)
             again = [line.split("\t") for line in printed.getvalue().splitlines() if "\t" in line]
             self.assertEqual([(line[0], line[4]) for line in again], [("a wait: long", verdict)] if verdict else [])
 
-    def test_an_unknown_kind_is_a_fault(self):
-        for words, said in (["thin", "no"], "KIND is one of base peaks .*"), (["desk", "base"], "desk takes no KIND"):
-            ran = subprocess.run([TOP / "bench" / "run", *words], capture_output=True, text=True)
-            self.assertEqual(ran.returncode, 2)
-            self.assertRegex(ran.stderr, f"run: error: {said}\n\\Z")
+    def test_a_trial_or_another_program_is_not_recorded(self):
+        tool = load_tool("../bench/run")
+        for words, named, is_recorded in ([], {}, True), (["--try"], {}, False), ([], {"DAM": "/bin/dam"}, False), ([], {"PROBE": "p"}, False):
+            with unittest.mock.patch.object(sys, "argv", ["run", *words, "thin"]), unittest.mock.patch.dict(os.environ, named, clear=True):
+                parts, programs, found = tool.parse_arguments()
+            self.assertEqual(([part.name for part in parts], len(programs), found), (["thin"], len(named), is_recorded))
 
-    def test_a_trial_a_kind_an_earlier_program_or_another_one_is_not_recorded(self):
-        self.assertTrue(running.Settings().is_recorded)
-        for others in ({"is_trial": True}, {"kinds": ("base",)}, {"earlier": "dam"}, {"named": ("dam",)}):
-            self.assertFalse(running.Settings(**others).is_recorded, others)
+    def test_a_part_needs_its_packages(self):
+        tool = load_tool("../bench/run")
+        part = Part("waits", "Waits.", duration="", programs=[], targets={}, measure=print, packages=["python3-numpy", "libsqlite3-0"])
+        with unittest.mock.patch.object(tool.modules, "exec_or_require_modules") as required:
+            tool.require_packages([part])
+        required.assert_called_once_with("numpy")
 
     def test_the_probe_is_built_again_by_sums_and_not_by_dates(self):
         tool = load_tool("../bench/build-probe")
@@ -182,21 +213,26 @@ class Programs(unittest.TestCase):
         with tempfile.TemporaryDirectory() as folder:
             gate, book = f"{folder}/gate", Path(folder, "book.csv")
             subprocess.run(["rustc", "-O", "--edition", "2024", "-o", gate, bench / "plain" / "gate.rs"], check=True)
-            book.write_bytes(running.run_program([f"{bench}/make_family.py", "market", "200", "0"], 60).text)
-            self.assertRegex(running.run_program([gate, "1", "100"], 60, book).stderr, rb"\Alooks \d+\n\Z")
+            book.write_bytes(running.run_program([f"{bench}/make_family.py", "market", "200", "0"]).text)
+            self.assertRegex(running.run_program([gate, "1", "100"], book).stderr, rb"\Alooks \d+\n\Z")
             with self.assertRaisesRegex(BenchFault, "the gate is full"):
-                running.run_program([gate, "1", str(2 * 10**7)], 60, book)
+                running.run_program([gate, "1", str(2 * 10**7)], book)
 
 
-@unittest.skipUnless(modules.has_module("scipy") or modules.run_and_see_if_debian_has("scipy"), "scipy is missing (Debian's python3-scipy)")
+@unittest.skipUnless(modules.has_module("scipy"), "scipy is missing (Debian's python3-scipy)")
 class Highs(unittest.TestCase):
     def test_highs_finds_the_same_welfare(self):
         for case in THIN.values():
             with self.subTest(case.name), tempfile.NamedTemporaryFile() as journal:
                 Path(journal.name).write_bytes(case.stdin)
-                ran = subprocess.run([sys.executable, HIGHS, journal.name, "60"], capture_output=True, text=True, check=True)
-                self.assertIn(f"\nwelfare,{ran.stdout}", case.right_stdout.decode())
-                self.assertRegex(ran.stderr, r"\Ahighs \d+\n\Z")
+                solved = highs.run_highs(journal.name, 60)
+                self.assertIn(f"\nwelfare,{solved.welfare}\n", case.right_stdout.decode())
+                self.assertGreater(solved.seconds, 0)
+
+    def test_highs_gives_up_at_the_limit(self):
+        with tempfile.NamedTemporaryFile() as journal:
+            Path(journal.name).write_bytes(next(iter(THIN.values())).stdin)
+            self.assertIsNone(highs.run_highs(journal.name, 1e-9))
 
 
 if __name__ == "__main__":

@@ -29,14 +29,15 @@ def make_family(name, orders, *more):
 class Family(unittest.TestCase):
     def test_arguments_that_make_no_day_are_refused(self):
         for words, said in (
-            (["ties", "x"], "HOURLY is 'x' and should be a number from 0 to 4000"),
-            (["ties", "4001"], "HOURLY is '4001' and should be a number from 0 to 4000"),
-            (["ties", "10", "25"], "BLOCKS is '25' and should be a number from 0 to 24"),
-            (["ties", "10", "-1"], "BLOCKS is '-1' and should be a number from 0 to 24"),
-            (["ties", "10", "24", "3"], "PERIODS is '3' and should be 1 or 4"),
+            (["ties", "x"], "hourly: 'x' isn't a number from 0 to 4000"),
+            (["ties", "4001"], "hourly: '4001' isn't a number from 0 to 4000"),
+            (["ties", "10", "25"], "blocks: '25' isn't a number from 0 to 24"),
+            (["ties", "10", "-1"], "blocks: '-1' isn't a number from 0 to 24"),
+            (["ties", "10", "24", "3"], "PERIODS: invalid choice: 3 (choose from"),
         ):
             ran = subprocess.run([sys.executable, MAKE_FAMILY, *words], capture_output=True, text=True)
-            self.assertEqual((ran.returncode, ran.stdout, ran.stderr), (1, "", f"make_family.py: {said}\n"))
+            self.assertEqual((ran.returncode, ran.stdout), (2, ""))
+            self.assertIn(f"\nmake_family.py: error: argument {said}", ran.stderr)
         for words, periods in (["links", "0", "0"], 24), (["links", "4000", "24", "4"], 96):
             read = journal.parse_journal(make_family(*words))
             self.assertEqual((read.periods, set(book.book_and_refusals(read)[1])), (periods, {None}))
@@ -51,14 +52,16 @@ class Blocks(unittest.TestCase):
 
     def test_arguments_that_make_no_day_are_refused(self):
         for words, said in (
-            (["base", "x", "1"], "SPREAD is 'x' and should be a number from 0 to 10000"),
-            (["base", "5", "-1"], "SEED is '-1' and should be a number from 0 to 1000000"),
-            (["base", "5", "1", "2"], "PERIODS is '2' and should be 1 or 4"),
-            (["base", "5", "1", "1", "25"], "BLOCKS is '25' and should be a number from 0 to 24"),
-            (["base", "5", "1", "1", "24", "4001"], "HOURLY is '4001' and should be a number from 0 to 4000"),
-            (["base", "5", "1", "1", "24", "200", "no"], "BONDS is 'no' and should be one of free links groups both"),
+            (["base", "x", "1"], "spread: 'x' isn't a number from 0 to 10000"),
+            (["base", "5", "-1"], "seed: '-1' isn't a number from 0 to 1000000"),
+            (["base", "5", "1", "2"], "PERIODS: invalid choice: 2 (choose from"),
+            (["base", "5", "1", "1", "25"], "blocks: '25' isn't a number from 0 to 24"),
+            (["base", "5", "1", "1", "24", "4001"], "hourly: '4001' isn't a number from 0 to 4000"),
+            (["base", "5", "1", "1", "24", "200", "no"], "BONDS: invalid choice: 'no' (choose from"),
         ):
-            self.assertEqual(self.make_blocks(*words), (1, "", f"make_blocks.py: {said}\n"))
+            status, text, errors = self.make_blocks(*words)
+            self.assertEqual((status, text), (2, ""))
+            self.assertIn(f"\nmake_blocks.py: error: argument {said}", errors)
 
     def test_the_classes_of_periods(self):
         """Periods in each of which every block has the same volume."""

@@ -78,11 +78,11 @@ class Measured(unittest.TestCase):
                 self.assertTrue(program in ("dam", "desk", "probe") or (records.BENCH / "plain" / f"{program}.rs").exists(), program)
 
     def test_every_figure_is_one_that_its_part_measures(self):
-        """A part has a target for each key, or for its first word; and for each target that isn't of an earlier program it has a figure."""
+        """A part has a target for each key, or for its first word; and for each target it has a figure."""
         for part in PARTS.values():
             keys = {figure.key for figure in records.read_figures(part.name)}
             of_targets = {key if key in part.targets else key.partition("/")[0] for key in keys}
-            self.assertEqual(of_targets, {key for key in part.targets if not key.startswith("earlier")}, part.name)
+            self.assertEqual(of_targets, {*part.targets}, part.name)
 
     def test_the_target_of_every_figure_is_that_of_its_part(self):
         for part in PARTS.values():
@@ -174,8 +174,6 @@ class Measured(unittest.TestCase):
         self.assertEqual((record.commit, record.versions), ("git with changes", "python3-scipy dpkg-query; python3-numpy dpkg-query"))
         self.assertRegex(text, r"\| deep \| \[5\]\(../bench/measured/deep.csv\) \| 1 of 5 \(1 unclear\) \| .* \| python3-scipy dpkg-query")
         self.assertIn("\n\nThe time of `dam clear` on 98 books of deep markets", text)
-        self.assertIn("| `dam clear` by the default plan, seed 1 | 24 periods, spread 50 | 96 periods, spread 50 |\n", text)
-        self.assertIn("\n|---|---|---|\n| base | 2 ms | 8 ms |\n", text)
         self.assertIn("| dam clear | 2 to 8 ms | at most 9 ms |  |\n", text)
         self.assertIn("| the worst: base 96, spread 50, seed 1 | 0.03 x (0.02 to 0.04 x) | at most 0.10 x |  |\n", text)
         missed = "**1 MISSED, 1 unclear** of 2; worst: base 24, spread 50, seed 1"

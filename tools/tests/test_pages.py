@@ -21,7 +21,7 @@ PAGES += [*sorted((TOP / "crates").glob("*.md")), TOP / "tests" / "RUNS.md", *(T
 MOST_CELL_CHARACTERS = 200  # characters of a cell
 WIDEST = 140  # columns of a line that isn't of a table
 # The files with comments, which are as wide at most.
-COMMENTED = ["check", "dam", "bench/run", "library/build", "library/dam.h", "library/heap.c"]
+COMMENTED = ["check", "dam", "bench/run", "bench/compare-programs", "library/build", "library/dam.h", "library/heap.c"]
 COMMENTS = ["crates/*/src/**/*.rt", "crates/*/specs/**/*.antt", "crates/*/proofs/**/*.antt", "tests/**/*.test", "tests/**/*.py", "tests/*/run"]
 COMMENTS += ["tests/run-*", "tests/shared/*.sh", "tools/*", "tools/**/*.py", "tools/tests/*.sh", "tools/lib/**/*.js", "bench/*.py", "bench/parts/*.py"]
 COMMENTS += ["bench/probe/**/*.bench", "docs/drawings/*.py", "package/*.py"]
