@@ -80,7 +80,8 @@ pub fn verdict_tells_eligibility()
 /// counts at most the greatest limit times the greatest volume.
 pub fn selection_welfare_is_small()
     ensures { (problem : ProblemState) (selection : List Bool) (w : ℤ) → IsProblem problem
-        → selection_welfare problem selection ≡ Some w → IsWithin greatest_selection_welfare w }
+        → selection_welfare problem selection ≡ Some w
+        → IsWithin greatest_selection_welfare w }
 {
     dam_book::laws::days_are_short();
     dam_hour::laws::best_has_greatest_welfare();
@@ -110,7 +111,8 @@ pub fn result_ranks_above_others()
     ensures others { (problem : ProblemState) (selection : List Bool) (w : ℤ)
         → IsResult problem selection w
         ↔ (IsEligible problem selection w × ((other : List Bool) (v : ℤ)
-        → IsEligible problem other v → other ≢ selection → RanksAbove w selection v other)) }
+        → IsEligible problem other v → other ≢ selection
+        → RanksAbove w selection v other)) }
 {}
 
 /// A problem has a result.
@@ -168,7 +170,8 @@ pub fn admissible_keeps_ancestors_and_groups()
         → descends problem.blocks i j ≡ true → accepts selection j ≡ true
         → accepts selection i ≡ true }
     ensures group { (blocks : List Block) (selection : List Bool) (i j : ℕ) (a b : Block)
-        → IsAdmissible blocks selection → slice_get blocks i ≡ Some a → slice_get blocks j ≡ Some b
+        → IsAdmissible blocks selection → slice_get blocks i ≡ Some a
+        → slice_get blocks j ≡ Some b
         → i ≢ j → are_of_one_group a b ≡ true → accepts selection i ≡ true
         → accepts selection j ≡ false }
 {}
@@ -177,7 +180,8 @@ pub fn admissible_keeps_ancestors_and_groups()
 /// before it.
 pub fn fronts_are_admissible()
     ensures { (problem : ProblemState) (front rest : List Bool) → IsProblem problem
-        → IsAdmissible problem.blocks (front ++ rest) → IsAdmissible problem.blocks (padded front) }
+        → IsAdmissible problem.blocks (front ++ rest)
+        → IsAdmissible problem.blocks (padded front) }
 {}
 
 /// Every list of acceptances is just one of the numbered choices over that number of places, and an

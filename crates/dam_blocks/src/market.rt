@@ -31,7 +31,8 @@ pub fn a_closed_book_is_a_problem()
 /// block less, or the hourly orders of each period, or the blocks, in another order.
 pub fn a_changed_book_is_a_changed_problem()
     ensures limit { (book other : BookState) (front back : List Row) (key : Key)
-        (order : BlockTerms) (limit : ℤ) → book.rows ≡ front ++ (key, BlockOrder order) ∷ back
+        (order : BlockTerms) (limit : ℤ)
+        → book.rows ≡ front ++ (key, BlockOrder order) ∷ back
         → other.rows ≡ front ++ (key, BlockOrder (record order { price = limit })) ∷ back
         → other.periods ≡ book.periods
         → IsWithLimit (problem_of book) (problem_of other) (length (blocks_in front))
@@ -42,7 +43,8 @@ pub fn a_changed_book_is_a_changed_problem()
         → IsWithoutBlock (problem_of book) (problem_of other) (length (blocks_in front))
         (record { who = key.0; name = key.1; order = order }) }
     ensures hourly_orders { (book other : BookState) → IsPermutation book.rows other.rows
-        → other.periods ≡ book.periods → (problem_of other).blocks ≡ (problem_of book).blocks
+        → other.periods ≡ book.periods
+        → (problem_of other).blocks ≡ (problem_of book).blocks
         → IsReordered (problem_of book) (problem_of other) }
     ensures blocks { (book other : BookState) → IsPermutation book.rows other.rows
         → (problem_of other).hours ≡ (problem_of book).hours
@@ -93,12 +95,14 @@ pub fn hourly_orders_are_executed()
 pub fn welfare_is_shared_out()
     ensures shared { (problem : ProblemState) (selection : List Bool) (prices : List ℤ)
         (executions : List (List ℕ)) → IsOutcome problem selection prices executions
-        → selection_welfare problem selection ≡ Some (hourly_surplus prices problem.hours executions
+        → selection_welfare problem selection
+        ≡ Some (hourly_surplus prices problem.hours executions
         +ℤ accepted_surplus prices problem.blocks selection) }
     ensures any_prices { (problem : ProblemState) (selection : List Bool) (prices : List ℤ)
         (executions : List (List ℕ)) → length prices ≡ length problem.hours
         → AreBestExecutions problem.blocks selection 1 problem.hours executions
-        → selection_welfare problem selection ≡ Some (hourly_surplus prices problem.hours executions
+        → selection_welfare problem selection
+        ≡ Some (hourly_surplus prices problem.hours executions
         +ℤ accepted_surplus prices problem.blocks selection) }
     ensures orders { (problem : ProblemState) (selection : List Bool) (prices : List ℤ)
         (executions : List (List ℕ)) → IsProblem problem
@@ -107,7 +111,8 @@ pub fn welfare_is_shared_out()
         ≡ Some (over_orders (gain_of problem selection prices executions) problem.rows) }
     ensures participants { (problem : ProblemState) (selection : List Bool) (prices : List ℤ)
         (executions : List (List ℕ)) (participants : List (List ℕ)) → IsProblem problem
-        → IsOutcome problem selection prices executions → AreParticipants participants problem.rows
+        → IsOutcome problem selection prices executions
+        → AreParticipants participants problem.rows
         → selection_welfare problem selection
         ≡ Some (over_participants participants (gain_of problem selection prices executions)
         problem.rows) }
@@ -148,7 +153,8 @@ pub fn nobody_loses()
     ensures participant { (problem : ProblemState) (selection : List Bool) (welfare : ℤ)
         (prices : List ℤ) (executions : List (List ℕ)) (who : List ℕ) → IsProblem problem
         → IsEligible problem selection welfare → IsOutcome problem selection prices executions
-        → pos 0 ≤ℤ over_orders_of who (gain_of problem selection prices executions) problem.rows }
+        → pos 0 ≤ℤ over_orders_of who
+        (gain_of problem selection prices executions) problem.rows }
     ensures descendants { (problem : ProblemState) (selection : List Bool) (welfare : ℤ)
         (prices : List ℤ) (executions : List (List ℕ)) (i : ℕ)
         → IsEligible problem selection welfare → IsOutcome problem selection prices executions
@@ -212,7 +218,8 @@ pub fn a_better_limit_keeps_a_block()
         → IsWithLimit problem other place block limit
         → IsBetter block.order.side limit block.order.price
         → IsResult problem selection welfare → accepts selection place ≡ true
-        → IsResult other other_selection other_welfare → accepts other_selection place ≡ true }
+        → IsResult other other_selection other_welfare
+        → accepts other_selection place ≡ true }
     ensures outcome { (problem other : ProblemState) (place : ℕ) (block : Block) (limit : ℤ)
         (selection : List Bool) (prices : List ℤ) (executions : List (List ℕ))
         → IsWithLimit problem other place block limit

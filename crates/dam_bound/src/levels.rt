@@ -17,7 +17,8 @@ use std::marker::Model;
 /// The block as a step of the period, if it has a volume there.
 fn step_in(order: &BlockOrder, period: Period) -> Option<Step>
     ensures { MatchOption result (volume_in order.now.volumes period ≡ 0)
-        (λ step. (1 ≤ volume_in order.now.volumes period) × (step ≡ step_of period order.now)) }
+        (λ step. (1 ≤ volume_in order.now.volumes period)
+        × (step ≡ step_of period order.now)) }
 {
     let qty = Qty::new(volume_in(order.volumes(), period))?;
     Some(Step {

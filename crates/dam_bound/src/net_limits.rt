@@ -93,7 +93,8 @@ impl NetLimits {
         requires limits { (problem : ProblemState) × AreLimits problem self.now.limits }
         requires slacks { AreSlacks slack.now.slacks }
         ensures small { AreSlacksWithin (2 * greatest_slack) result.slacks }
-        ensures lowered { (k : ℕ) (d : ℤ) → k < most_limits → slice_index_or result.slacks k d
+        ensures lowered { (k : ℕ) (d : ℤ) → k < most_limits
+            → slice_index_or result.slacks k d
             ≡ slice_index_or slack.now.slacks k d -ℤ slack_taken accept
             (slice_index_or (limit_in self.now.limits k).nets place (pos 0)) }
     {
@@ -117,7 +118,8 @@ impl NetLimits {
         ensures slacks { IfSome result (λ next. AreSlacks next.slacks) }
         ensures some { IfSome result (λ next. (selection : List Bool) (before after : ℕ → Bool)
             → HasSlack self.now.limits selection before slack.now.slacks
-            → before place ≡ true → after place ≡ false → ((p : ℕ) → p ≢ place → after p ≡ before p)
+            → before place ≡ true → after place ≡ false
+            → ((p : ℕ) → p ≢ place → after p ≡ before p)
             → accepts selection place ≡ accept
             → HasSlack self.now.limits selection after next.slacks) }
         ensures lowered { IfSome result (λ next. (k : ℕ) (d : ℤ) → k < most_limits

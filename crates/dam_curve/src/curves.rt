@@ -231,7 +231,8 @@ impl<A: Allocator> Curves<A> {
     #[inline(always)]
     pub fn point(&self, curve: Curve, net: i64) -> Option<Point>
         requires { (periods : List (List Step)) × (least : ℤ) × (most : ℤ)
-            × IsCurveAt self.now curve periods least most × (least ≤ℤ net) × (net ≤ℤ most) }
+            × IsCurveAt self.now curve periods least most
+            × (least ≤ℤ net) × (net ≤ℤ most) }
         ensures welfare { (periods : List (List Step)) (least most : ℤ)
             → IsCurveAt self.now curve periods least most → least ≤ℤ net → net ≤ℤ most
             → option_map (λ point. point.welfare) result ≡ joint_welfare periods net }
@@ -259,7 +260,8 @@ impl<A: Allocator> Curves<A> {
             → IsCurveAt self.now curve periods least most
             → Some result.welfare ≡ joint_welfare periods net }
         ensures price { (periods : List (List Step)) (least most : ℤ)
-            → IsCurveAt self.now curve periods least most → IsJointPrice periods net result.price }
+            → IsCurveAt self.now curve periods least most
+            → IsJointPrice periods net result.price }
         ensures at_least { neg_ℤ (pos (last_period * greatest_price)) ≤ℤ result.price }
         ensures at_most { result.price ≤ℤ pos (last_period * greatest_price) }
     {

@@ -9,7 +9,8 @@ ghost use Rattle.dam_curve.specs.JointPrice.{IsJointPrice};
 /// The clearing prices of periods, added up, fall as the net volume rises. At equal net volumes they are equal.
 pub fn prices_fall_as_net_rises()
     ensures { (periods : List (List Step)) (net other price other_price : ℤ)
-        → IsJointPrice periods net price → IsJointPrice periods other other_price → net ≤ℤ other
+        → IsJointPrice periods net price → IsJointPrice periods other other_price
+        → net ≤ℤ other
         → other_price ≤ℤ price }
 {
     dam_hour::laws::prices_fall_as_net_rises();

@@ -117,7 +117,8 @@ impl DeskDay {
         ensures periods { self.new.periods ≡ self.old.periods }
         ensures book { OnOk result (self.new.book ≡ book_after self.old.book command.now) }
         ensures entered { OnOk result (self.new.entered ≡ number) }
-        ensures few { length entries.old.items ≤ self.old.entered → number ≡ self.old.entered + 1
+        ensures few { length entries.old.items ≤ self.old.entered
+            → number ≡ self.old.entered + 1
             → length entries.new.items ≤ self.new.entered }
         ensures room { self.old.entered ≤ most_entries → number ≤ most_entries
             → self.new.entered ≤ most_entries }

@@ -128,7 +128,8 @@ impl Intake {
     fn enter_and_answer(&mut self, meaning: Meaning) -> Result<(), AllocError>
         ensures line { self.new.line ≡ self.old.line }
         ensures answered { self.new.answered ≡ self.old.answered }
-        ensures step { (before : List ℕ) (journal : Option JournalContent) → IsAt self.old before journal
+        ensures step { (before : List ℕ) (journal : Option JournalContent)
+            → IsAt self.old before journal
             → OnOk result (Answered self.old self.new before journal meaning) }
     {
         match meaning {
@@ -155,7 +156,8 @@ impl Intake {
     fn enter_day(&mut self, periods: DayLength) -> Result<(), AllocError>
         ensures line { self.new.line ≡ self.old.line }
         ensures answered { self.new.answered ≡ self.old.answered }
-        ensures step { (before : List ℕ) (journal : Option JournalContent) → IsAt self.old before journal
+        ensures step { (before : List ℕ) (journal : Option JournalContent)
+            → IsAt self.old before journal
             → OnOk result (Answered self.old self.new before journal (Days periods)) }
     {
         let Some(day) = &self.day else {
@@ -172,7 +174,8 @@ impl Intake {
         requires { self.old.day ≡ None }
         ensures line { self.new.line ≡ self.old.line }
         ensures answered { self.new.answered ≡ self.old.answered }
-        ensures step { (before : List ℕ) (journal : Option JournalContent) → IsAt self.old before journal
+        ensures step { (before : List ℕ) (journal : Option JournalContent)
+            → IsAt self.old before journal
             → OnOk result (Answered self.old self.new before journal (Days periods)) }
     {
         let day = DeskDay::begin(self.alloc, self.seed, periods)?;
@@ -186,7 +189,8 @@ impl Intake {
     fn enter_command(&mut self, command: &Command) -> Result<(), AllocError>
         ensures line { self.new.line ≡ self.old.line }
         ensures answered { self.new.answered ≡ self.old.answered }
-        ensures step { (before : List ℕ) (journal : Option JournalContent) → IsAt self.old before journal
+        ensures step { (before : List ℕ) (journal : Option JournalContent)
+            → IsAt self.old before journal
             → OnOk result (Answered self.old self.new before journal (Commands command.now)) }
     {
         runs_grow();

@@ -13,7 +13,8 @@ use dam_results::spelling_laws::written_journals_read;
 /// to the text that `dam replay` prints; any other leaves the journal.
 pub(crate) fn journals_grow()
     ensures reads { (state last : DeskState) (lines : List (List ℕ)) (answers : List ℕ)
-        → ReadsBack state.journal → AreAnswers state lines answers last → ReadsBack last.journal }
+        → ReadsBack state.journal → AreAnswers state lines answers last
+        → ReadsBack last.journal }
     ensures replies { (number : ℕ) (journal : Option JournalContent) (meaning : Meaning)
         → (journal_after_line journal meaning ≡ journal)
         ⊎ (desk_replies_text (journal_after_line journal meaning)

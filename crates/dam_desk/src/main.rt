@@ -119,12 +119,14 @@ fn print_journal<R: Read, W: Write>(
         × OpensTo journal bytes
         × Appends writer.old.taken writer.new.taken (desk_journal_text journal)) }
     ensures cause { OnOk result (writer.new.failed ≡ false) }
-    ensures refused { IfErr result (λ fault. is_write fault ≡ false → (writer.new ≡ writer.old)
+    ensures refused { IfErr result (λ fault. is_write fault ≡ false
+        → (writer.new ≡ writer.old)
         × (((error : Error) × (fault ≡ of_file (of_io error)))
         ⊎ ((bytes : List ℕ) × IfSome (R.remaining file.old) (λ left. bytes ≡ left)
         × IsFileFault bytes fault))) }
     ensures unwritten { IfErr result (λ fault. is_write fault ≡ true → (bytes : List ℕ)
-        × (journal : Option JournalContent) × IfSome (R.remaining file.old) (λ left. bytes ≡ left)
+        × (journal : Option JournalContent)
+        × IfSome (R.remaining file.old) (λ left. bytes ≡ left)
         × OpensTo journal bytes
         × IsWritingFault writer.old.taken writer.new.taken (desk_journal_text journal) fault) }
 {

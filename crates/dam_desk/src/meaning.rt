@@ -70,7 +70,8 @@ fn only_command(journal: JournalRead) -> Option<PackedCommand>
 /// The meaning of the line that follows the first `before` bytes of the text: these are the record of the day, or none.
 fn meaning_of_text(alloc: Global, text: &[u8], before: usize) -> Result<Meaning, AllocError>
     requires { before ≤ length text.now }
-    ensures { (day : Option ℕ) (line : List ℕ) → IfSome day (λ periods. is_day periods ≡ true)
+    ensures { (day : Option ℕ) (line : List ℕ)
+        → IfSome day (λ periods. is_day periods ≡ true)
         → text.now ≡ text_after day line → before ≡ length (record_of day)
         → length line ≤ most_line → IfOk result (IsMeaning day line) }
 {
@@ -107,7 +108,8 @@ pub(crate) fn read_input_line(
     day_record: &[u8],
     line: &[u8],
 ) -> Result<Meaning, AllocError>
-    ensures { (day : Option ℕ) (text : List ℕ) → IfSome day (λ periods. is_day periods ≡ true)
+    ensures { (day : Option ℕ) (text : List ℕ)
+        → IfSome day (λ periods. is_day periods ≡ true)
         → day_record.now ≡ record_of day → line.now ≡ kept_bytes text
         → IfOk result (IsMeaning day text) }
 {

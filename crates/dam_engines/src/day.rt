@@ -76,7 +76,8 @@ fn run_day_of_text<H: Threads + Wait + Sync, T: Watch + Sync, U: Turnstile + Syn
     text: Vec<u8>,
     plan: &DayPlan<'_, T, U>,
 ) -> Result<Vec<u8>, RunFault>
-    ensures done { IfOk result (λ day. IsMadeFrom (IsDayText plan.now.search) text.items day.items) }
+    ensures done { IfOk result (λ day.
+        IsMadeFrom (IsDayText plan.now.search) text.items day.items) }
     ensures fault { IfErr result (IsRunFault (IsCommandsFault plan.now.search) text.items) }
 {
     let journal = read_journal(alloc, text.as_slice())?;

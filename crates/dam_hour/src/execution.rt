@@ -55,7 +55,8 @@ pub(crate) fn volumes_in_turn<B: Allocator>(
     left: RemainingVolumes,
 ) -> Result<Vec<u32, B>, AllocError>
     ensures { IfOk result (λ volumes.
-        volumes.items ≡ volumes_in_turn price steps.now (λ side. total_on side left.buys left.sells)) }
+        volumes.items ≡ volumes_in_turn price steps.now
+        (λ side. total_on side left.buys left.sells)) }
 {
     let mut volumes = Vec::with_capacity(alloc, steps.len())?;
     let mut left = left;

@@ -85,9 +85,11 @@ pub fn best_has_greatest_welfare()
     ensures best { (steps : List Step) (net : ℤ) (xs : List ℕ)
         → IsBest steps net xs → greatest_welfare steps net ≡ Some (welfare_of steps xs) }
     ensures reached { (steps : List Step) (net w : ℤ) → greatest_welfare steps net ≡ Some w
-        → (xs : List ℕ) × IsExecution steps xs × Balances steps net xs × (welfare_of steps xs ≡ w) }
+        → (xs : List ℕ) × IsExecution steps xs × Balances steps net xs
+        × (welfare_of steps xs ≡ w) }
     ensures bound { (steps : List Step) (net w : ℤ) → greatest_welfare steps net ≡ Some w
-        → (xs : List ℕ) → IsExecution steps xs → Balances steps net xs → welfare_of steps xs ≤ℤ w }
+        → (xs : List ℕ) → IsExecution steps xs → Balances steps net xs
+        → welfare_of steps xs ≤ℤ w }
     ensures some { (steps : List Step) (net : ℤ)
         → IsBalanced steps net → (w : ℤ) × (greatest_welfare steps net ≡ Some w) }
     ensures none { (steps : List Step) (net : ℤ)
@@ -98,9 +100,11 @@ pub fn best_has_greatest_welfare()
 /// volume; and at a price that supports it the surplus is at least 0, and the greatest there is.
 pub fn supported_surplus_is_greatest()
     ensures welfare { (p net : ℤ) (steps : List Step) (xs : List ℕ)
-        → Balances steps net xs → welfare_of steps xs ≡ execution_surplus p steps xs +ℤ p *ℤ net }
+        → Balances steps net xs
+        → welfare_of steps xs ≡ execution_surplus p steps xs +ℤ p *ℤ net }
     ensures at_least_zero { (p : ℤ) (steps : List Step) (xs : List ℕ)
-        → IsExecution steps xs → Supports p steps xs → pos 0 ≤ℤ execution_surplus p steps xs }
+        → IsExecution steps xs → Supports p steps xs
+        → pos 0 ≤ℤ execution_surplus p steps xs }
     ensures greatest { (p : ℤ) (steps : List Step) (xs ys : List ℕ)
         → IsExecution steps xs → Supports p steps xs → IsExecution steps ys
         → execution_surplus p steps ys ≤ℤ execution_surplus p steps xs }
@@ -121,7 +125,8 @@ pub fn executions_fit_steps()
     ensures length { (steps : List Step) (xs : List ℕ)
         → IsExecution steps xs → length xs ≡ length steps }
     ensures at_most { (steps : List Step) (xs : List ℕ) (place : ℕ) (step : Step) (x : ℕ)
-        → IsExecution steps xs → slice_get steps place ≡ Some step → slice_get xs place ≡ Some x
+        → IsExecution steps xs → slice_get steps place ≡ Some step
+        → slice_get xs place ≡ Some x
         → x ≤ step.qty }
 {}
 
@@ -129,7 +134,8 @@ pub fn executions_fit_steps()
 /// execution of the others; their executed volumes and their welfare add up.
 pub fn executions_join()
     ensures joined { (first second : List Step) (xs ys : List ℕ)
-        → IsExecution first xs → IsExecution second ys → IsExecution (first ++ second) (xs ++ ys) }
+        → IsExecution first xs → IsExecution second ys
+        → IsExecution (first ++ second) (xs ++ ys) }
     ensures parted { (first second : List Step) (zs : List ℕ) → IsExecution (first ++ second) zs
         → (xs : List ℕ) × (ys : List ℕ) × (zs ≡ xs ++ ys)
         × IsExecution first xs × IsExecution second ys }
@@ -137,7 +143,8 @@ pub fn executions_join()
         → IsExecution first xs → executed_volume side (first ++ second) (xs ++ ys)
         ≡ executed_volume side first xs + executed_volume side second ys }
     ensures welfare { (first second : List Step) (xs ys : List ℕ) → IsExecution first xs
-        → welfare_of (first ++ second) (xs ++ ys) ≡ welfare_of first xs +ℤ welfare_of second ys }
+        → welfare_of (first ++ second) (xs ++ ys)
+        ≡ welfare_of first xs +ℤ welfare_of second ys }
 {}
 
 /// The price of the period supports the best execution: no hourly order loses at it, and none that is
@@ -152,8 +159,10 @@ pub fn price_supports_best()
 /// execution at a smaller net volume, and so it is with the prices of the period.
 pub fn prices_fall_as_net_rises()
     ensures supporting { (steps : List Step) (net other p q : ℤ)
-        → IsSupporting steps net p → IsSupporting steps other q → net <ℤ other → q ≤ℤ p }
+        → IsSupporting steps net p → IsSupporting steps other q → net <ℤ other
+        → q ≤ℤ p }
     ensures price { (steps : List Step) (net other low high other_low other_high : ℤ)
-        → AreEnds steps net low high → AreEnds steps other other_low other_high → net ≤ℤ other
+        → AreEnds steps net low high → AreEnds steps other other_low other_high
+        → net ≤ℤ other
         → price_between other_low other_high ≤ℤ price_between low high }
 {}

@@ -26,7 +26,8 @@ pub fn a_period_is_fair()
         → IsExecutedAt steps net price place step volume
         → pos 0 ≤ℤ order_surplus price step volume }
     ensures no_better_volume { (steps : List Step) (net price : ℤ) (place : ℕ) (step : Step)
-        (volume other : ℕ) → IsExecutedAt steps net price place step volume → other ≤ step.qty
+        (volume other : ℕ) → IsExecutedAt steps net price place step volume
+        → other ≤ step.qty
         → order_surplus price step other ≤ℤ order_surplus price step volume }
     ensures in_book_order { (steps : List Step) (net price : ℤ) (i j : ℕ) (earlier later : Step)
         (x y : ℕ) → IsExecutedAt steps net price i earlier x

@@ -223,7 +223,8 @@ impl<'a> Records<'a> {
     /// Reads the next record, and says whether there was one.
     pub(crate) fn read_next(&mut self) -> Result<bool, AllocError>
         ensures { IfOk result (λ found. MatchBool found
-            (TakesFirst (records_left self.old) (records_left self.new) (fields_of self.new.fields.items))
+            (TakesFirst (records_left self.old) (records_left self.new)
+            (fields_of self.new.fields.items))
             (records_left self.old ≡ [])) }
     {
         let Some(record) = from_next_record(self.rest) else {

@@ -212,7 +212,8 @@ fn read_records<T: FromJournal>(
 ) -> Result<T, JournalFault>
     ensures { MatchResult result
         (λ made. (periods : ℕ) × (commands : List Command)
-        × AreRecords (records_left records.old) periods commands × T.made_of periods commands made)
+        × AreRecords (records_left records.old) periods commands
+        × T.made_of periods commands made)
         (IsFaultOfRecords (records_left records.old)) }
 {
     let periods = read_day_record(records)?;
@@ -246,7 +247,8 @@ pub fn read_into<T: FromJournal>(
 
     // A journal is read, unless memory runs out.
     ensures exact { (periods : ℕ) (commands : List Command) → ReadsAs text.now periods commands
-        → MatchResult result (T.made_of periods commands) (λ fault. fault ≡ JournalFault.Memory) }
+        → MatchResult result (T.made_of periods commands)
+        (λ fault. fault ≡ JournalFault.Memory) }
 {
     laws::text_is_one_journal();
     laws::fault_is_no_journal();

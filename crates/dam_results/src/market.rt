@@ -86,7 +86,8 @@ pub fn a_block_more_never_lowers_welfare()
     ensures welfare { (book other : BookState) (place : ℕ) (key : Key) (order : BlockTerms)
         (welfare other_welfare : ℕ) (periods other_periods : List PeriodResult)
         (rows other_rows : List RowResult) → IsBook book → IsBook other
-        → IsWithoutRow book other place → slice_get book.rows place ≡ Some (key, BlockOrder order)
+        → IsWithoutRow book other place
+        → slice_get book.rows place ≡ Some (key, BlockOrder order)
         → IsClearing book welfare periods rows
         → IsClearing other other_welfare other_periods other_rows
         → other_welfare ≤ welfare }

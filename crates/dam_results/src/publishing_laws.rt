@@ -12,7 +12,8 @@ ghost use Rattle.dam_results.specs.Clearing.{IsBestSelection, IsClearing};
 pub fn selections_are_published_alike()
     ensures { (problem : ProblemState) (sel : List Bool) (welfare other : ℕ)
         (periods days : List PeriodResult) (rows others : List RowResult)
-        → ArePublished problem sel welfare periods rows → ArePublished problem sel other days others
+        → ArePublished problem sel welfare periods rows
+        → ArePublished problem sel other days others
         → (welfare ≡ other) × (periods ≡ days) × (rows ≡ others) }
 {
     dam_hour::laws::best_execution_is_unique();
@@ -33,7 +34,8 @@ pub fn best_selection_is_result()
 pub fn published_results_are_clearings()
     ensures { (book : BookState) (problem : ProblemState) (sel : List Bool) (found welfare : ℕ)
         (periods : List PeriodResult) (rows : List RowResult)
-        → book.closed ≡ true → problem ≡ problem_of book → IsResult problem sel (pos found)
+        → book.closed ≡ true → problem ≡ problem_of book
+        → IsResult problem sel (pos found)
         → ArePublished problem sel welfare periods rows → IsClearing book welfare periods rows }
 {
     best_selection_is_result();

@@ -18,8 +18,10 @@ ghost use Rattle.dam_results.specs.Written.{journal_text};
 #[tactic(auto, using(crate::proofs::ReadBack::reads_spelled))]
 pub fn spellings_read_alike()
     ensures { (periods : ℕ) (commands : List Command) (text : List ℕ)
-        → is_day periods ≡ true → AllByRecursion IsCommand commands → length commands ≤ most_entries
-        → length text ≤ most_bytes → IsSpelled (record_of_day periods ∷ map record_of_command commands) text
+        → is_day periods ≡ true → AllByRecursion IsCommand commands
+        → length commands ≤ most_entries
+        → length text ≤ most_bytes
+        → IsSpelled (record_of_day periods ∷ map record_of_command commands) text
         → ReadsAs text periods commands }
 {}
 

@@ -28,7 +28,8 @@ pub(crate) fn walk_drawn_pieces<A: Allocator, P: PriceOracle, T: Turnstile>(
     turnstile: &T,
 ) -> Result<Vec<PieceAnswer, A>, AllocError>
     requires fresh { IsFresh (2 ^ context.now.depth) (view_of seat.old.seat) }
-    ensures answers { IfOk result (λ answers. AreAnswersOf context.now.problem.now context.now.depth
+    ensures answers { IfOk result (λ answers.
+        AreAnswersOf context.now.problem.now context.now.depth
         context.now.node_limit 0 (view_of seat.new.seat) answers.items) }
     ensures offered { IfOk result (λ answers.
         (view_of seat.new.seat).greatest_offer ≡ greatest_found answers.items) }

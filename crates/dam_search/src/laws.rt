@@ -40,11 +40,13 @@ pub fn conclusive_answers_give_result()
     ensures found { (problem : ProblemState) (depth : ℕ) (answers : List PieceAnswer)
         → AreConclusive problem depth answers → ¬ (All (λ a. a.best ≡ None) answers) }
     ensures conclusive { (problem : ProblemState) (depth : ℕ) (answers : List PieceAnswer)
-        → IsProblem problem → depth ≤ length problem.blocks → AreAnswered problem depth answers
+        → IsProblem problem → depth ≤ length problem.blocks
+        → AreAnswered problem depth answers
         → All (λ a. a.incumbent_read ≤ greatest_found answers) answers
         → AreConclusive problem depth answers }
     ensures offered { (problem : ProblemState) (depth first : ℕ) (answers : List PieceAnswer)
-        → IsProblem problem → depth ≤ length problem.blocks → AreAnswered problem depth answers
+        → IsProblem problem → depth ≤ length problem.blocks
+        → AreAnswered problem depth answers
         → IsReached problem first
         → All (λ a. a.incumbent_read ≤ max first (greatest_found answers)) answers
         → AreConclusive problem depth answers }

@@ -64,10 +64,12 @@ pub(crate) fn slack_of_piece(
         → AreLimits problem net_limits.now.limits → IsEligible problem selection w
         → AgreesUnder depth accepted selection → ⊥ }
     ensures slacks { IfSome result (λ slack. AreSlacks slack.slacks) }
-    ensures some { IfSome result (λ slack. (problem : ProblemState) (selection : List Bool) (w : ℤ)
+    ensures some { IfSome result (λ slack.
+        (problem : ProblemState) (selection : List Bool) (w : ℤ)
         → AreLimits problem net_limits.now.limits → IsEligible problem selection w
         → AgreesUnder depth accepted selection
-        → HasSlack net_limits.now.limits selection (λ place. not (nat_lt place depth)) slack.slacks) }
+        → HasSlack net_limits.now.limits selection
+        (λ place. not (nat_lt place depth)) slack.slacks) }
     ensures left { IfSome result (λ slack. (k : ℕ) (d : ℤ) → k < most_limits
         → slice_index_or slack.slacks k d
         ≡ slack_left (limit_in net_limits.now.limits k) accepted depth) }

@@ -95,7 +95,8 @@ pub(crate) fn close_words(words: Words, seat: Seat) -> ClosedWords
     requires seat { seat.table_id ≡ words.shared.table_id }
     requires words { (words.shared.table_id.words ≡ 2) × (words.shared.table_id.slots ≡ 0) }
     requires all { (view_of seat).seats + (view_of seat).seats_left ≡ most_seats }
-    ensures { AreClosedWords words.shared.key (result.draws ∷ result.offered ∷ []) (view_of seat) }
+    ensures { AreClosedWords words.shared.key (result.draws ∷ result.offered ∷ [])
+        (view_of seat) }
 {
     let closed = words.close_with(seat);
     let draws = closed.word(CLAIM);

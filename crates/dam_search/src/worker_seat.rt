@@ -108,7 +108,8 @@ impl<'a> WorkerSeat<'a> {
               drawn = (view_of self.old.seat).drawn ++ piece ∷ [];
             })) }
         ensures draws_past_the_end { result ≡ None
-            → view_of self.new.seat ≡ record (view_of self.old.seat) { draws_past_the_end = 1 } }
+            → view_of self.new.seat
+            ≡ record (view_of self.old.seat) { draws_past_the_end = 1 } }
         ensures few { length (view_of self.new.seat).drawn ≤ (view_of self.new.seat).pieces }
     {
         let next = self

@@ -75,7 +75,8 @@ fn work_on_threads<'a, R: Threads + Sync, P: PriceOracle + Sync, T: Turnstile + 
     ensures many { IfOk result (λ worked. vec_len worked ≡ vec_len seats.entry) }
     ensures worked { (table : TableId)
         → All (λ s. IsNewSeat table (2 ^ context.now.depth) s) seats.entry.items
-        → IfOk result (λ worked. All (λ s. IsWorkedSeat context.now.problem.now context.now.depth
+        → IfOk result (λ worked.
+        All (λ s. IsWorkedSeat context.now.problem.now context.now.depth
         context.now.node_limit table s) worked.items) }
 {
     thread::map_vec(

@@ -104,7 +104,8 @@ pub(crate) fn sync_and_read<D: Disk>(alloc: Global, disk: &mut D) -> Result<Foun
         × (found.lines.text.items ≡ text_of lines)) }
     ensures reads { OnlyReads D.Disk disk.old disk.new result }
     ensures no_other { IfErr result (λ fault. (is_failed_read fault ≡ true)
-        ⊎ (is_failed_sync fault ≡ true) ⊎ (is_refused_file fault ≡ true) ⊎ (fault ≡ Memory)) }
+        ⊎ (is_failed_sync fault ≡ true) ⊎ (is_refused_file fault ≡ true)
+        ⊎ (fault ≡ Memory)) }
     ensures usable { IfErr result
         (λ fault. D.Disk.is_usable disk.new ≡ not (is_failed_sync fault)) }
 {

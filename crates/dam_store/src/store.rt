@@ -29,7 +29,8 @@ pub struct Store<D: Disk> {
 /// Writes a batch after the mark at `end` and syncs it, and only then opens the mark and syncs that.
 fn commit_batch<D: Disk>(disk: &mut D, end: usize, batch: &Batch) -> Result<(), StoreFault>
     requires synced { IsSynced D.Disk disk.old }
-    requires closed { IsTrue (D.Disk.is_clean disk.old) → IsFileAtRest (D.Disk.seen disk.old) end }
+    requires closed { IsTrue (D.Disk.is_clean disk.old)
+        → IsFileAtRest (D.Disk.seen disk.old) end }
     requires some { (length batch.now == 0) ≡ false }
     requires room { end + 1 + length (drop 1 (marked batch.now ++ 45 ∷ [])) ≤ most_file_bytes }
     ensures synced { OnOk result (IsSynced D.Disk disk.new) }
@@ -110,7 +111,8 @@ impl<D: Disk> Store<D> {
         ensures value { result ≡ is_broken self.now }
         ensures safe { is_broken self.now ≡ false
             → IsTrue (D.Disk.is_clean (disk_of self.now)) → IsSafe self.now }
-        ensures usable { is_broken self.now ≡ false → IsTrue (D.Disk.is_usable (disk_of self.now)) }
+        ensures usable { is_broken self.now ≡ false
+            → IsTrue (D.Disk.is_usable (disk_of self.now)) }
     {
         self.is_broken
     }
