@@ -57,7 +57,7 @@ impl Outcome {
     }
 
     // The place in the book's map, gaps counted, at which the order was found.
-    pub(crate) fn map_place(&self) -> usize {
+    pub(crate) fn likely_place(&self) -> usize {
         self.place
     }
 }

@@ -7,8 +7,9 @@ ghost use Rattle.dam_book.specs.inside.Packed.{command_of};
 
 use crate::command::{Command, Entry, Reply};
 use crate::laws::equality;
-use crate::name::{Name, Participant};
+use crate::name::Name;
 use crate::order::{HourOrder, Order};
+use crate::participant::Participant;
 use crate::period::Period;
 use crate::price::Price;
 use crate::quantity::Qty;

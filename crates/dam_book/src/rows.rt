@@ -12,8 +12,9 @@ ghost use Rattle.dam_book.specs.Order.{amended};
 ghost use Rattle.dam_book.specs.inside.Gaps.{rows_of, gap_count, same_label, AreNumbered, IsLabelledAt, child_at, is_child_place};
 
 use crate::boxed_order::BoxedOrder;
-use crate::name::{LONGEST_NAME, LONGEST_PARTICIPANT, Name, Participant};
+use crate::name::{LONGEST_NAME, Name};
 use crate::order::Order;
+use crate::participant::{LONGEST_PARTICIPANT, Participant};
 use crate::price::Price;
 use crate::seed::Seed;
 use crate::volumes::Volumes;
@@ -276,14 +277,14 @@ fn is_child<A: Allocator>(
 }
 
 // Whether a row names this order as its parent.
-fn any_child<A: Allocator>(map: &RowMap<A>, who: &Participant, name: &Name) -> bool
+fn has_child<A: Allocator>(map: &RowMap<A>, who: &Participant, name: &Name) -> bool
     ensures { result ≡ list_any (is_child_place (who.now, name.now)) map.now.entries }
 {
     map.iter().any(|(label, content)| is_child(who, name, &label.who, content))
 }
 
 // The row at a place, counted from 0 without the gaps.
-fn row_among<A: Allocator>(map: &RowMap<A>, place: usize) -> Option<(Participant, Name, &Order)>
+fn row_in_map<A: Allocator>(map: &RowMap<A>, place: usize) -> Option<(Participant, Name, &Order)>
     ensures { option_map (λ r. ((r.0, r.1), r.2.now)) result
         ≡ slice_get (rows_of map.now.entries) place }
 {
@@ -344,7 +345,7 @@ impl<A: Allocator + Copy> Rows<A> {
     pub(crate) fn is_parent(&self, who: &Participant, name: &Name) -> bool
         ensures { result ≡ list_any (names_parent (who.now, name.now)) self.now }
     {
-        any_child(&self.map, who, name)
+        has_child(&self.map, who, name)
     }
 
     // The row at a place, counted from 0 without the gaps: one step if there is no gap.
@@ -360,7 +361,7 @@ impl<A: Allocator + Copy> Rows<A> {
             };
             return Some((label.who.copy(), label.name.copy(), order.get()));
         }
-        row_among(&self.map, place)
+        row_in_map(&self.map, place)
     }
 
     // Puts a row last. On an `Err` the rows are unchanged.
