@@ -38,7 +38,7 @@ struct PricedDay {
 
 /// Finds the price of every period with the selection, and the welfare of the day; the `Err` is the first period that
 /// doesn't balance. It doesn't compute other published values, such as the executed volumes.
-fn price_day<A: Allocator>(problem: &Problem<A>, selection: Selection) -> Result<PricedDay, Period>
+fn priced_day<A: Allocator>(problem: &Problem<A>, selection: Selection) -> Result<PricedDay, Period>
     ensures { MatchResult result
         (λ c. ArePrices problem.now.blocks selection 1 problem.now.hours
         (take (length problem.now.hours) c.prices)
@@ -96,7 +96,7 @@ pub fn score<A: Allocator>(problem: &Problem<A>, selection: Selection) -> Verdic
     if !admissible(problem, selection) {
         return Verdict::NotAdmissible;
     }
-    let day = match price_day(problem, selection) {
+    let day = match priced_day(problem, selection) {
         Ok(day) => day,
         Err(period) => return Verdict::Unbalanced(period),
     };

@@ -8,14 +8,14 @@ abbrev pub is_among : ℕ → List ℕ → Bool
 is_among place [] = false
 is_among place (other ∷ places) = (place == other) || is_among place places
 
--- a selection that accepts the accepted places and nothing else, apart from any of the places that are left
-pub record IsOpen (accepted : List Bool) (left : List ℕ) (selection : List Bool) : Type 0 where
+-- a selection that accepts the accepted places and nothing else, apart from any of the undecided places
+pub record IsOpen (accepted : List Bool) (undecided : List ℕ) (selection : List Bool) : Type 0 where
   pub as_long : length selection ≡ most_blocks
-  pub agrees : (place : ℕ) → is_among place left ≡ false → accepts selection place ≡ accepts accepted place
+  pub agrees : (place : ℕ) → is_among place undecided ≡ false → accepts selection place ≡ accepts accepted place
 
--- the places that are left: no two are the same, and none is accepted already
+-- the undecided places: no two are the same, and none is accepted already
 abbrev pub AreFree : List Bool → List ℕ → Type 0
 AreFree accepted [] = Unit {0}
-AreFree accepted (place ∷ left) =
-    (place < most_blocks) × (accepts accepted place ≡ false) × (is_among place left ≡ false)
-    × AreFree accepted left
+AreFree accepted (place ∷ undecided) =
+    (place < most_blocks) × (accepts accepted place ≡ false) × (is_among place undecided ≡ false)
+    × AreFree accepted undecided

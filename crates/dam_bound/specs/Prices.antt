@@ -29,7 +29,7 @@ over_open gains (place ∷ places) = int_max (slice_index_or gains place (pos 0)
 
 -- the greatest bound of the selections that accept the accepted places, any of the open places, and no others
 abbrev pub bound_of : Pricing → List Bool → List ℕ → ℤ
-bound_of pricing accepted left = (pricing.base +ℤ over_gains pricing.gains accepted) +ℤ over_open pricing.gains left
+bound_of pricing accepted undecided = (pricing.base +ℤ over_gains pricing.gains accepted) +ℤ over_open pricing.gains undecided
 
 -- the line of the class that begins at the place
 abbrev pub line_in : List Line → ℕ → Line

@@ -23,15 +23,15 @@ pub(crate) fn acceptance_weights(selection: Selection) -> [i32; MOST_BLOCKS]
 }
 
 /// 2 for each place that is accepted, 1 for each that is left open, and 0 for the others.
-pub(crate) fn doubled_weights(accepted: Selection, left: &[u8]) -> [i32; MOST_BLOCKS]
-    requires { All (λ place. place < most_blocks) left.now }
+pub(crate) fn doubled_weights(accepted: Selection, undecided: &[u8]) -> [i32; MOST_BLOCKS]
+    requires { All (λ place. place < most_blocks) undecided.now }
     ensures { AreWeights result }
 {
     let mut weights = [0; MOST_BLOCKS];
     for place in 0..MOST_BLOCKS {
         weights[place] = 2 * i32::from(accepted.has(place));
     }
-    for place in left {
+    for place in undecided {
         weights[usize::from(*place)] = 1;
     }
     weights

@@ -83,11 +83,11 @@ impl<A: Allocator, B: Allocator> ClassCurves<'_, A, B> {
     /// Writes a pricing. Its prices are those at which the accepted blocks, and half of the volume of those that are
     /// left open, would clear, so that the bound of the selections that accept the accepted blocks and some of the open ones is
     /// little above their welfares. But it bounds every selection. No clause says how tight it is. Takes no memory.
-    pub fn write_pricing(&self, accepted: Selection, left: &[u8], pricing: &mut Pricing)
-        requires { All (λ place. place < most_blocks) left.now }
+    pub fn write_pricing(&self, accepted: Selection, undecided: &[u8], pricing: &mut Pricing)
+        requires { All (λ place. place < most_blocks) undecided.now }
         ensures { IsPricing self.now pricing.new }
     {
-        let weights = doubled_weights(accepted, left);
+        let weights = doubled_weights(accepted, undecided);
         pricing.base = 0;
         pricing.gains = self.values;
         for class in &self.classes {
@@ -103,7 +103,7 @@ impl<A: Allocator, B: Allocator> ClassCurves<'_, A, B> {
     /// period doesn't balance. The bound may be any of this problem: it is lowered class by class, and given up once it is
     /// under `least`. The prices at which the selection clears are written too, all of them only if there is a welfare. Takes
     /// no memory.
-    pub fn clear_selection(
+    pub fn price_selection(
         &self,
         selection: Selection,
         pricing: &Pricing,
@@ -135,7 +135,7 @@ impl<A: Allocator, B: Allocator> ClassCurves<'_, A, B> {
     }
 
     /// Whether an accepted block, together with the accepted blocks that descend from it and may rescue it, loses at
-    /// these prices of the selection, which `clear_selection` wrote. Takes no memory.
+    /// these prices of the selection, which `price_selection` wrote. Takes no memory.
     pub fn has_loss(&self, selection: Selection, prices: &ClassPrices) -> bool
         requires { AreClassPrices self.now selection prices.now.prices }
         ensures { (day : List ℤ)

@@ -5,7 +5,7 @@ ghost use Rattle.dam_book.specs.Limits.{last_period};
 
 use dam_blocks::MOST_PERIODS;
 
-/// The prices of the classes of periods at which a selection clears. `ClassCurves::clear_selection` writes them.
+/// The prices of the classes of periods at which a selection clears. `ClassCurves::price_selection` writes them.
 #[derive(Clone, Copy)]
 pub struct ClassPrices {
     /// For each class, at the place of its first period, the clearing prices of its periods, added up, in cents per MWh.

@@ -82,10 +82,10 @@ pub fn balanced_selections_have_prices()
 /// An open selection has no more welfare than the bound of a pricing, with each open place at its gain if that is above 0.
 pub fn pricing_bounds_open_selections()
     ensures { (problem : ProblemState) (pricing : Pricing) (accepted selection : List Bool)
-        (left : List ℕ) (w : ℤ)
-        → IsPricing problem pricing → length accepted ≡ most_blocks → AreFree accepted left
-        → IsOpen accepted left selection → selection_welfare problem selection ≡ Some w
-        → w ≤ℤ bound_of pricing accepted left }
+        (undecided : List ℕ) (w : ℤ)
+        → IsPricing problem pricing → length accepted ≡ most_blocks → AreFree accepted undecided
+        → IsOpen accepted undecided selection → selection_welfare problem selection ≡ Some w
+        → w ≤ℤ bound_of pricing accepted undecided }
 {}
 
 /// The gains of a selection that accepts one place more are greater by the gain of that place.

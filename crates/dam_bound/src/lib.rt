@@ -8,7 +8,7 @@
 //! let bound = pricing.bound(Selection::none().with(0), &[1, 2]); // of those that accept block 0
 //! let selection = Selection::none().with(0).with(2);
 //! let mut prices = ClassPrices::placeholder();
-//! if let Some(welfare) = curves.clear_selection(selection, &pricing, 0, &mut prices) { // None if it is under 0, or doesn't balance
+//! if let Some(welfare) = curves.price_selection(selection, &pricing, 0, &mut prices) { // None if it is under 0, or doesn't balance
 //!     let loses = curves.has_loss(selection, &prices);
 //! }
 //! let rivals = curves.are_rivals(0, 1); // if true, no eligible selection accepts both

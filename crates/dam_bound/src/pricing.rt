@@ -48,11 +48,11 @@ impl Pricing {
     /// The bound of the selections that accept `accepted`, any of the blocks at the places that are left open, and
     /// no others: the base, the gain of each block that is accepted, and each gain above 0 of an open one. A place that is
     /// left twice counts twice.
-    pub fn bound(&self, accepted: Selection, left: &[u8]) -> i64
+    pub fn bound(&self, accepted: Selection, undecided: &[u8]) -> i64
         requires pricing { (problem : ProblemState) × IsPricing problem self.now }
-        requires places { All (λ place. place < most_blocks) left.now }
-        requires few { length left.now ≤ most_blocks }
-        ensures { result ≡ bound_of self.now accepted left.now }
+        requires places { All (λ place. place < most_blocks) undecided.now }
+        requires few { length undecided.now ≤ most_blocks }
+        ensures { result ≡ bound_of self.now accepted undecided.now }
     {
         let mut total = self.base;
         for place in 0..MOST_BLOCKS {
@@ -60,7 +60,7 @@ impl Pricing {
                 total += self.gains[place];
             }
         }
-        for place in left {
+        for place in undecided {
             total += self.gains[usize::from(*place)].max(0);
         }
         total

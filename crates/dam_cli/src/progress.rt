@@ -160,11 +160,11 @@ impl<'a, R: Wait + Eprint + Clock> Turnstile for Progress<'a, R> {
 }
 
 impl<'a, R: Wait + Eprint + Clock> Watch for Progress<'a, R> {
-    fn commands_refused(&self, commands: u32) {
+    fn on_commands_refused(&self, commands: u32) {
         self.state.lock(self.rt).count.refused = commands;
     }
 
-    fn search_begins(&self, pieces: u32) {
+    fn on_search_begin(&self, pieces: u32) {
         let mut state = self.state.lock(self.rt);
         state.count.begin(pieces);
         if self.is_shown {
@@ -172,7 +172,7 @@ impl<'a, R: Wait + Eprint + Clock> Watch for Progress<'a, R> {
         }
     }
 
-    fn search_ends(&self) {
+    fn on_search_end(&self) {
         let mut state = self.state.lock(self.rt);
         if state.is_written {
             let _ = eprint!(self.rt; "{CLEAR}");

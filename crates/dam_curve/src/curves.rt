@@ -61,7 +61,7 @@ impl<A: Allocator> Model for Curves<A> {
 
 /// The number in 32 bits. If it doesn't fit, there are more segments or hints than can be kept, which is
 /// reported as out of memory.
-fn narrow(number: usize) -> Result<u32, AllocError>
+fn to_u32(number: usize) -> Result<u32, AllocError>
     ensures value { IfOk result (λ narrow. narrow ≡ number) }
     ensures fits { number < 2 ^ 32 → IsOk result }
 {
@@ -91,7 +91,7 @@ fn append_hints<A: Allocator>(
 ) -> Result<Hints, AllocError>
     requires some { 0 < length segments.now }
 {
-    let first = narrow(hints.len())?;
+    let first = to_u32(hints.len())?;
     let top = segments[0].most;
     let range = top.abs_diff(segments[segments.len() - 1].most);
     let shift = shift_of(range, segments.len());
@@ -198,8 +198,8 @@ impl<A: Allocator> Curves<A> {
         if segments.is_empty() {
             return Ok(Curve::none());
         }
-        let first = narrow(self.segments.len())?;
-        let count = narrow(segments.len())?;
+        let first = to_u32(self.segments.len())?;
+        let count = to_u32(segments.len())?;
         let hints = append_hints(&mut self.hints, segments)?;
         self.segments.extend_from_slice(segments)?;
         Ok(Curve {

@@ -65,8 +65,8 @@ impl<A: Allocator> CurveSum<A> {
         ensures { OnOk result (IsCurve [] least most self.new) }
     {
         self.segments.clear();
-        self.segments.push(flat(most as i32))?;
-        self.segments.push(flat(least as i32))?;
+        self.segments.push(flat_segment(most as i32))?;
+        self.segments.push(flat_segment(least as i32))?;
         Ok(())
     }
 
@@ -101,7 +101,7 @@ impl<A: Allocator> CurveSum<A> {
 }
 
 /// The segment of no period.
-fn flat(most: i32) -> Segment
+fn flat_segment(most: i32) -> Segment
     ensures { result ≡ record { most = most; price = pos 0; end_price = pos 0; surplus = pos 0 } }
 {
     Segment {

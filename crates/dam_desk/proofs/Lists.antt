@@ -1,6 +1,6 @@
 -- The first bytes of a line.
 use Rattle.std.proofs.Common.{◌≡◌, ℕ, zero, suc, ◌-◌, ◌≤◌, min, List, [], ◌∷◌, ◌++◌, length, take, drop, refl, sym, ap, ◌∙◌, length-append, arith, Result, Ok, Err, is_ok, if◌then◌else◌, OnOk}
-use Rattle.dam_desk.specs.Answers.{fault_line}
+use Rattle.dam_desk.specs.Answers.{fault_answer}
 use Rattle.dam_desk.specs.Desk.{end_answer}
 use Rattle.dam_desk.specs.Limits.{most_line}
 use Rattle.dam_desk.specs.InputLines.{kept_bytes}
@@ -42,7 +42,7 @@ none_kept begun none = none_taken most_line begun none
 pub end_of_none : (number : ℕ) (begun : List ℕ) → length (kept_bytes begun) ≡ 0 → end_answer number begun ≡ []
 end_of_none number begun none = ap (end_answer number) (none_kept begun none)
 
-pub end_of_some : (number : ℕ) (begun : List ℕ) → ¬ (length (kept_bytes begun) ≡ 0) → end_answer number begun ≡ fault_line number CutShort
+pub end_of_some : (number : ℕ) (begun : List ℕ) → ¬ (length (kept_bytes begun) ≡ 0) → end_answer number begun ≡ fault_answer number CutShort
 end_of_some number [] some = absurd (some refl)
 end_of_some number (b ∷ begun) some = refl
 

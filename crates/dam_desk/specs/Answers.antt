@@ -16,5 +16,5 @@ fault_word JournalFull = codes "JournalFull"
 fault_word CutShort = codes "CutShort"
 
 -- the answer to the line of this number, which has the fault
-abbrev pub fault_line : ℕ → InputLineFault → List ℕ
-fault_line number fault = codes "fault," ++ (decimal number ++ (codes "," ++ (fault_word fault ++ codes "\n")))
+abbrev pub fault_answer : ℕ → InputLineFault → List ℕ
+fault_answer number fault = codes "fault," ++ (decimal number ++ (codes "," ++ (fault_word fault ++ codes "\n")))

@@ -9,7 +9,7 @@ use Rattle.dam_results.specs.Replies.{replies_to}
 use Rattle.dam_store.specs.FileLines.{StandsFor, stands_for, text_of}
 use Rattle.dam_store.specs.Store.{disk_of, held_lines, is_broken, IsUntouched}
 use Rattle.dam_store.specs.declared.store.Store.{Store}
-use Rattle.dam_desk.specs.Answers.{fault_line}
+use Rattle.dam_desk.specs.Answers.{fault_answer}
 use Rattle.sqlite_disk.specs.Disk.{MoreFaults}
 use Rattle.dam_desk.specs.Faults.{SaysCount, is_failed_call, is_failed_sync, is_failed_write, is_read, is_write, IsEndFault, IsOpenFault}
 use Rattle.dam_desk.specs.DeskJournal.{JournalContent, DeskState, AreAnswers, AreLines, AreAnswersToEntered, FirstLines, OpensTo, ReadsBack, desk_journal_text, next, desk_replies_text}
@@ -87,7 +87,7 @@ pub record OpensAfter (state : DeskState) (given file : List ℕ) : Type 0 where
 -- the answer to a line of this number that the input ends in; none if it has no bytes
 abbrev pub end_answer : ℕ → List ℕ → List ℕ
 end_answer number [] = []
-end_answer number (byte ∷ bytes) = fault_line number CutShort
+end_answer number (byte ∷ bytes) = fault_answer number CutShort
 
 -- the answer to the line in which the input ends after these lines, or nothing yet
 abbrev pub IsEnding : List ℕ → List (List ℕ) → DeskState → List ℕ → Type 0

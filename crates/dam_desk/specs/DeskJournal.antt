@@ -6,7 +6,7 @@ use Rattle.dam_results.specs.Journal.{ReadsAs}
 use Rattle.dam_results.specs.Replies.{day_line, reply_line, replies_to}
 use Rattle.dam_results.specs.Written.{written}
 use Rattle.dam_store.specs.FileLines.{HaveNoNewline, has_byte, text_of, StandsFor}
-use Rattle.dam_desk.specs.Answers.{fault_line}
+use Rattle.dam_desk.specs.Answers.{fault_answer}
 use Rattle.dam_desk.specs.InputLines.{IsMeaning}
 use Rattle.dam_book.specs.Command.{is_journal_full}
 use Rattle.dam_desk.specs.declared.fault.InputLineFault.TheVariants.{OtherDay, JournalFull, NotDay}
@@ -53,17 +53,17 @@ journal_after_line journal meaning = journal
 -- the answer to a command of this journal, given in the line of this number
 abbrev pub command_answer : ℕ → JournalContent → Command → List ℕ
 command_answer number journal command =
-    if is_journal_full (length journal.commands) command then fault_line number JournalFull
+    if is_journal_full (length journal.commands) command then fault_answer number JournalFull
     else reply_line (length journal.commands + 1) (reply_to (run journal.periods journal.commands) command)
 
 -- the answer to the line of this number, which has this meaning in this journal
 abbrev pub answer_to : ℕ → Option JournalContent → Meaning → List ℕ
 answer_to number None (Day periods) = day_line periods
 answer_to number (Some journal) (Day periods) =
-    if periods == journal.periods then day_line periods else fault_line number OtherDay
-answer_to number None (Commands command) = fault_line number NotDay
+    if periods == journal.periods then day_line periods else fault_answer number OtherDay
+answer_to number None (Commands command) = fault_answer number NotDay
 answer_to number (Some journal) (Commands command) = command_answer number journal command
-answer_to number journal (Fault fault) = fault_line number fault
+answer_to number journal (Fault fault) = fault_answer number fault
 
 -- the number of lines that a desk has answered, and the journal that they made
 pub record DeskState : Type 0 where

@@ -9,7 +9,7 @@ ghost use Rattle.dam_desk.specs.InputLines.{kept_bytes};
 ghost use Rattle.dam_desk.specs.Faults.{IsEndFault, SaysCount, is_failed_sync, is_write};
 
 use crate::fault::{DeskFault, InputLineFault};
-use crate::fault_line::append_fault_line;
+use crate::fault_answer::append_fault_answer;
 use crate::intake::Intake;
 use crate::laws::journals_grow;
 use crate::output::write_text;
@@ -78,7 +78,7 @@ impl<D: Disk> Desk<D> {
         let alloc = self.intake.alloc;
         let mut text = Vec::new(alloc);
         let number = self.intake.answered.saturating_add(1);
-        append_fault_line(alloc, &mut text, number, InputLineFault::CutShort)?;
+        append_fault_answer(alloc, &mut text, number, InputLineFault::CutShort)?;
         write_text(writer, text.as_slice())
     }
 

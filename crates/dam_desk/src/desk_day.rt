@@ -70,7 +70,7 @@ impl DeskDay {
         self.day_answer.as_slice()
     }
 
-    pub(crate) fn entered(&self) -> u32
+    pub(crate) fn entered_count(&self) -> u32
         ensures { result ≡ self.now.entered }
     {
         self.entered

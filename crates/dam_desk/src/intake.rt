@@ -4,7 +4,7 @@ ghost use Rattle.dam_book.specs.Book.{commands_of};
 ghost use Rattle.dam_book.specs.Limits.{most_entries};
 ghost use Rattle.dam_results.specs.Written.{written};
 ghost use Rattle.dam_store.specs.FileLines.{has_byte, text_of};
-ghost use Rattle.dam_desk.specs.Answers.{fault_line};
+ghost use Rattle.dam_desk.specs.Answers.{fault_answer};
 ghost use Rattle.dam_desk.specs.DeskJournal.{JournalContent, DeskState, next};
 ghost use Rattle.dam_desk.specs.InputLines.{IsMeaning, kept_bytes};
 ghost use Rattle.dam_desk.specs.declared.meaning.Meaning.TheVariants.{Day as Days, Command as Commands, Fault};
@@ -13,7 +13,7 @@ ghost use Rattle.dam_desk.specs.inside.TextLines.{is_ended};
 
 use crate::desk_day::DeskDay;
 use crate::fault::InputLineFault;
-use crate::fault_line::append_fault_line;
+use crate::fault_answer::append_fault_answer;
 use crate::input_line::InputLine;
 use crate::meaning::{Meaning, read_input_line};
 use crate::text_lines::split_first_line;
@@ -147,9 +147,9 @@ impl Intake {
         ensures begins { self.new.begins ≡ self.old.begins }
         ensures entries { self.new.entries.items ≡ self.old.entries.items }
         ensures text { OnOk result (self.new.answers.items
-            ≡ self.old.answers.items ++ fault_line self.old.answered fault) }
+            ≡ self.old.answers.items ++ fault_answer self.old.answered fault) }
     {
-        append_fault_line(self.alloc, &mut self.answers, self.answered, fault)
+        append_fault_answer(self.alloc, &mut self.answers, self.answered, fault)
     }
 
     /// Answers the record of a day: it begins the day, or is the same day again.
@@ -200,7 +200,7 @@ impl Intake {
         if day.is_full(command) {
             return self.append_fault(InputLineFault::JournalFull);
         }
-        let number = day.entered() + 1;
+        let number = day.entered_count() + 1;
         day.apply_and_append_entry(number, command, &mut self.entries, &mut self.answers)
     }
 

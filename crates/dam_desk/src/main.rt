@@ -13,7 +13,7 @@ mod command_line;
 mod desk;
 mod desk_day;
 mod fault;
-mod fault_line;
+mod fault_answer;
 mod input_line;
 mod intake;
 mod laws;

@@ -91,7 +91,7 @@ fn meaning_of_text(alloc: Global, text: &[u8], before: usize) -> Result<Meaning,
 }
 
 /// The text in which a line is read: the record of the day, then the line and its line feed.
-fn text_after_day(alloc: Global, day_record: &[u8], line: &[u8]) -> Result<Vec<u8>, AllocError>
+fn day_and_line_text(alloc: Global, day_record: &[u8], line: &[u8]) -> Result<Vec<u8>, AllocError>
     ensures { IfOk result (λ text. text.items ≡ day_record.now ++ (line.now ++ 10 ∷ [])) }
 {
     let mut text = Vec::with_capacity(alloc, day_record.len() + line.len() + 1)?;
@@ -116,6 +116,6 @@ pub(crate) fn read_input_line(
     if line.len() > MOST_LINE {
         return Ok(Meaning::Fault(InputLineFault::TooLong));
     }
-    let text = text_after_day(alloc, day_record, line)?;
+    let text = day_and_line_text(alloc, day_record, line)?;
     meaning_of_text(alloc, text.as_slice(), day_record.len())
 }

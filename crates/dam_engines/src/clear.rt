@@ -70,14 +70,14 @@ fn clear_journal<H: Threads + Sync, T: Listener + Sync>(
         IsMadeFrom (AreResultsWithin plan) text.items results.items) }
     ensures fault { IfErr result (IsRunFault (IsClearFault plan) text.items) }
 {
-    let run = run_journal(alloc, seed, text.as_slice())?;
+    let run = run_of_journal(alloc, seed, text.as_slice())?;
     drop(text);
-    watch.commands_refused(run.refused);
+    watch.on_commands_refused(run.refused);
     clear_book(rt, alloc, &run.book, plan, watch)
 }
 
 /// Runs the journal of a text. A text that is too long may have been cut after the first byte too many.
-fn run_journal(alloc: Global, seed: Seed, text: &[u8]) -> Result<Run, RunFault>
+fn run_of_journal(alloc: Global, seed: Seed, text: &[u8]) -> Result<Run, RunFault>
     ensures done { IfOk result (λ found. (periods : ℕ) × (commands : List Command)
         × ReadsAs text.now periods commands × (found.book ≡ run periods commands)
         × HasRefused periods commands found.refused) }
@@ -101,9 +101,9 @@ pub(crate) fn clear_book<H: Threads + Sync, T: Listener + Sync>(
 {
     published_results_are_clearings();
     let problem = Problem::of_book(alloc, book)?;
-    watch.search_begins(1 << plan.depth(problem.block_count()));
+    watch.on_search_begin(1 << plan.depth(problem.block_count()));
     let best = search(rt, alloc, &problem, plan, watch);
-    watch.search_ends();
+    watch.on_search_end();
     let published = results(alloc, &problem, best?)?;
     Ok(results_text(alloc, &published)?)
 }

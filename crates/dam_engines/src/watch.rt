@@ -5,21 +5,21 @@ use dam_search::{FreeTurn, Turnstile};
 /// A turnstile that is also called with the number of refused commands, and when a search begins and when it ends.
 pub trait Watch: Turnstile {
     /// Called by `run_clear` before its book is cleared, with how many of the journal's commands the book refused.
-    fn commands_refused(&self, commands: u32);
+    fn on_commands_refused(&self, commands: u32);
 
     /// Called before a search, with the number of its pieces.
-    fn search_begins(&self, pieces: u32);
+    fn on_search_begin(&self, pieces: u32);
 
     /// Called after the search, with or without a result.
-    fn search_ends(&self);
+    fn on_search_end(&self);
 }
 
 impl Watch for FreeTurn {
-    fn commands_refused(&self, _commands: u32) {}
+    fn on_commands_refused(&self, _commands: u32) {}
 
-    fn search_begins(&self, _pieces: u32) {}
+    fn on_search_begin(&self, _pieces: u32) {}
 
-    fn search_ends(&self) {}
+    fn on_search_end(&self) {}
 }
 
 /// A watch as the functions below `run_clear` and `run_day` see it. These are generic in it, and their own contracts let
@@ -33,13 +33,13 @@ pub(crate) trait Listener: Turnstile {
 
     ghost may_hear_pieces: { Self → ℕ → Type 0 };
 
-    fn commands_refused(&self, commands: u32)
+    fn on_commands_refused(&self, commands: u32)
         requires { may_hear_refused self.now commands };
 
-    fn search_begins(&self, pieces: u32)
+    fn on_search_begin(&self, pieces: u32)
         requires { may_hear_pieces self.now pieces };
 
-    fn search_ends(&self);
+    fn on_search_end(&self);
 }
 
 /// A caller's watch, which hears every number. Only tests show that each call is handed on as it is made.
@@ -61,15 +61,15 @@ impl<T: Watch> Listener for WatchOfCaller<'_, T> {
 
     ghost may_hear_pieces = { λ _ _. Unit {0} };
 
-    fn commands_refused(&self, commands: u32) {
-        self.0.commands_refused(commands);
+    fn on_commands_refused(&self, commands: u32) {
+        self.0.on_commands_refused(commands);
     }
 
-    fn search_begins(&self, pieces: u32) {
-        self.0.search_begins(pieces);
+    fn on_search_begin(&self, pieces: u32) {
+        self.0.on_search_begin(pieces);
     }
 
-    fn search_ends(&self) {
-        self.0.search_ends();
+    fn on_search_end(&self) {
+        self.0.on_search_end();
     }
 }

@@ -297,7 +297,7 @@ impl<J: GateName, R: Wait + Drop> Locked<J, R> {
     ///
     /// All that may be refused comes first. The next call takes the slot that a refused call has left at the writer. The
     /// caller's part counts the entry.
-    pub(crate) fn journal_and_publish(
+    pub(crate) fn append_and_publish(
         &mut self,
         known: &KnownHistories<'_, J>,
         part: &mut LedgerPart<Answered<J>>,

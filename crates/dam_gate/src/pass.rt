@@ -231,7 +231,7 @@ impl<J: GateName> Pass<J> {
             seen: &self.history,
             learnt: &self.learnt,
         };
-        let (answer, after) = locked.journal_and_publish(&known, &mut self.part, command)?;
+        let (answer, after) = locked.append_and_publish(&known, &mut self.part, command)?;
         self.receipts
             .push_reserved(PackedEntry::new(answer.0, received, answer.1));
         self.note = Some(Note {

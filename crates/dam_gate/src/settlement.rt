@@ -68,7 +68,9 @@ impl<A: Allocator> Settled<A> {
 /// A journal that isn't settled with the accounts, given back with the reason.
 #[derive(Debug, Drop)]
 pub struct Unsettled<A: Allocator = Global> {
+    /// The first mismatch, or that memory ran out.
     pub why: Mismatch,
+    /// The journal, unchanged.
     pub journal: Journal<A>,
 }
 

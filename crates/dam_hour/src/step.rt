@@ -15,8 +15,11 @@ use dam_book::{Price, Qty, Side};
 /// It buys or sells up to `qty` tenths of a MW, at its limit price in cents per MWh or better.
 #[derive(Clone, Copy, PartialEq, Eq, Debug)]
 pub struct Step {
+    /// Whether it buys or sells.
     pub side: Side,
+    /// The limit price, in cents per MWh.
     pub price: Price,
+    /// The offered volume, in tenths of a MW.
     pub qty: Qty,
 }
 

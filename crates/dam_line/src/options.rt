@@ -5,8 +5,11 @@ use dam_plan::{MOST_CUT, MOST_NODES, MOST_WORKERS};
 /// An option with a number.
 #[derive(Clone, Copy)]
 pub struct NumberOption {
+    /// The word of the option, without its two dashes.
     pub name: &'static str,
+    /// The least number that it takes.
     pub least: u32,
+    /// The greatest number that it takes.
     pub most: u32,
     /// The number if the words give none.
     pub default: u32,
@@ -14,6 +17,7 @@ pub struct NumberOption {
     pub default_text: &'static str,
     /// The number's name in the help.
     pub letter: &'static str,
+    /// The help's text on it.
     pub help: &'static str,
 }
 

@@ -41,8 +41,7 @@ impl Model for Plan {
     ghost invariant = { λ p.
         IsPlan (record { workers = p.workers; cut = p.cut; node_limit = p.node_limit }) };
 
-    ghost inverse = { λ p.
-        record { workers = p.workers; cut = p.cut; node_limit = p.node_limit } };
+    ghost inverse = { λ p. record { workers = p.workers; cut = p.cut; node_limit = p.node_limit } };
 }
 
 impl Plan {

@@ -11,6 +11,7 @@ pub struct Jobs {
 }
 
 impl Jobs {
+    /// No jobs yet.
     pub fn new() -> Jobs {
         Jobs {
             begun: AtomicU32::new(0),

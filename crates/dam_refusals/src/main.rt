@@ -24,7 +24,7 @@ use dam_book::{Command, Seed};
 use dam_results::{JournalRead, read_journal};
 use day::{hold_day, run_threads_again};
 use line::read_job_again;
-use refused_calls::{fill_journal, refuse_commands, settle_others};
+use refused_calls::{fill_journal, give_refused_commands, settle_others};
 use std::alloc::Global;
 use std::io::Read;
 use std::sync::Wait;
@@ -64,7 +64,7 @@ fn run_sequence<R: Threads + Wait + Sync>(
         "threads" => hold_day_of_text(rt, alloc, seed, text, true),
         "filled" => fill_journal(rt, alloc, seed, false),
         "full" => fill_journal(rt, alloc, seed, true),
-        "others" => refuse_commands(rt, alloc, seed),
+        "others" => give_refused_commands(rt, alloc, seed),
         "settle" => settle_others(rt, alloc, seed),
         "read" => read_again(alloc, text),
         "write" => write_journal(alloc, text),

@@ -18,7 +18,7 @@ use std::sync::Wait;
 const BEFORE_CLOSE: u32 = 9_999;
 
 /// A submit of a sell order, by this participant under this name.
-fn submit_command(who: &[u8], name: &[u8]) -> Option<Command> {
+fn sell_submit(who: &[u8], name: &[u8]) -> Option<Command> {
     let order = HourOrder::new(
         Side::Sell,
         Price::new(3_000)?,
@@ -33,7 +33,7 @@ fn submit_command(who: &[u8], name: &[u8]) -> Option<Command> {
 }
 
 /// A submit of a block of one period, whose terms the gate packs on the heap.
-fn submit_block_command(who: &[u8], name: &[u8]) -> Option<Command> {
+fn block_submit(who: &[u8], name: &[u8]) -> Option<Command> {
     let pairs = [(Period::new(1)?, Qty::new(10)?)];
     let volumes = Volumes::new(&pairs).ok()?;
     let order = BlockOrder::new(Side::Sell, Price::new(3_000)?, volumes, None, None);
@@ -44,8 +44,8 @@ fn submit_block_command(who: &[u8], name: &[u8]) -> Option<Command> {
     })
 }
 
-/// A cancel of A's order, which isn't there.
-fn cancel_command() -> Option<Command> {
+/// A cancel of an order of A that isn't there.
+fn cancel_of_absent_order() -> Option<Command> {
     Some(Command::Cancel {
         who: Participant::new(b"A")?,
         name: Name::new(b"S1")?,
@@ -78,7 +78,7 @@ fn fill_at_gate<J: GateName, R: Wait>(
 {
     let mut passes = Passes::<J>::new(alloc)?;
     let gate = Gate::<J, &R>::begin_seeded(rt, alloc, opening, seed)?;
-    let cancel = cancel_command().ok_or(Stop::Wrong)?;
+    let cancel = cancel_of_absent_order().ok_or(Stop::Wrong)?;
     enter_repeatedly(rt, &gate, &mut passes, &cancel, BEFORE_CLOSE - 1)?;
     if is_closed {
         fill_and_close(rt, &gate, &mut passes)?;
@@ -95,8 +95,8 @@ fn fill_and_close<J: GateName, H: Wait + Drop>(
     gate: &Gate<J, H>,
     passes: &mut Passes<J>,
 ) -> Result<(), Stop> {
-    let first = submit_command(b"A", b"S1").ok_or(Stop::Wrong)?;
-    let second = submit_block_command(b"A", b"S2").ok_or(Stop::Wrong)?;
+    let first = sell_submit(b"A", b"S1").ok_or(Stop::Wrong)?;
+    let second = block_submit(b"A", b"S2").ok_or(Stop::Wrong)?;
     passes.enter(rt, gate, &first, BEFORE_CLOSE - 1)?;
     // refused for the full journal before anything is packed, so also while memory is refused
     let full = GateFault::JournalFull { held: BEFORE_CLOSE };
@@ -135,7 +135,7 @@ fn add_all_passes<J: GateName, H: Wait + Drop>(
 }
 
 /// Whether the gate gives no pass more, to a participant or to the operator.
-fn has_given_all<J: GateName, H: Wait + Drop>(
+fn are_further_passes_refused<J: GateName, H: Wait + Drop>(
     rt: &impl Wait,
     gate: &Gate<J, H>,
     who: &Participant,
@@ -146,7 +146,7 @@ fn has_given_all<J: GateName, H: Wait + Drop>(
 
 /// Makes the calls that a gate of this opening refuses for who makes them. The answer is the number of entries of the
 /// journal, which nobody closed.
-fn refuse_at_gate<J: GateName, R: Wait>(
+fn give_refused_at_gate<J: GateName, R: Wait>(
     rt: &R,
     alloc: Global,
     opening: Opening,
@@ -159,13 +159,13 @@ fn refuse_at_gate<J: GateName, R: Wait>(
     let gate = Gate::<J, &R>::begin_seeded(rt, alloc, opening, seed)?;
     let who = Participant::new(b"A").ok_or(Stop::Wrong)?;
     add_all_passes(rt, &gate, &mut passes, &who)?;
-    if !has_given_all(rt, &gate, &who) {
+    if !are_further_passes_refused(rt, &gate, &who) {
         return Err(Stop::Wrong);
     }
-    refuse_others(rt, &gate, &mut passes)?;
+    expect_refusal_of_others(rt, &gate, &mut passes)?;
     let (journal, refused) = (gate.finish(), passes.refused);
     let accounts = passes.into_accounts(accounts)?;
-    let (journal, again) = unsettled_again(alloc, journal, &accounts, Mismatch::StillOpen)?;
+    let (journal, again) = expect_mismatch(alloc, journal, &accounts, Mismatch::StillOpen)?;
     Ok(Told {
         answer: Answer::Entries(journal.entries().len()),
         refused: refused.wrapping_add(again),
@@ -173,26 +173,26 @@ fn refuse_at_gate<J: GateName, R: Wait>(
 }
 
 /// A's pass submits for B and closes, and the operator's submits.
-fn refuse_others<J: GateName, H: Wait + Drop>(
+fn expect_refusal_of_others<J: GateName, H: Wait + Drop>(
     rt: &impl Wait,
     gate: &Gate<J, H>,
     passes: &mut Passes<J>,
 ) -> Result<(), Stop> {
-    let own = submit_command(b"A", b"S1").ok_or(Stop::Wrong)?;
-    let other = submit_command(b"B", b"S1").ok_or(Stop::Wrong)?;
+    let own = sell_submit(b"A", b"S1").ok_or(Stop::Wrong)?;
+    let other = sell_submit(b"B", b"S1").ok_or(Stop::Wrong)?;
     passes.expect_refusal(rt, gate, 0, &other, 0, GateFault::NotYours)?;
     passes.expect_refusal(rt, gate, 0, &Command::Close, 0, GateFault::NotYours)?;
     passes.expect_refusal(rt, gate, 1, &own, 0, GateFault::NotYours)
 }
 
 /// A gate gives its nine passes, and refuses the commands that are not a pass's to give.
-pub fn refuse_commands<R: Wait>(rt: &R, alloc: Global, seed: Seed) -> Result<Told, Stop> {
-    refuse_at_gate::<Brand, R>(rt, alloc, Opening::new(24), seed)
+pub fn give_refused_commands<R: Wait>(rt: &R, alloc: Global, seed: Seed) -> Result<Told, Stop> {
+    give_refused_at_gate::<Brand, R>(rt, alloc, Opening::new(24), seed)
 }
 
 /// Settles the journal until memory isn't refused. The answer has to be this mismatch, and how many calls were refused
 /// comes with the journal that was handed back.
-fn unsettled_again(
+fn expect_mismatch(
     alloc: Global,
     journal: Journal,
     accounts: &[Account],
@@ -278,8 +278,8 @@ fn append_accounts(accounts: &mut Vec<Account>, more: Vec<Account>) -> Result<()
 /// A journal of A's submit and the close, with the accounts of A and of the operator between two of other gates: each
 /// has one receipt, the first of number 3, the last of number 1.
 fn hold_among_others<R: Wait>(rt: &R, alloc: Global, seed: Seed) -> Result<Held, Stop> {
-    let own = submit_command(b"A", b"S1").ok_or(Stop::Wrong)?;
-    let other = submit_command(b"B", b"S1").ok_or(Stop::Wrong)?;
+    let own = sell_submit(b"A", b"S1").ok_or(Stop::Wrong)?;
+    let other = sell_submit(b"B", b"S1").ok_or(Stop::Wrong)?;
     let mut accounts = Vec::with_capacity(alloc, MOST_PASSES as usize)?;
     let mut third = enter_all(rt, alloc, seed, &[own.copy(), own.copy(), other.copy()])?;
     let mut first = enter_all(rt, alloc, seed, &[other])?;
@@ -299,7 +299,7 @@ fn hold_among_others<R: Wait>(rt: &R, alloc: Global, seed: Seed) -> Result<Held,
 }
 
 /// Settles the journal with receipts of other gates, in three ways, each refused for its mismatch.
-fn unsettled_by_others(
+fn expect_mismatches_with_others(
     alloc: Global,
     journal: Journal,
     accounts: &[Account],
@@ -311,7 +311,7 @@ fn unsettled_by_others(
         (1..4, Mismatch::Doubled(1)),
     ] {
         let given = accounts.get(range).ok_or(Stop::Wrong)?;
-        let (back, again) = unsettled_again(alloc, journal, given, wanted)?;
+        let (back, again) = expect_mismatch(alloc, journal, given, wanted)?;
         journal = back;
         refused = refused.wrapping_add(again);
     }
@@ -325,7 +325,7 @@ pub fn settle_others<R: Wait>(rt: &R, alloc: Global, seed: Seed) -> Result<Told,
         accounts,
         refused,
     } = hold_among_others(rt, alloc, seed)?;
-    let (journal, others) = unsettled_by_others(alloc, journal, &accounts)?;
+    let (journal, others) = expect_mismatches_with_others(alloc, journal, &accounts)?;
     let own = accounts.get(1..3).ok_or(Stop::Wrong)?;
     let (settled, again) = settle_again(alloc, journal, own)?;
     Ok(Told {

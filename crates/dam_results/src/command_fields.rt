@@ -104,7 +104,7 @@ pub(crate) fn read_day(fields: &NineFields) -> Result<DayLength, usize>
     Ok(periods)
 }
 
-fn read_hourly_order(fields: &NineFields, command: &mut Command) -> Result<(), usize>
+fn read_hourly_order_into(fields: &NineFields, command: &mut Command) -> Result<(), usize>
     requires kind { fields.now.kind.now ≡ codes "submit" }
     requires form { fields.now.form.now ≡ codes "hour" }
     ensures { ReadsCommand (submit_of hour_rules) fields.now command.new result }
@@ -123,7 +123,7 @@ fn read_hourly_order(fields: &NineFields, command: &mut Command) -> Result<(), u
     Ok(())
 }
 
-fn read_block(fields: &NineFields, command: &mut Command) -> Result<(), usize>
+fn read_block_into(fields: &NineFields, command: &mut Command) -> Result<(), usize>
     requires kind { fields.now.kind.now ≡ codes "submit" }
     requires form { fields.now.form.now ≡ codes "block" }
     ensures { ReadsCommand (submit_of block_rules) fields.now command.new result }
@@ -155,18 +155,18 @@ fn fail_unknown_form(fields: &NineFields) -> Result<(), usize>
     Err(4)
 }
 
-fn read_submit(fields: &NineFields, command: &mut Command) -> Result<(), usize>
+fn read_submit_into(fields: &NineFields, command: &mut Command) -> Result<(), usize>
     requires { fields.now.kind.now ≡ codes "submit" }
     ensures { ReadsCommand (submit_rules (fields_in fields.now)) fields.now command.new result }
 {
     match fields.form {
-        b"hour" => read_hourly_order(fields, command),
-        b"block" => read_block(fields, command),
+        b"hour" => read_hourly_order_into(fields, command),
+        b"block" => read_block_into(fields, command),
         _ => fail_unknown_form(fields),
     }
 }
 
-fn read_amend(fields: &NineFields, command: &mut Command) -> Result<(), usize>
+fn read_amend_into(fields: &NineFields, command: &mut Command) -> Result<(), usize>
     requires { fields.now.kind.now ≡ codes "amend" }
     ensures { ReadsCommand amend_rules fields.now command.new result }
 {
@@ -186,7 +186,7 @@ fn read_amend(fields: &NineFields, command: &mut Command) -> Result<(), usize>
     Ok(())
 }
 
-fn read_cancel(fields: &NineFields, command: &mut Command) -> Result<(), usize>
+fn read_cancel_into(fields: &NineFields, command: &mut Command) -> Result<(), usize>
     requires { fields.now.kind.now ≡ codes "cancel" }
     ensures { ReadsCommand cancel_rules fields.now command.new result }
 {
@@ -197,7 +197,7 @@ fn read_cancel(fields: &NineFields, command: &mut Command) -> Result<(), usize>
     Ok(())
 }
 
-fn read_close(fields: &NineFields, command: &mut Command) -> Result<(), usize>
+fn read_close_into(fields: &NineFields, command: &mut Command) -> Result<(), usize>
     requires { fields.now.kind.now ≡ codes "close" }
     ensures { ReadsCommand close_rules fields.now command.new result }
 {
@@ -209,14 +209,14 @@ fn read_close(fields: &NineFields, command: &mut Command) -> Result<(), usize>
 }
 
 /// Reads the command of a later record.
-pub(crate) fn read_command(fields: &NineFields, command: &mut Command) -> Result<(), usize>
+pub(crate) fn read_command_into(fields: &NineFields, command: &mut Command) -> Result<(), usize>
     ensures { ReadsCommand (command_rules (fields_in fields.now)) fields.now command.new result }
 {
     match fields.kind {
-        b"submit" => read_submit(fields, command),
-        b"amend" => read_amend(fields, command),
-        b"cancel" => read_cancel(fields, command),
-        b"close" => read_close(fields, command),
+        b"submit" => read_submit_into(fields, command),
+        b"amend" => read_amend_into(fields, command),
+        b"cancel" => read_cancel_into(fields, command),
+        b"close" => read_close_into(fields, command),
         _ => Err(1),
     }
 }

@@ -127,7 +127,7 @@ fn quoted_part<'a>(text: &'a [u8]) -> (&'a [u8], &'a [u8])
 }
 
 /// Joins the bytes of a field: its first part in quotes, and the others in the text after that part.
-fn join<'a>(
+fn read_joined<'a>(
     alloc: Global,
     first: &[u8],
     text: &'a [u8],
@@ -158,7 +158,7 @@ fn read_quoted<'a>(alloc: Global, text: &'a [u8]) -> Result<(Field<'a>, After<'a
     if bare.is_empty() {
         Ok((Field::Part(first), after))
     } else {
-        join(alloc, first, rest)
+        read_joined(alloc, first, rest)
     }
 }
 

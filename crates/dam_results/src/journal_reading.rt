@@ -11,7 +11,7 @@ ghost use Rattle.dam_results.specs.Faults.{IsJournalFault, IsFaultOfRecords, IsR
 ghost use Rattle.dam_results.specs.inside.Reader.{fields_of, records_left};
 ghost use Rattle.dam_results.specs.inside.NineFields.{fields_in, TakesRecord};
 
-use crate::command_fields::{read_command, read_day};
+use crate::command_fields::{read_command_into, read_day};
 use crate::csv_records::{Field, Records};
 use crate::from_journal::FromJournal;
 use crate::laws;
@@ -180,7 +180,7 @@ fn take_record<T: FromJournal>(
     let record = number as usize + 1;
     let nine = later_fields(record, fields)?;
     let mut command = Command::Close;
-    match read_command(&nine, &mut command) {
+    match read_command_into(&nine, &mut command) {
         Ok(()) => made.take_command(number, &command)?,
         Err(field) => return Err(JournalFault::BadField { record, field }),
     }

@@ -25,7 +25,7 @@ pub(crate) trait PriceOracle {
         ensures { IsPricing (problem self.now) pricing.new };
 
     /// The welfare of a selection, unless it has none or less than `least`; and the prices at which it clears.
-    fn clear_selection(
+    fn price_selection(
         &self,
         selection: Selection,
         pricing: &Pricing,
@@ -68,14 +68,14 @@ impl<A: Allocator, B: Allocator> PriceOracle for ClassCurves<'_, A, B> {
         self.write_pricing(accepted, undecided, pricing);
     }
 
-    fn clear_selection(
+    fn price_selection(
         &self,
         selection: Selection,
         pricing: &Pricing,
         least: i64,
         prices: &mut ClassPrices,
     ) -> Option<i64> {
-        self.clear_selection(selection, pricing, least, prices)
+        self.price_selection(selection, pricing, least, prices)
     }
 
     fn has_loss(&self, selection: Selection, prices: &ClassPrices) -> bool {

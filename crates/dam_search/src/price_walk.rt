@@ -118,7 +118,7 @@ impl<A: Allocator, P: PriceOracle> PriceWalk<'_, A, P> {
         dam_bound::laws::balanced_selections_have_prices();
         let _invariant = self.problem.periods(); // for the proof: the invariant of a problem
         let mut prices = ClassPrices::placeholder();
-        let Some(welfare) = self.oracle.clear_selection(
+        let Some(welfare) = self.oracle.price_selection(
             selection,
             pricing,
             signed_welfare(state.incumbent_read),

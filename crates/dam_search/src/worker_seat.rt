@@ -37,7 +37,7 @@ pub(crate) struct WorkerSeat<'a> {
 
 impl<'a> WorkerSeat<'a> {
     /// The first seat of the words.
-    pub(crate) fn first(words: &'a Words, seat: Seat, pieces: u32) -> WorkerSeat<'a>
+    pub(crate) fn new(words: &'a Words, seat: Seat, pieces: u32) -> WorkerSeat<'a>
         requires seat { seat.table_id ≡ words.now.shared.table_id }
         requires words { words.now.shared.table_id.words ≡ 2 }
         requires view { seat.me ≡ (first_view pieces, []) }

@@ -166,7 +166,7 @@ pub(crate) fn walk_all_pieces<R: Threads + Sync, P: PriceOracle + Sync, T: Turns
 {
     let count = piece_count(context.depth);
     let (words, seat) = new_words(context.alloc, count)?;
-    let mut first = WorkerSeat::first(&words, seat, count);
+    let mut first = WorkerSeat::new(&words, seat, count);
     first.offer(context.first_welfare);
     let answers = walk_with_workers(rt, context, workers, turnstile, &mut first)?;
     let seat = first.into_seat();

@@ -31,7 +31,9 @@ pub struct FoundStore<D: Disk> {
 /// A disk that holds no store that can be opened now, and why.
 #[derive(Drop)]
 pub struct UnopenedStore<D: Disk> {
+    /// The fault that ended the finding or the opening.
     pub why: StoreFault,
+    /// The disk, given back.
     pub disk: D,
 }
 

@@ -27,8 +27,8 @@ returns-clause-fault g c =
     (λ fault is. made_fault-run (IsClearFault c.args.plan) c.args.text.items (λ periods commands why no. no) fault
     (made.0, made.1, made.2, subst (λ (b : BookState). IsBookFault c.args.plan b fault) made.3 is)) c.clear_book.ensures.fault
 
-pub commands_refused-requires : goal.commands_refused-requires
-commands_refused-requires g c =
+pub on_commands_refused-requires : goal.on_commands_refused-requires
+on_commands_refused-requires g c =
     let made = rw c.as_slice.ensures.value at c.in_ok-run.ensures.done in
     subst (g.T.Listener.may_hear_refused c.args.watch.now) (sym made.4) (c.requires.watched made.0 made.1 made.2).0
 

@@ -19,6 +19,6 @@ returns-then-is_empty c =
 
 pub returns-else-is_empty : goal.returns-else-is_empty
 returns-else-is_empty c =
-    IfOk-weaker c.join.result _ _ (λ read ends.
+    IfOk-weaker c.read_joined.result _ _ (λ read ends.
     EndsField-from st.InQuoted st.AfterQuote [] c.args.text.now c.quoted_part.result.0.now c.quoted_part.result.1.now _ _ _
-    (c.quoted_part.ensures []) ends) c.join.ensures
+    (c.quoted_part.ensures []) ends) c.read_joined.ensures

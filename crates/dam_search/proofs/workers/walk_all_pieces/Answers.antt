@@ -8,32 +8,32 @@ use Rattle.dam_search.proofs.workers.walk_all_pieces.Goals as goal
 pub walk_with_workers-requires-clause-pieces : goal.walk_with_workers-requires-clause-pieces
 walk_with_workers-requires-clause-pieces g c κstate within =
     let is = ap (λ (x : View × TableId). x.0) c.offer.ensures.kept in
-    let first = ap (λ (state : Seat (Unit {0}) View). state.me.0) c.first-first.ensures
+    let first = ap (λ (state : Seat (Unit {0}) View). state.me.0) c.new-first.ensures
     ∙ ap (λ (m : Me (Unit {0}) View). m.0) c.in_ok-words.ensures.seat.1 in
-    (begun c.piece_count-count.result c.first-first.result.seat.me.0 c.offer.new.self.seat.me.0 first is).pieces_are
+    (begun c.piece_count-count.result c.new-first.result.seat.me.0 c.offer.new.self.seat.me.0 first is).pieces_are
     ∙ c.piece_count-count.ensures.value
 
 pub walk_with_workers-requires-clause-undrawn : goal.walk_with_workers-requires-clause-undrawn
 walk_with_workers-requires-clause-undrawn g c κstate within =
     let is = ap (λ (x : View × TableId). x.0) c.offer.ensures.kept in
-    let first = ap (λ (state : Seat (Unit {0}) View). state.me.0) c.first-first.ensures
+    let first = ap (λ (state : Seat (Unit {0}) View). state.me.0) c.new-first.ensures
     ∙ ap (λ (m : Me (Unit {0}) View). m.0) c.in_ok-words.ensures.seat.1 in
-    (begun c.piece_count-count.result c.first-first.result.seat.me.0 c.offer.new.self.seat.me.0 first is).undrawn
+    (begun c.piece_count-count.result c.new-first.result.seat.me.0 c.offer.new.self.seat.me.0 first is).undrawn
 
 pub walk_with_workers-requires-clause-left : goal.walk_with_workers-requires-clause-left
 walk_with_workers-requires-clause-left g c κstate within =
     let is = ap (λ (x : View × TableId). x.0) c.offer.ensures.kept in
-    let first = ap (λ (state : Seat (Unit {0}) View). state.me.0) c.first-first.ensures
+    let first = ap (λ (state : Seat (Unit {0}) View). state.me.0) c.new-first.ensures
     ∙ ap (λ (m : Me (Unit {0}) View). m.0) c.in_ok-words.ensures.seat.1 in
-    let left = (begun c.piece_count-count.result c.first-first.result.seat.me.0 c.offer.new.self.seat.me.0 first is).seats_left in
+    let left = (begun c.piece_count-count.result c.new-first.result.seat.me.0 c.offer.new.self.seat.me.0 first is).seats_left in
     let few = c.requires.few_workers in omega (arith, left, few)
 
 pub close_words-closed_words-requires-clause-all : goal.close_words-closed_words-requires-clause-all
 close_words-closed_words-requires-clause-all g c =
     let is = ap (λ (x : View × TableId). x.0) c.offer.ensures.kept in
-    let first = ap (λ (state : Seat (Unit {0}) View). state.me.0) c.first-first.ensures
+    let first = ap (λ (state : Seat (Unit {0}) View). state.me.0) c.new-first.ensures
     ∙ ap (λ (m : Me (Unit {0}) View). m.0) c.in_ok-words.ensures.seat.1 in
-    let b = begun c.piece_count-count.result c.first-first.result.seat.me.0 c.offer.new.self.seat.me.0 first is in let one = b.seats in
+    let b = begun c.piece_count-count.result c.new-first.result.seat.me.0 c.offer.new.self.seat.me.0 first is in let one = b.seats in
     let most = b.seats_left in
     let last = ap (λ (state : Seat (Unit {0}) View). state.me.0) c.into_seat-seat.ensures in
     let seats = ap (λ (x : View). x.seats) last in let left = ap (λ (x : View). x.seats_left) last in
@@ -45,9 +45,9 @@ pub returns : goal.returns
 returns g c =
     let context = c.args.context.now in let view = c.offer.new.self.seat.me.0 in
     let is = ap (λ (x : View × TableId). x.0) c.offer.ensures.kept in
-    let first = ap (λ (state : Seat (Unit {0}) View). state.me.0) c.first-first.ensures
+    let first = ap (λ (state : Seat (Unit {0}) View). state.me.0) c.new-first.ensures
     ∙ ap (λ (m : Me (Unit {0}) View). m.0) c.in_ok-words.ensures.seat.1 in
-    let b = begun c.piece_count-count.result c.first-first.result.seat.me.0 view first is in
+    let b = begun c.piece_count-count.result c.new-first.result.seat.me.0 view first is in
     let last = ap (λ (state : Seat (Unit {0}) View). state.me.0) c.into_seat-seat.ensures in
     let key = c.in_ok-words.ensures.words.2 in let count = c.piece_count-count.ensures.value in
     let greatest_offer = c.offer.ensures.greatest_offer in let none = ap (λ (x : View). x.greatest_offer) first in

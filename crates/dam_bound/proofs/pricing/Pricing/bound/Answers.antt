@@ -62,13 +62,13 @@ loop-place-2-init c =
 pub loop-place-2-preserved : goal.loop-place-2-preserved
 loop-place-2-preserved c =
     let gains = c.args.self.now.gains in let j = c.loop-place-2.place-index in
-    let p = get_or c.args.left.now j 0 in
+    let p = get_or c.args.undecided.now j 0 in
     let from : c.from.result ≡ p = c.from.ensures in
-    let inside : p < most_blocks = All-get_or (λ (place : ℕ). place < most_blocks) c.args.left.now j 0 c.loop-place-2-test.true c.requires.places in
+    let inside : p < most_blocks = All-get_or (λ (place : ℕ). place < most_blocks) c.args.undecided.now j 0 c.loop-place-2-test.true c.requires.places in
     let own = c.requires.pricing.1.small_gains p (pos 0) inside in let a = own.at_least in let b = own.at_most in
     let low = c.loop-place-2.invariant.size.at_least in let high = c.loop-place-2.invariant.size.at_most in
     let test = c.loop-place-2-test.true in let few = c.requires.few in let so_far = c.loop-place-2.invariant.so_far in
-    let step = open_from gains c.args.left.now j p (slice_get-get_or c.args.left.now j 0 test) in
+    let step = open_from gains c.args.undecided.now j p (slice_get-get_or c.args.undecided.now j 0 test) in
     let narrow = to_z-of_z w64 (get_or gains p (pos 0)) (omega (arith, ints, a, b)) in
     let most : c.max-total.result ≡ int_max (get_or gains p (pos 0)) (pos 0) =
     c.max-total.ensures.value ∙ ap (λ (n : ℕ). int_max (to_z w64 (of_z w64 (get_or gains n (pos 0)))) (pos 0)) from

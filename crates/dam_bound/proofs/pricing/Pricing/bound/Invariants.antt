@@ -12,6 +12,6 @@ invariant-loop-place l = record {
 abbrev pub invariant-loop-place-2 : goal.invariant-loop-place-2
 invariant-loop-place-2 l = record {
   size : IsWithin (greatest_base + (most_blocks + l.place-index) * greatest_priced_gain) l.total;
-  so_far : l.total +ℤ over_open l.self.gains (drop l.place-index l.left)
-      ≡ (l.self.base +ℤ over_gains l.self.gains l.fn.accepted) +ℤ over_open l.self.gains l.left;
+  so_far : l.total +ℤ over_open l.self.gains (drop l.place-index l.undecided)
+      ≡ (l.self.base +ℤ over_gains l.self.gains l.fn.accepted) +ℤ over_open l.self.gains l.undecided;
 }

@@ -10,7 +10,7 @@ pub returns-clause-step : goal.returns-clause-step
 returns-clause-step c before journal at =
     let day = c.in-Some.day in
     let command = c.args.command.now in
-    let same = c.entered-number.ensures in
+    let same = c.entered_count-number.ensures in
     on_ok_all c.apply_and_append_entry.result _ _ _ _ _ (λ book entered entries replies.
     command_entered c.args.self.now _ before journal day c.apply_and_append_entry.new.self command at c.in-Some.is refl (record {
       room = sym c.is_full.ensures.value ∙ c.if-is_full.false;

@@ -8,7 +8,7 @@ pub returns-in_default-clause-walked : goal.returns-in_default-clause-walked
 returns-in_default-clause-walked g c =
     walked_nothing c.requires.ready
     (covers_leaf _ c.requires.long c.args.self.now.same
-    (λ welfare is e. (let under = c.clear_selection.ensures.none c.in_default.is welfare e in inl (omega (arith, ints, under, c.signed_welfare.ensures)))))
+    (λ welfare is e. (let under = c.price_selection.ensures.none c.in_default.is welfare e in inl (omega (arith, ints, under, c.signed_welfare.ensures)))))
 
 pub returns-in_default-solution_if_better-clause-walked : goal.returns-in_default-solution_if_better-clause-walked
 returns-in_default-solution_if_better-clause-walked g c =
