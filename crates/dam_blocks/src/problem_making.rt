@@ -29,7 +29,10 @@ pub(crate) struct OrderLists<A: Allocator> {
 }
 
 /// An empty list for each of the periods.
-fn no_steps<A: Allocator + Copy>(alloc: A, periods: u8) -> Result<Vec<Vec<Step, A>, A>, AllocError>
+fn empty_step_lists<A: Allocator + Copy>(
+    alloc: A,
+    periods: u8,
+) -> Result<Vec<Vec<Step, A>, A>, AllocError>
     ensures { IfOk result (λ hourly.
         map (λ steps. steps.items) hourly.items ≡ hours_from 1 periods []) }
 {
@@ -72,7 +75,7 @@ pub(crate) fn split_orders<A: Allocator + Copy, B: Allocator + Copy>(
     ensures rows { IfOk result (λ lists. lists.rows.items ≡ rows_after [] book.now.rows) }
 {
     let mut rows = Vec::with_capacity(alloc, book.len())?;
-    let mut hourly = no_steps(alloc, book.periods().get())?;
+    let mut hourly = empty_step_lists(alloc, book.periods().get())?;
     let mut blocks = Vec::new(alloc);
     for place in 0..book.len() {
         let (who, name, order) = row_at(book, place);

@@ -177,7 +177,7 @@ fn read_field<'a>(alloc: Global, text: &'a [u8]) -> Result<(Field<'a>, After<'a>
 }
 
 /// Reads the record that begins the text, and returns the text after it.
-fn read_record<'a>(
+fn read_record_into<'a>(
     alloc: Global,
     text: &'a [u8],
     fields: &mut Vec<Field<'a>>,
@@ -230,7 +230,7 @@ impl<'a> Records<'a> {
         let Some(record) = from_next_record(self.rest) else {
             return Ok(false);
         };
-        self.rest = read_record(self.alloc, record, &mut self.fields)?;
+        self.rest = read_record_into(self.alloc, record, &mut self.fields)?;
         Ok(true)
     }
 

@@ -48,7 +48,7 @@ impl Batch {
         if line.contains(&b'\n') || line.contains(&0) {
             return Err(BatchFault::NotALine);
         }
-        if add_line(&mut self.bytes, line).is_err() {
+        if append_whole_line(&mut self.bytes, line).is_err() {
             return Err(BatchFault::Memory);
         }
         Ok(())
@@ -71,7 +71,7 @@ impl Batch {
 }
 
 /// Adds a line to the marked lines; after an error they are as before.
-fn add_line(bytes: &mut Vec<u8>, line: &[u8]) -> Result<(), AllocError>
+fn append_whole_line(bytes: &mut Vec<u8>, line: &[u8]) -> Result<(), AllocError>
     requires batch { IsBatch bytes.old.items }
     requires line { has_byte 10 line.now ≡ false }
     ensures batch { IsBatch bytes.new.items }

@@ -5,5 +5,5 @@ use Rattle.dam_results.proofs.csv_records.Records.read_next.Goals as goal
 
 pub returns : goal.returns
 returns c =
-    takes_first c.args.self.now.rest.now c.in-Some.«record».now c.in_ok-self.field-0.now (fields_of c.read_record.new.fields.items)
+    takes_first c.args.self.now.rest.now c.in-Some.«record».now c.in_ok-self.field-0.now (fields_of c.read_record_into.new.fields.items)
     c.in-Some.ensures c.in_ok-self.ensures

@@ -1,6 +1,6 @@
 -- The lists so far, and those that are left.
 use Rattle.dam_blocks.proofs.Common.{◌≡◌, ◌+◌, ◌-◌, ◌++◌, [], map, hours_from}
-use Rattle.dam_blocks.proofs.problem_making.no_steps.Given as goal
+use Rattle.dam_blocks.proofs.problem_making.empty_step_lists.Given as goal
 
 abbrev pub invariant-loop : goal.invariant-loop
 invariant-loop g l =

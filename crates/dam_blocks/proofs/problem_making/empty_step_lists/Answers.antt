@@ -2,7 +2,7 @@
 use Rattle.dam_blocks.proofs.Common.{Vec, List, ◌∷◌, ◌++◌, [], map, ap, ◌∙◌, Step}
 use Rattle.std.proofs.lemmas.List.{map-append}
 use Rattle.dam_blocks.proofs.RowByRow.{none_more}
-use Rattle.dam_blocks.proofs.problem_making.no_steps.Goals as goal
+use Rattle.dam_blocks.proofs.problem_making.empty_step_lists.Goals as goal
 
 pub loop-preserved : goal.loop-preserved
 loop-preserved g c =

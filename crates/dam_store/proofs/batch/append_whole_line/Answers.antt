@@ -1,7 +1,7 @@
 use Rattle.std.proofs.Common.{◌≡◌, [], ◌∷◌, ℕ, List, ◌+◌, ◌-◌, length, set, ap, arith, length-append}
 use Rattle.dam_store.specs.FileLines.{marked, marked_lines}
 use Rattle.dam_store.proofs.Lines.{batch_more}
-use Rattle.dam_store.proofs.batch.add_line.Goals as goal
+use Rattle.dam_store.proofs.batch.append_whole_line.Goals as goal
 
 pub returns-in-Ok-clause-ok : goal.returns-in-Ok-clause-ok
 returns-in-Ok-clause-ok c =
