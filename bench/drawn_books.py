@@ -63,7 +63,7 @@ class DayMarket:
 
 
 class DrawnBook(NamedTuple):
-    """A book: its name, and the script and the arguments that print it."""
+    """A book with the most blocks: its name, and the script and the arguments that print it."""
 
     name: str
     kind: str

@@ -111,7 +111,7 @@ def seconds_text(value: float) -> str:
     return f"{value / 1e-9:.3g} ns"
 
 
-MIB, PER_SECOND, COUNT = "{:.1f} MiB".format, "{:,.0f} a second".format, "{:,.0f}".format
+MIB, PER_SECOND = "{:.1f} MiB".format, "{:,.0f} a second".format
 
 
 def multiple_text(value: float, digits: int = 2) -> str:

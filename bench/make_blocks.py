@@ -131,16 +131,14 @@ Bond = Callable[[list[Order], random.Random], None]
 BONDS: dict[str, Bond] = {FREE: lambda blocks, rng: None, "links": set_links, "groups": set_groups, "both": set_links_and_groups}
 
 
-def book_of_kind(
-    kind: str, spread: int, seed: int, per_hour: int, hourly: int = USUAL_HOURLY, bonds: str = FREE, blocks: int = MOST_BLOCKS
-) -> DrawnBook:
+def book_of_kind(kind: str, spread: int, seed: int, per_hour: int, hourly: int = USUAL_HOURLY, bonds: str = FREE) -> DrawnBook:
     told = f", {bonds}" if bonds != FREE else ""
     told += f", {hourly:,} orders" if hourly != USUAL_HOURLY else ""
     return DrawnBook(
         name=f"{kind} {HOURS * per_hour}{told}, spread {spread:,}, seed {seed}",
         kind=kind,
         script="make_blocks.py",
-        words=[kind, *map(str, (spread, seed, per_hour, blocks, hourly)), bonds],
+        words=[kind, *map(str, (spread, seed, per_hour, MOST_BLOCKS, hourly)), bonds],
         note="a subset sum of equal limits" if spread == 0 and kind in ("base", "odd") else "",
     )
 

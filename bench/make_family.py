@@ -20,7 +20,7 @@ from drawn_books import draw_side, hourly_order, number_up_to, print_day
 
 Span = tuple[int, int]  # from the least to the greatest
 SEED = 20_251_001
-FEW_HOURLY, MANY_HOURLY, THIN_HOURLY = 500, 4_000, 200
+DEEP_HOURLY, THIN_HOURLY = (500, 4_000), 200
 
 
 class FamilyMarket(DayMarket):
@@ -99,17 +99,12 @@ DRAWS = draw_market, draw_paradox, draw_spread, draw_nearties, draw_links, draw_
 FAMILIES = {draw.__name__.removeprefix("draw_"): draw for draw in DRAWS}
 
 
-def book_of_family(family: str, hourly: int, per_hour: int, blocks: int = MOST_BLOCKS) -> DrawnBook:
+def book_of_family(family: str, hourly: int, per_hour: int) -> DrawnBook:
     name = f"{family} {hourly:,}, {HOURS * per_hour} periods"
-    return DrawnBook(name, family, "make_family.py", [family, *map(str, (hourly, blocks, per_hour))])
+    return DrawnBook(name, family, "make_family.py", [family, *map(str, (hourly, MOST_BLOCKS, per_hour))])
 
 
-DEEP = [
-    book_of_family(family, hourly, per_hour)
-    for family in FAMILIES
-    for hourly in (FEW_HOURLY, MANY_HOURLY)
-    for per_hour in PERIODS_OF_HOUR
-]
+DEEP = [book_of_family(family, hourly, per_hour) for family in FAMILIES for hourly in DEEP_HOURLY for per_hour in PERIODS_OF_HOUR]
 THIN = [book_of_family(bond, THIN_HOURLY, per_hour) for bond in ("links", "groups") for per_hour in PERIODS_OF_HOUR]
 
 

@@ -3,7 +3,6 @@
 
 import collections
 import sys
-import textwrap
 from collections.abc import Iterable, Sequence
 from pathlib import Path
 
@@ -17,7 +16,6 @@ from records import PartRecord, read_figures, read_part_records
 from running import TOP
 
 PAGE = TOP / "docs" / "MEASURED.md"
-CIRCUMSTANCES = {"date": "ran on {}", "commit": "measured {}", "machine": "had {}", "kit": "used `{}`"}  # by columns of parts.csv
 HEAD = """# Measured figures
 
 `bench/run` writes this page. A value is the median of several runs, with its quartiles in brackets if they were recorded, or the least and
@@ -67,30 +65,19 @@ def table_of_kinds(figures: Iterable[Figure], targets: Targets) -> str:
 
 
 def read_and_compose_section(part: Part) -> str:
-    """What a part measured, its figures by kinds, and its picture."""
+    """What a part measured, and its figures by kinds."""
     head = f"## `bench/run {part.name}`\n\n{part.subject}\n"
-    return "\n".join(filter(None, [head, table_of_kinds(read_figures(part.name), part.targets), part.picture]))
+    return f"{head}\n{table_of_kinds(read_figures(part.name), part.targets)}"
 
 
 def read_cells_of_part(record: PartRecord) -> list[str]:
     """The cells of the overview for a part: how many figures are recorded, how many of their targets are missed or unclear, the mean load
-    of the minute before, and the versions of its Debian packages."""
+    of the minute before, the day and the commit, and the versions of its Debian packages."""
     figures = read_figures(record.part)
     counts = collections.Counter(figure.verdict for figure in figures if figure.verdict is not Verdict.NONE)
     unclear = f" ({counts[Verdict.UNCLEAR]} unclear)" if counts[Verdict.UNCLEAR] else ""
-    link = f"[{len(figures)}](../bench/measured/{record.part}.csv)"
-    return [record.part, link, f"{counts[Verdict.MISSED]} of {counts.total()}{unclear}", record.load.split(" ")[0], record.versions]
-
-
-def text_of_values(records: Iterable[PartRecord], column: str, words: str) -> str:
-    """Says by these words which parts have which value in a column of the records. The most common one comes last."""
-    parts = collections.defaultdict(list)
-    for record in records:
-        parts[getattr(record, column)].append(f"`{record.part}`")
-    values = sorted(parts, key=lambda value: len(parts[value]))
-    subjects = [" and ".join(filter(None, [", ".join(parts[value][:-1]), parts[value][-1]])) for value in values[:-1]]
-    subjects.append("The other parts" if subjects else "All parts")
-    return "".join(f"{subject} {words.format(value)}.\n" for subject, value in zip(subjects, values))
+    link, missed = f"[{len(figures)}](../bench/measured/{record.part}.csv)", f"{counts[Verdict.MISSED]} of {counts.total()}{unclear}"
+    return [record.part, link, missed, record.load.split(" ")[0], record.date, record.commit, record.versions]
 
 
 def read_and_compose_page() -> str:
@@ -98,10 +85,9 @@ def read_and_compose_page() -> str:
     records = read_part_records()
     parts = [part for part in PARTS.values() if part.name in records]
     measured = [records[part.name] for part in parts]
-    overview = markdown_table(["Part", "Figures", "Missed", "Load", "Packages"], map(read_cells_of_part, measured))
-    circumstances = "".join(text_of_values(measured, column, words) for column, words in CIRCUMSTANCES.items())
-    circumstances = textwrap.fill(circumstances, 140, break_on_hyphens=False) + "\n"
-    return "\n".join([HEAD, overview, circumstances, *map(read_and_compose_section, parts)])
+    overview = markdown_table(["Part", "Figures", "Missed", "Load", "Day", "Commit", "Packages"], map(read_cells_of_part, measured))
+    machines, kits = (" and ".join({getattr(record, column): "" for record in measured}) for column in ("machine", "kit"))
+    return "\n".join([HEAD, overview, f"Machine: {machines}. Kit: {kits}.\n", *map(read_and_compose_section, parts)])
 
 
 def write_page() -> None:

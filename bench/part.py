@@ -17,7 +17,6 @@ class Part(NamedTuple):
     targets: Targets
     measure: Callable[[Figures, Programs], None]
     packages: Sequence[str] = ()
-    picture: str = ""  # in Markdown
 
     @property
     def subject(self) -> str:

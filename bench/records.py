@@ -13,7 +13,7 @@ from figures import Figure, Verdict
 from running import BENCH
 
 RECORDED = BENCH / "measured"
-WRITTEN = ["docs/MEASURED.md", "docs/growth.svg", "bench/measured"]  # by the bench itself
+WRITTEN = ["docs/MEASURED.md", "bench/measured"]  # by the bench itself
 
 
 class PartRecord(NamedTuple):
@@ -36,7 +36,7 @@ def capture_output(*words: str) -> str:
         return ""
 
 
-def query_part_record(part: str, packages: Sequence[str]) -> PartRecord:
+def capture_part_record(part: str, packages: Sequence[str]) -> PartRecord:
     """The facts about a run that is about to begin, with the versions of these Debian packages."""
     commit = capture_output("git", "-C", str(BENCH), "rev-parse", "--short", "HEAD") or "unknown"
     if capture_output("git", "-C", str(BENCH), "status", "--porcelain", "--", ":/", *(f":(top,exclude){name}" for name in WRITTEN)):

@@ -11,6 +11,7 @@ from dataclasses import dataclass
 from pathlib import Path
 from typing import NamedTuple, TypeVar
 
+from drawn_books import DrawnBook
 from lib.tool import exits
 from shared.generated_books import generate_book
 
@@ -112,6 +113,11 @@ def make_journal(script: str, *words: object) -> str:
     path = OUT / f"{'-'.join([script.removesuffix('.py'), *map(str, words)])}.csv"
     path.write_bytes(generate_book(script, *words))
     return str(path)
+
+
+def make_book(drawn: DrawnBook) -> str:
+    """Writes the journal of a book, and returns its path."""
+    return make_journal(drawn.script, *drawn.words)
 
 
 def call_in_turns(

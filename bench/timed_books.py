@@ -13,7 +13,7 @@ from drawn_books import DrawnBook
 from figures import Figures, Label, Quartiles, multiple_text, quartiles_of
 from highs import run_highs
 from running import RUN_SECONDS, TOP, BenchFault, Solved, TimedRun, Words
-from running import call_in_turns, make_journal, run_function, run_in_time, run_in_turns
+from running import call_in_turns, make_book, run_function, run_in_time, run_in_turns
 
 TURNS, SECONDS = 5, 6.0  # at most, for a book
 LONGEST_OF_REPEATED = 1.0  # seconds; a program that takes longer isn't run again
@@ -39,8 +39,8 @@ def welfare_of(cleared: TimedRun) -> int:
 class TimedBook:
     """A book with its journal, and the seconds of each run of `dam clear` and other programs; a program that didn't end has none."""
 
-    def __init__(self, drawn: DrawnBook, dam: str) -> None:
-        self.drawn, self.dam, self.path = drawn, dam, make_journal(drawn.script, *drawn.words)
+    def __init__(self, drawn: DrawnBook, path: str, dam: str) -> None:
+        self.drawn, self.path, self.dam = drawn, path, dam
         self.seconds = dict[Program, list[float]]()
 
     def run_and_note_seconds(self, others: Mapping[Program, Words]) -> dict[Program, list[TimedRun]]:
@@ -50,7 +50,7 @@ class TimedBook:
         self.seconds = {program: [each.wall for each in found] for program, found in runs.items()}
         return runs
 
-    def clear_and_write_results(self) -> str | None:
+    def run_clear_and_write_results(self) -> str | None:
         """The path of the results; None if `dam clear` doesn't end in time."""
         cleared = run_in_time([self.dam, "clear"], self.path)
         if cleared is None:
@@ -75,7 +75,7 @@ class TimedBook:
         """Adds the seconds of `dam clear`, and the comparison with the twin if its command is given; it must find the same welfare. The
         enumeration tries all selections, and fails if the results aren't right and best."""
         others = {Program.TWIN: twin} if twin else {}
-        if results := self.clear_and_write_results():
+        if results := self.run_clear_and_write_results():
             others[Program.ENUMERATION] = [f"{TOP}/tools/audit", "--best", "--quiet", "--jobs", "4", self.path, results]
         runs = self.run_and_note_seconds(others)
         clears, twins = runs[Program.CLEAR], runs.get(Program.TWIN, [])
@@ -116,6 +116,10 @@ class TimedBook:
         else:
             note = f"it finds less welfare, {found} of {welfare}" if found < welfare else ""
             figures.add_ratio(label, [each.seconds for each in solved], seconds, note=note)
+
+
+def make_timed_book(drawn: DrawnBook, dam: str) -> TimedBook:
+    return TimedBook(drawn, make_book(drawn), dam)
 
 
 def add_worst_enumeration(figures: Figures, books: Sequence[TimedBook]) -> None:

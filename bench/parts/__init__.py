@@ -1,6 +1,6 @@
 """The parts of the bench, in the order in which they run."""
 
-from parts import commands, deep, desk, growth, looks, office, thin, workers
+from parts import commands, deep, desk, looks, office, thin, workers
 
-MODULES = (commands, deep, thin, growth, workers, looks, desk, office)
+MODULES = (commands, deep, thin, workers, looks, desk, office)
 PARTS = {module.PART.name: module.PART for module in MODULES}

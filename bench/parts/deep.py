@@ -14,7 +14,7 @@ import make_family
 from figures import Figures, at_least, at_most
 from part import Part
 from running import DEFAULT_PLAN, TWIN, Programs
-from timed_books import LEAST_OF_HIGHS, TimedBook, add_worst_enumeration
+from timed_books import LEAST_OF_HIGHS, add_worst_enumeration, make_timed_book
 
 # Seconds, and times as long.
 TARGETS = {"clear": at_most(0.15), "highs": at_least(LEAST_OF_HIGHS), "twin": at_most(2), "enumeration": at_most(0.1)}
@@ -24,7 +24,7 @@ BOOKS = [*make_blocks.DEEP, *make_family.DEEP]
 def measure(figures: Figures, programs: Programs) -> None:
     books = []
     for drawn in BOOKS:
-        books.append(book := TimedBook(drawn, programs.dam))
+        books.append(book := make_timed_book(drawn, programs.dam))
         book.measure(figures, [TWIN, *map(str, DEFAULT_PLAN)] if drawn in make_family.DEEP else ())
         book.measure_highs(figures)
     add_worst_enumeration(figures, books)

@@ -43,9 +43,6 @@ class Desk:
         for path in self.folder.iterdir():
             path.unlink()
 
-    def read_records(self) -> list[bytes]:
-        return Path(self.journal).read_bytes().splitlines(keepends=True)
-
     def run(self, given: str = os.devnull) -> TimedRun:
         return run_program(self.words, given)
 
@@ -60,7 +57,7 @@ class Desk:
         runs = call_in_turns({"desk": lambda _: run(), "replay": replay}, seconds=30)
         return runs["desk"], runs["replay"]
 
-    def run_for_seconds(self, batches: list[bytes]) -> float:
+    def measure_seconds(self, batches: list[bytes]) -> float:
         """The seconds of a desk that gets these batches."""
         self.remove_files()
         in_packets = max(map(len, batches)) <= select.PIPE_BUF
@@ -97,7 +94,7 @@ def read_answers(desk: IO[bytes], batches: Sequence[bytes]) -> bytes:
     return answers
 
 
-def run_sqlite_for_seconds(path: str, batches: list[list[str]]) -> float:
+def measure_sqlite_seconds(path: str, batches: list[list[str]]) -> float:
     """The seconds in which sqlite3 keeps these batches of records in a new file."""
     with contextlib.closing(sqlite3.connect(path, isolation_level=None)) as database:
         for words in ("PRAGMA journal_mode=WAL", "PRAGMA synchronous=FULL", TABLE):
@@ -123,16 +120,16 @@ def measure_opening(figures: Figures, desk: Desk, key: str, medium: str) -> None
 
 
 def measure_rates(figures: Figures, desk: Desk) -> None:
-    records = desk.read_records()
+    records = Path(desk.journal).read_bytes().splitlines(keepends=True)
     for size in BATCHES:
         batches = [records[at : at + size] for at in range(0, len(records), size)]
         texts, rows = [b"".join(batch) for batch in batches], [[record.decode().rstrip() for record in batch] for batch in batches]
 
         def run_sqlite(_: int) -> float:
             desk.remove_files()
-            return len(records) / run_sqlite_for_seconds(f"{desk.folder}/rows", rows)
+            return len(records) / measure_sqlite_seconds(f"{desk.folder}/rows", rows)
 
-        rates = call_in_turns({"desk": lambda _: len(records) / desk.run_for_seconds(texts), "sqlite": run_sqlite}, DISK_TURNS, seconds=60)
+        rates = call_in_turns({"desk": lambda _: len(records) / desk.measure_seconds(texts), "sqlite": run_sqlite}, DISK_TURNS, seconds=60)
         label = Label(f"keep/{size}", "rate of records that a desk keeps compared with sqlite3", f"batches of {size:,}")
         figures.add_ratio(label, rates["desk"], rates["sqlite"], PER_SECOND)
 

@@ -11,12 +11,13 @@ from part import Part
 from running import PLAIN_GATE, Programs, Words, make_journal, run_in_turns
 
 LOOKS, CALLS = 20_000, 2_000
+MARKET = "make_family.py", "market"  # hourly orders without blocks
 TARGETS = {"look": at_most(2), "call": at_most(5e-6)}  # times as long; seconds
 
 
-def run_for_seconds(programs: Mapping[str, Words], name: str, repeats: int, orders: int) -> list[list[float]]:
-    """The seconds of one look or call of each program, in several runs, with a book of this many orders."""
-    runs = run_in_turns(programs, make_journal("make_family.py", "market", orders, 0))
+def measure_seconds(programs: Mapping[str, Words], name: str, repeats: int, journal: str) -> list[list[float]]:
+    """The seconds of one look or call of each program, in several runs, with the book of a journal."""
+    runs = run_in_turns(programs, journal)
     return [[each.reported_seconds(name) / repeats for each in found] for found in runs.values()]
 
 
@@ -24,11 +25,12 @@ def measure(figures: Figures, programs: Programs) -> None:
     for others in (0, 1, 3):
         words = [str(others), str(LOOKS)]
         both = {"ours": [programs.probe, "looks", *words], "plain": [PLAIN_GATE, *words]}
-        ours, theirs = run_for_seconds(both, "looks", LOOKS, 4_000)
+        ours, theirs = measure_seconds(both, "looks", LOOKS, make_journal(*MARKET, 4_000, 0))
         label = Label(f"look/{others}", "a look compared with a plain one", f"while {others} threads call and look")
         figures.add_ratio(label, ours, theirs)
     for orders in (100, 1_000, 4_000):
-        (ours,) = run_for_seconds({"ours": [programs.probe, "calls", str(CALLS)]}, "calls", CALLS, orders)
+        calls = {"ours": [programs.probe, "calls", str(CALLS)]}
+        (ours,) = measure_seconds(calls, "calls", CALLS, make_journal(*MARKET, orders, 0))
         figures.add_median(Label(f"call/{orders}", "a call", f"{orders:,} orders held"), ours)
 
 

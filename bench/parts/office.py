@@ -32,21 +32,21 @@ class ServedPlain(ServedOffice):
         self.started = subprocess.Popen(words, env=self.environment)
 
 
-def run_load(office: ServedOffice, count: int) -> tuple[float, float]:
+def measure_load(office: ServedOffice, count: int) -> tuple[float, float]:
     """The commands a second, and the median seconds of one."""
     load = OfficeLoad(office)
     took = asyncio.run(load.send_all(count))
     return len(load.seconds) / took, statistics.median(load.seconds)
 
 
-def serve_and_load(programs: Programs, kind: type[ServedOffice]) -> tuple[float, float]:
+def serve_and_measure_load(programs: Programs, kind: type[ServedOffice]) -> tuple[float, float]:
     with running_office(programs.dam, programs.desk, kind=kind, count=CONNECTIONS) as office:
         office.start()
-        return run_load(office, COMMANDS)
+        return measure_load(office, COMMANDS)
 
 
 def measure_comparison(figures: Figures, programs: Programs) -> None:
-    loads = {"ours": lambda _: serve_and_load(programs, ServedOffice), "theirs": lambda _: serve_and_load(programs, ServedPlain)}
+    loads = {"ours": lambda _: serve_and_measure_load(programs, ServedOffice), "theirs": lambda _: serve_and_measure_load(programs, ServedPlain)}
     found = call_in_turns(loads, TURNS, math.inf)
     (our_rates, our_times), (their_rates, their_times) = (zip(*results) for results in found.values())
     name = "an office compared with a plain one"
@@ -57,7 +57,7 @@ def measure_comparison(figures: Figures, programs: Programs) -> None:
 def measure_whole_day(figures: Figures, programs: Programs) -> None:
     with running_office(programs.dam, programs.desk, count=CONNECTIONS) as office:
         office.start()
-        rate, _ = run_load(office, WHOLE_DAY)
+        rate, _ = measure_load(office, WHOLE_DAY)
         figures.add_median(Label("day", "commands of a day that an office takes"), [rate], PER_SECOND)
         office.kill("office", "desk")
         figures.add_median(Label("start", "a start of an office after a crash"), [office.start()])

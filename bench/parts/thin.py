@@ -12,7 +12,7 @@ import make_family
 from figures import Figures, at_most
 from part import Part
 from running import Programs
-from timed_books import TimedBook, add_worst_enumeration
+from timed_books import add_worst_enumeration, make_timed_book
 
 TARGETS = {"clear": at_most(3), "enumeration": at_most(0.5)}  # seconds; times as long
 BOOKS = [*make_blocks.THIN, *make_family.THIN]
@@ -21,7 +21,7 @@ BOOKS = [*make_blocks.THIN, *make_family.THIN]
 def measure(figures: Figures, programs: Programs) -> None:
     books = []
     for drawn in BOOKS:
-        books.append(book := TimedBook(drawn, programs.dam))
+        books.append(book := make_timed_book(drawn, programs.dam))
         book.measure(figures)
     add_worst_enumeration(figures, books)
 

@@ -1,8 +1,8 @@
 //! The work of `dam replay`, as a plain Rust program with std only, with which `dam` is compared.
 //!
-//! It prints the same replies, and fails if its input isn't a journal of hourly orders. With the word `day` it does what `dam day` does before it clears:
-//! one thread for each participant enters its commands under a `Mutex`, and the journal that they made is compared with the answers to
-//! the threads, and printed.
+//! It prints the same replies, and fails if its input isn't a journal of hourly orders. With the word `day` it does the work of `dam day`
+//! before the clearing: one thread for each participant enters its commands under a `Mutex`, and the journal that they made is compared
+//! with the answers to the threads, and printed.
 
 mod journal;
 

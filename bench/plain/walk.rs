@@ -111,7 +111,6 @@ struct Walk<'a> {
     read: i64,
     /// The best of the present piece.
     best: Option<Best>,
-    visited: u64,
 }
 
 impl Walk<'_> {
@@ -123,7 +122,6 @@ impl Walk<'_> {
     }
 
     fn visit(&mut self, node: Node, bound: &Bound) {
-        self.visited += 1;
         self.read = self.shared.greatest.load(Ordering::SeqCst);
         if self.passes(node) {
             return;
@@ -214,20 +212,19 @@ fn order(classes: &Classes, depth: usize) -> Vec<usize> {
     places
 }
 
-/// The best selection, and the nodes that the workers visit, each on a thread of its own.
-pub fn search(classes: &Classes, workers: usize, depth: usize) -> (Best, u64) {
+/// The best selection, by workers that each have a thread of their own.
+pub fn search(classes: &Classes, workers: usize, depth: usize) -> Best {
     let shared = &Shared { drawn: AtomicU32::new(0), greatest: AtomicI64::new(first_selection(classes).welfare) };
     let (conflicts, order) = (&Conflicts::of(classes), &order(classes, depth));
     let work = || {
-        let mut walk = Walk { classes, conflicts, shared, read: 0, best: None, visited: 0 };
-        (walk.pieces(depth, order), walk.visited)
+        let mut walk = Walk { classes, conflicts, shared, read: 0, best: None };
+        walk.pieces(depth, order)
     };
-    let answers: Vec<(Option<Best>, u64)> = thread::scope(|scope| {
+    let answers: Vec<Option<Best>> = thread::scope(|scope| {
         let others: Vec<_> = (1..workers).map(|_| scope.spawn(work)).collect();
         let own = work();
         others.into_iter().map(|other| other.join().expect("an answer")).chain([own]).collect()
     });
-    let found = answers.iter().filter_map(|answer| answer.0);
-    let best = found.reduce(|one, other| if other.ranks_above(one) { other } else { one });
-    (best.expect("some selection is eligible"), answers.iter().map(|answer| answer.1).sum())
+    let best = answers.into_iter().flatten().reduce(|one, other| if other.ranks_above(one) { other } else { one });
+    best.expect("some selection is eligible")
 }

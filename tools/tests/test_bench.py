@@ -134,7 +134,7 @@ class Comparisons(Printed):
         self.assertEqual(line[1:], ["1.00 x", "one run", "at most 2.00 x", "holds", "62 s and 62 s; 2 of 3 didn't end"])
 
     def test_a_book_with_other_results_has_a_note(self):
-        drawn = make_family.book_of_family("ties", 10, 1, 2)
+        drawn = make_family.book_of_family("ties", 10, 1)
         with tempfile.TemporaryDirectory() as folder, unittest.mock.patch.object(running, "OUT", Path(folder)):
             before, same, other = (Path(folder, name) for name in ("before", "same", "other"))
             for path, said in (before, "one"), (same, "one"), (other, "two"):
@@ -192,7 +192,7 @@ class Programs(unittest.TestCase):
         tool = load_tool("../bench/run")
         part = Part("waits", "Waits.", duration="", programs=[], targets={}, measure=print, packages=["python3-numpy", "libsqlite3-0"])
         with unittest.mock.patch.object(tool.modules, "exec_or_require_modules") as required:
-            tool.require_packages([part])
+            tool.exec_or_require_packages([part])
         required.assert_called_once_with("numpy")
 
     def test_the_probe_is_built_again_by_sums_and_not_by_dates(self):

@@ -19,7 +19,6 @@ sys.path.insert(0, f"{TOP}/docs/drawings")
 import draw_bound
 import draw_crates
 import draw_desk
-import draw_growth
 import draw_hour
 import draw_office
 import draw_receipt
@@ -138,23 +137,6 @@ class Bound(unittest.TestCase):
         drawn = canvas.render_and_close(draw_bound.figure(), "svg", words_as_text=True).decode()
         for words in ("COAL BASE", "gains at these prices", "of 8,191 nodes", "accepted (solid)"):
             self.assertIn(words, drawn)
-
-
-class Growth(unittest.TestCase):
-    def test_the_points_of_a_family(self):
-        row = draw_growth.records.Figure("nodes", "nodes with 24 blocks", "base, 96 periods", "1,234", "", "", "", "53 with 8; 68 with 16", "1234")
-        self.assertEqual(draw_growth.nodes_by_family([row]), {("base", 96): [(8, 53), (16, 68), (24, 1_234)]})
-
-    @NEEDS_MATPLOTLIB
-    def test_the_picture_is_of_the_recorded_figures(self):
-        import matplotlib
-
-        text = draw_growth.PICTURE.read_text()
-        if f"Matplotlib v{matplotlib.__version__}," not in text:
-            self.skipTest("another matplotlib drew the picture")
-        with tempfile.TemporaryDirectory() as room:
-            draw_growth.write_picture(Path(room, "growth.svg"))
-            self.assertEqual(Path(room, "growth.svg").read_text(), text)
 
 
 class Hour(unittest.TestCase):

@@ -13,7 +13,7 @@ from support import TOP
 sys.path.insert(0, f"{TOP}/bench")
 import page
 import records
-from figures import COUNT, MIB, PER_SECOND, Figure, Verdict, multiple_text, seconds_text
+from figures import MIB, PER_SECOND, Figure, Verdict, multiple_text, seconds_text
 from parts import PARTS
 
 THE_TWIN = "dam clear compared with the twin"
@@ -89,7 +89,7 @@ class Measured(unittest.TestCase):
             figures = [figure for figure in records.read_figures(part.name) if figure.target]
             for figure in figures:
                 target = part.targets.get(figure.key) or part.targets[figure.key.partition("/")[0]]
-                self.assertIn(figure.target, [target.text(shown) for shown in (seconds_text, multiple_text, MIB, PER_SECOND, COUNT)])
+                self.assertIn(figure.target, [target.text(shown) for shown in (seconds_text, multiple_text, MIB, PER_SECOND)])
 
     def test_every_figure_has_quartiles_or_none_were_recorded(self):
         for part in PARTS:
@@ -132,16 +132,6 @@ class Measured(unittest.TestCase):
         ((count, said),) = re.findall(r"The slowest of (\d+) .*? deep books of 24 blocks took (\S+) ms\.", plain)
         self.assertEqual((count, said), (str(len(figures)), f"{max(figure.sort_key for figure in figures) * 1e3:.0f}"))
 
-    def test_the_parts_of_each_machine(self):
-        parts = "commands thin desk looks office growth workers deep".split()
-        dates = "old new new old old own new old".split()
-        runs = [records.PartRecord(part, date, "", "", "", "", "") for part, date in zip(parts, dates)]
-        self.assertEqual(page.text_of_values(runs[:5], "date", "ran on {}"), "`thin` and `desk` ran on new.\nThe other parts ran on old.\n")
-        self.assertEqual(page.text_of_values(runs[1:3], "date", "ran on {}"), "All parts ran on new.\n")
-        self.assertEqual(page.text_of_values([], "date", "ran on {}"), "")
-        said = "`growth` ran on own.\n`thin`, `desk` and `workers` ran on new.\nThe other parts ran on old.\n"
-        self.assertEqual(page.text_of_values(runs, "date", "ran on {}"), said)
-
     def test_a_value(self):
         """Of one figure with its quartiles, if it has some, and of several from the least to the greatest."""
         def said(*values, quartiles=""):
@@ -166,13 +156,16 @@ class Measured(unittest.TestCase):
             ):
                 page.write_page()
                 empty = page.PAGE.read_text()
-                record = records.query_part_record("deep", PARTS["deep"].packages)
+                record = records.capture_part_record("deep", PARTS["deep"].packages)
                 records.write_part(record, [records.parse_figure(dict(zip(Figure._fields, row))) for row in ROWS])
                 page.write_page()
                 text = page.PAGE.read_text()
         self.assertNotIn("## ", empty)
         self.assertEqual((record.commit, record.versions), ("git with changes", "python3-scipy dpkg-query; python3-numpy dpkg-query"))
-        self.assertRegex(text, r"\| deep \| \[5\]\(../bench/measured/deep.csv\) \| 1 of 5 \(1 unclear\) \| .* \| python3-scipy dpkg-query")
+        day = re.escape(record.date)
+        row = rf"\| deep \| \[5\]\(../bench/measured/deep.csv\) \| 1 of 5 \(1 unclear\) \| .* \| {day} \| git with changes \| python3-scipy dpkg-q"
+        self.assertRegex(text, row)
+        self.assertIn(f"\n\nMachine: {record.machine}. Kit: rt.\n\n## ", text)
         self.assertIn("\n\nThe time of `dam clear` on 98 books of deep markets", text)
         self.assertIn("| dam clear | 2 to 8 ms | at most 9 ms |  |\n", text)
         self.assertIn("| the worst: base 96, spread 50, seed 1 | 0.03 x (0.02 to 0.04 x) | at most 0.10 x |  |\n", text)
