@@ -46,7 +46,7 @@ class Definitions:
         return {name: page for (_, name), page in self.pages.items()
                 if names.count(name) == 1 and name not in of_code and not is_plain(name)}
 
-    def page_text(self, crate: str, naming: Mapping[str, Mapping[str, str]]) -> str:
+    def read_page_text(self, crate: str, naming: Mapping[str, Mapping[str, str]]) -> str:
         """The page of a crate. `naming` has, for a name, the pages that name it."""
         own = f"{navigation.DEFINITIONS}/{crate}.md"
         lines = [f"# The definitions of `{crate}`", "", f"[The notation](../{navigation.NOTATION.rpartition('/')[2]}#notation)", ""]
@@ -54,14 +54,14 @@ class Definitions:
             lines += [f"## {module}", "", f"{subject} (`crates/{crate}/specs/{module}.antt`)", ""]
             for name, sentence in entries.items():
                 text = self.repository.read_definitions(crate, module)[name].rstrip("\n") + "\n"
-                linked = pages.html_with_links(text, own, self.pages_of_used_names(crate, module, name))
+                linked = pages.html_with_links(text, own, self.read_pages_of_used_names(crate, module, name))
                 lines += [f"### `{name}` {{ #{name} }}", "", sentence, "", linked, ""]
                 if naming.get(name):
                     links = (f"[{title}]({pages.relative_path(own, page)})" for page, title in naming[name].items())
                     lines += [f"Named in: {', '.join(links)}", ""]
         return "\n".join(lines)
 
-    def pages_of_used_names(self, crate: str, module: str, name: str) -> dict[str, str]:
+    def read_pages_of_used_names(self, crate: str, module: str, name: str) -> dict[str, str]:
         """The page of each definition that a definition's text names."""
         nodes = self.repository.read_targets_named_in((crate, "specs", module, name))
         return {other: self.pages[home, other] for home, kind, _, other in nodes if kind == "specs" and (home, other) in self.pages}

@@ -29,14 +29,14 @@ MAPPED = re.compile(rb"\n?(?://|/\*)# sourceMappingURL=\S+?(?: \*/|\*/)?\s*\Z")
 INDEX = "search/search_index.json"
 
 
-def missing_packages() -> list[str]:
+def find_missing_packages() -> list[str]:
     """The Debian packages that are missing."""
     return [package for name, package in NEEDED.items() if not (name.is_dir() if isinstance(name, Path) else shutil.which(name))]
 
 
 def require_packages() -> None:
     """Ends the tool if a package is missing."""
-    if lacking := missing_packages():
+    if lacking := find_missing_packages():
         words = f"it needs {' and '.join(lacking)}, which Debian has: apt-get install {' '.join(lacking)}"
         raise exits.Stop(words, exits.FAILED)
 
@@ -60,7 +60,7 @@ def write_text(path: Path, text: str) -> None:
     path.write_text(text, encoding="utf-8")
 
 
-def write_staged_pages(own: Mapping[str, str], drawn: Mapping[str, Path], folder: Path) -> list[dict[str, Any]]:
+def write_pages_and_return_navigation(own: Mapping[str, str], drawn: Mapping[str, Path], folder: Path) -> list[dict[str, Any]]:
     """Writes the pages as mkdocs takes them. Returns the navigation."""
     if wrong := navigation.faults_of_pages(own):
         raise exits.Stop("; ".join(wrong))
@@ -74,18 +74,18 @@ def write_staged_pages(own: Mapping[str, str], drawn: Mapping[str, Path], folder
             naming.setdefault(name, {})[page] = navigation.TITLES.get(page) or navigation.title_of_other_page(page)
         write_text(folder / page, made)
     for crate in known.modules:
-        write_text(folder / navigation.DEFINITIONS / f"{crate}.md", known.page_text(crate, naming))
+        write_text(folder / navigation.DEFINITIONS / f"{crate}.md", known.read_page_text(crate, naming))
     for name, path in drawn.items():
         shutil.copy(path, folder / name)
     return navigation.navigation_of(own, known.modules)
 
 
-def run_mkdocs_and_write_site(own: Mapping[str, str], drawn: Mapping[str, Path], room: Path) -> Path:
+def run_mkdocs_and_return_site(own: Mapping[str, str], drawn: Mapping[str, Path], room: Path) -> Path:
     """Makes the site of some pages and pictures in a folder of a room, which it returns."""
     source, made = room / "pages", room / "site"
     told = {
         "INHERIT": str(HERE / "mkdocs.yml"),
-        "nav": write_staged_pages(own, drawn, source),
+        "nav": write_pages_and_return_navigation(own, drawn, source),
         "docs_dir": str(source),
         "site_dir": str(made),
         "theme": {"custom_dir": str(HERE / "theme")},

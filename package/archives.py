@@ -174,7 +174,7 @@ def name_below(name: str, top: str) -> str:
     return name[len(top) + 1 :] if f"{name}/".startswith(f"{top}/") else f"/{name}"
 
 
-def number_and_count_if_found(name: str, found: Collection[str], times: dict[str, int]) -> str:
+def count_and_return_unused_name(name: str, found: Collection[str], times: dict[str, int]) -> str:
     """The name, or if it is found already, the name with a number. How often each occurs is counted, so that many take little time."""
     own = name
     while own in found:
@@ -196,7 +196,7 @@ def parse_entries(path: Path, data: bytes, top: str | None = None, prefix: str =
             kind = "file" if member.isfile() else KINDS.get(member.type, "device")
             name = member.name.removeprefix("./").rstrip("/").removesuffix(".")
             top = name.partition("/")[0] if top is None and name else top
-            name = number_and_count_if_found(prefix + name_below(name, top or ""), found, times)
+            name = count_and_return_unused_name(prefix + name_below(name, top or ""), found, times)
             found[name] = Entry(kind, member.mode, (member.uid, member.gid), held)
     return found
 

@@ -104,7 +104,7 @@ def run_mkdocs_and_write_manual(folder: Path, files: Mapping[str, str]) -> None:
     drawn = {name: made_of.TOP / name for name in files.values() if name.endswith(site.PICTURES)}
     room = folder.parent / "manual"
     room.mkdir()
-    made = site.run_mkdocs_and_write_site(own, drawn, room)
+    made = site.run_mkdocs_and_return_site(own, drawn, room)
     for path in (path for path in made.rglob("*") if path.is_file()):
         write_file(folder / MANUAL / path.relative_to(made), path.read_bytes())
 

@@ -35,7 +35,7 @@ class ServedPlain(ServedOffice):
 def measure_load(office: ServedOffice, count: int) -> tuple[float, float]:
     """The commands a second, and the median seconds of one."""
     load = OfficeLoad(office)
-    took = asyncio.run(load.send_all(count))
+    took = asyncio.run(load.send_all_and_return_seconds(count))
     return len(load.seconds) / took, statistics.median(load.seconds)
 
 

@@ -25,7 +25,7 @@ def read(top=TOP):
 
 def direct(used, name):
     """The crates that a crate uses, without those that it also uses by way of another."""
-    by_way = set().union(*(crates.all_below(used, other) for other in used[name]))
+    by_way = set().union(*(crates.crates_below(used, other) for other in used[name]))
     return [other for other in used[name] if other not in by_way]
 
 

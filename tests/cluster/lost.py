@@ -67,7 +67,7 @@ def running_scheduler(folder: Path) -> Iterator[tuple[subprocess.Popen[bytes], s
         yield running, at[1]
 
 
-def write_slow_program(folder: Path, program: str) -> Path:
+def make_slow_program(folder: Path, program: str) -> Path:
     """A program that takes some time, and leaves a mark when it runs."""
     path = folder / "slow"
     path.write_text(f"#!/bin/sh\n: > {shlex.quote(str(folder / 'mark'))}\nsleep 0.1\nexec {shlex.quote(program)} \"$@\"\n")
@@ -75,7 +75,7 @@ def write_slow_program(folder: Path, program: str) -> Path:
     return path
 
 
-def write_table_and_start_whatif(folder: Path, address: str, program: str) -> contextlib.AbstractContextManager[subprocess.Popen[bytes]]:
+def write_table_and_return_running_whatif(folder: Path, address: str, program: str) -> contextlib.AbstractContextManager[subprocess.Popen[bytes]]:
     """A run of many scenarios, which differ: a cluster clears equal ones once."""
     table = folder / "scenarios.csv"
     heads = "scenario,participant,order,kind,side,price_eur_mwh,periods,volume_mw\n"
@@ -106,7 +106,7 @@ def stop_one_worker(processes: Processes) -> None:
 
 
 def run_and_check_without_workers(counts: Counts, folder: Path, program: str) -> None:
-    with running_scheduler(folder) as (_, address), write_table_and_start_whatif(folder, address, program) as running:
+    with running_scheduler(folder) as (_, address), write_table_and_return_running_whatif(folder, address, program) as running:
         check_ended(counts, "no workers", running, 3, f"whatif: the cluster {address} has no workers\n", SECONDS)
 
 
@@ -115,12 +115,12 @@ def run_and_check_in_the_middle(
 ) -> None:
     """The run, after a deed in the middle of it."""
     words = [sys.executable, "-m", "distributed.cli.dask_worker", "--nworkers", "2", "--nthreads", "1", "--no-dashboard"]
-    own = {**os.environ, "PYTHONPATH": str(TOP / "tools"), "DAM": str(write_slow_program(folder, program))}
+    own = {**os.environ, "PYTHONPATH": str(TOP / "tools"), "DAM": str(make_slow_program(folder, program))}
     own.pop("DAM_LIBRARY", None)
     with running_scheduler(folder) as (ruling, address), open(os.devnull, "wb") as null:
         with running_process([*words, "--local-directory", folder, address], stdout=null, stderr=null, env=own) as working:
             (folder / "mark").unlink(missing_ok=True)
-            with write_table_and_start_whatif(folder, address, program) as running:
+            with write_table_and_return_running_whatif(folder, address, program) as running:
                 wait_for_value_or_raise((folder / "mark").exists, "a scenario")
                 deed(Processes(ruling, working, running))
                 check_ended(counts, what, running, status, said.format(address), within)

@@ -35,7 +35,7 @@ def text_or_fault_and_status(found: Any) -> object:
     return (str(found), found.status) if isinstance(found, dam_tools.Fault) else found.text
 
 
-def clear_on_cluster_and_kill_worker(texts: Sequence[bytes], counts: Counts) -> list[object]:
+def clear_kill_worker_and_return_results(texts: Sequence[bytes], counts: Counts) -> list[object]:
     """The results of the cluster. A worker is killed after some of them."""
     import dam_tools
     import distributed
@@ -56,7 +56,7 @@ def clear_on_cluster_and_kill_worker(texts: Sequence[bytes], counts: Counts) -> 
 
 def run_and_check_results(counts: Counts, by: str, texts: Sequence[bytes], wanted: Sequence[object]) -> None:
     """The results of a cluster, compared with those of the program."""
-    found = clear_on_cluster_and_kill_worker(texts, counts)
+    found = clear_kill_worker_and_return_results(texts, counts)
     counts.check(f"{len(found)} results of {len(texts)} journals by {by}", len(found) == len(texts))
     for number, (one, other) in enumerate(zip(wanted, found), 1):
         counts.check(f"journal {number} has another result on the cluster by {by}", one == other)

@@ -26,7 +26,7 @@ DESK = TOP / "crates/dam_desk/out/dam_desk"
 HELD = ("docs", "examples", "tests", "tools")  # folders of the clone that commands name
 
 
-def link_commands_for_reader(home: Path, program: Path, desk: Path) -> page_session.PageReader:
+def make_reader_with_linked_commands(home: Path, program: Path, desk: Path) -> page_session.PageReader:
     """A reader with a clone: `dam`, `dam-desk` and `dam-NAME` are its programs and tools."""
     commands = home.parent / "bin"
     commands.mkdir()
@@ -37,7 +37,7 @@ def link_commands_for_reader(home: Path, program: Path, desk: Path) -> page_sess
     return page_session.PageReader(CLONE, TOP, [], page_session.make_environment_with_browser(home, own))
 
 
-def write_home_folder(room: Path, program: Path) -> Path:
+def make_home_folder(room: Path, program: Path) -> Path:
     """Makes the folder of a clone for the commands of a page."""
     home = room / "home"
     home.mkdir()
@@ -73,8 +73,8 @@ def check_pages_are_listed(counts: Counts) -> None:
 def run_and_check_page(counts: Counts, name: str, program: Path, desk: Path, writes: bool) -> None:
     with tempfile.TemporaryDirectory(ignore_cleanup_errors=True) as folder:
         room = Path(folder).resolve()
-        home = write_home_folder(room, program)
-        one = link_commands_for_reader(home, program, desk)
+        home = make_home_folder(room, program)
+        one = make_reader_with_linked_commands(home, program, desk)
         if missing := page_session.find_missing_needs(name, one):
             counts.leave_out(f"the commands of {name}: {', '.join(missing)} missing")
             return

@@ -65,7 +65,7 @@ class Crashes:
 
     def draw_crashed_files(self, ran: DeskRun) -> Iterator[CrashedFile]:
         """The files that a crash may leave at each moment of the run."""
-        for moment in moments.moments_of_run(ran.events, given_by=self.given.given_by):
+        for moment in moments.moments_of_run(ran.events, count_of_records_in=self.given.count_of_records_in):
             allowed = self.allowed_counts(moment)
             for image in crash_files.draw_files_at(moment, self.rng):
                 yield CrashedFile(image, moment, allowed)
@@ -116,8 +116,8 @@ class Crashes:
     def open_and_check_killed(self, ran: DeskRun) -> None:
         """Looks at the run as if the process was killed at each moment, and the system went on: the next opening sees all writes, and a
         crash may still take those that weren't synced."""
-        found = [moment for moment in moments.moments_of_run(ran.events, given_by=self.given.given_by) if moment.changes]
-        opened = self.desk.run_on_each([moment.seen_file for moment in found])
+        found = [moment for moment in moments.moments_of_run(ran.events, count_of_records_in=self.given.count_of_records_in) if moment.changes]
+        opened = self.desk.iterate_runs_on_each([moment.seen_file for moment in found])
         for moment, ran_again in zip(found, opened):
             self.killed += 1
             case = CrashedFile(moment.seen_file, moment, self.allowed_counts(moment))
@@ -125,7 +125,7 @@ class Crashes:
 
     def run_and_check_printed_journal(self, cases: Sequence[CrashedFile]) -> None:
         """Compares the journals that are printed for files with the reader's, and the files afterwards."""
-        for case, ran in zip(cases, self.desk.run_on_each([case.image for case in cases], ["--journal"])):
+        for case, ran in zip(cases, self.desk.iterate_runs_on_each([case.image for case in cases], ["--journal"])):
             count = self.count_of_records_or_none(case.image)
             if count is not None and (ran.status, ran.stdout, ran.stderr, ran.file) != (0, self.journal.text(count), b"", case.image):
                 self.note_fault(case, f"--journal with status {ran.status}, {ran.stderr[:80]!r}, {ran.stdout[-TAIL:]!r}")
@@ -140,11 +140,11 @@ class Crashes:
                 image = HEAD + self.journal.marked_text(count) + gap + LEFT
                 cases.append(CrashedFile(image, DiskMoment(image, (), 0, count), frozenset([count])))
         left = []
-        for case, ran in zip(cases, self.desk.run_on_each([case.image for case in cases])):
+        for case, ran in zip(cases, self.desk.iterate_runs_on_each([case.image for case in cases])):
             self.check_opened(case, ran)
             for moment in moments.moments_of_run(ran.events, case.image):
                 left += [CrashedFile(image, moment, case.allowed) for image in crash_files.draw_files_at(moment, self.rng, few=True)]
-        for case, ran in zip(left, self.desk.run_on_each([case.image for case in left])):
+        for case, ran in zip(left, self.desk.iterate_runs_on_each([case.image for case in left])):
             self.check_file(case)
             self.check_opened(case, ran, crash_again=False)
 
@@ -191,7 +191,7 @@ class Crashes:
             chosen[place] = case
 
     def open_and_check_files(self, cases: Sequence[CrashedFile]) -> None:
-        for case, opened in zip(cases, self.desk.run_on_each([case.image for case in cases])):
+        for case, opened in zip(cases, self.desk.iterate_runs_on_each([case.image for case in cases])):
             self.check_opened(case, opened, crash_again=self.rng.random() < OPENED_TWICE / max(OPENED_TWICE, self.opened))
 
     def try_moments_and_repairs(self, sample: int | None = None) -> list[str]:

@@ -168,7 +168,7 @@ class DeskProgram:
         log.unlink()
         return DeskRun(ran.returncode, ran.stdout or b"", ran.stderr, events)
 
-    def run_on_each(self, images: Sequence[bytes], words: Sequence[str] = ()) -> Iterator[DeskRun]:
+    def iterate_runs_on_each(self, images: Sequence[bytes], words: Sequence[str] = ()) -> Iterator[DeskRun]:
         """Runs the desk on a file of each of these bytes, with no input. The runs are in the order of the images."""
         parts = [images[at : at + CHUNK] for at in range(0, len(images), CHUNK)]
         with ThreadPoolExecutor(self.jobs) as pool:

@@ -203,7 +203,7 @@ class FileTests:
         self.check_run("a device", self.run_on_text(["/dev/null"]), 1, b"", NO_FILE)
         folder = self.desk.make_folder()
         self.check_run("a missing folder", self.run_on_text([folder / "none" / "day.desk"]), 4, b"", fault_of_error(2))
-        self.check_run("a file as a folder", self.run_on_text([write_desk_file(folder) / "day.desk"]), 4, b"", fault_of_error(20))
+        self.check_run("a file as a folder", self.run_on_text([make_desk_file(folder) / "day.desk"]), 4, b"", fault_of_error(20))
         self.check_run("a missing file's journal", self.run_on_text(["--journal", folder / "none.desk"]), 4, b"", fault_of_error(2))
         self.check_run("a name that is too long", self.run_on_text([folder / ("A" * 256)]), 4, b"", fault_of_error(36))
         self.counts.check("no file was made", {it.name for it in folder.iterdir()} == {"plain"})
@@ -220,7 +220,7 @@ class FileTests:
             lambda file: file.with_name("plain-wal").mkdir(),
             lambda file: file.with_name("plain-wal").symlink_to("other"),
         ]:
-            file = write_desk_file(self.desk.make_folder(), file_of_records(DAY, CLOSE))
+            file = make_desk_file(self.desk.make_folder(), file_of_records(DAY, CLOSE))
             make(file)
             before = read_facts_by_name(file.parent)
             about = f"a desk's file in {sorted(before)}"
@@ -234,7 +234,7 @@ class FileTests:
         the names that aren't like options."""
         for name in ("-x.desk", "--help", "--journal", "-", "x", " ", "\n", "\U0001f4a1", "..."):
             folder = self.desk.make_folder()
-            file = write_desk_file(folder, file_of_records(DAY)).rename(folder / name)
+            file = make_desk_file(folder, file_of_records(DAY)).rename(folder / name)
             self.check_run(f"--journal {name!r}", self.run_on_text(["--journal", name], b"", cwd=folder), 0, DAY, b"")
             self.check_run(f"./{name!r}", self.run_on_text([f"./{name}"], cwd=folder), 0, b"day,24\n1,done\n", b"")
             self.counts.check(f"the file {name!r}", file.read_bytes() == file_of_records(DAY, CLOSE))
@@ -278,7 +278,7 @@ class FileTests:
         for path in (self.desk.room, folder):
             path.chmod(0o755)
         own: dict[str, Any] = {"user": NOBODY, "group": NOBODY, "extra_groups": []} if os.geteuid() == 0 else {}
-        file = write_desk_file(folder, file_of_records(DAY))
+        file = make_desk_file(folder, file_of_records(DAY))
         for mode, fault, shown in [(0o444, fault_of_error(13), DAY), (0o000, fault_of_error(13), None)]:
             file.chmod(mode)
             self.check_run(f"a file of mode {mode:o}", self.run_on_text([file], **own), 4, b"", fault)
@@ -332,7 +332,7 @@ class FileTests:
 
     def check_longest_file(self) -> None:
         """A file of the greatest length, most of which doesn't count."""
-        file = write_desk_file(self.desk.make_folder(), file_of_records(DAY).ljust(MOST_FILE_BYTES))
+        file = make_desk_file(self.desk.make_folder(), file_of_records(DAY).ljust(MOST_FILE_BYTES))
         self.check_run("a file of the greatest length", self.run_on_text([file]), 0, b"day,24\n1,done\n", b"")
         held = parse_marked_lines_or_none(file.read_bytes())
         self.counts.check("a file of the greatest length holds both lines", held == b"+" + DAY + b"+" + CLOSE)
@@ -343,7 +343,7 @@ class FileTests:
     def check_too_long_files(self) -> None:
         """Files that are too long are refused by their length: no byte of them is read, and no memory taken for them."""
         for count, words in itertools.product(TOO_MANY_BYTES, [(), ("--journal",)]):
-            file = write_desk_file(self.desk.make_folder(), file_of_records(DAY))
+            file = make_desk_file(self.desk.make_folder(), file_of_records(DAY))
             os.truncate(file, count)
             got = self.run_on_text([*words, file], preexec_fn=limit_memory)
             self.check_run(f"{words} of a file of {count:,} bytes, in little memory", got, 1, b"", TOO_LONG)
@@ -425,7 +425,7 @@ class FileTests:
         """A file that is the desk's own output, which would destroy it: of no bytes, of a day alone, of over a megabyte, and a longest."""
         longest = (file_of_records(*journals.longest_records(count)) for count in (1_500, rules.MOST_RECORDS - 2))
         for mode, before in itertools.product(("ab", "r+b"), [b"", file_of_records(DAY), *longest]):
-            file = write_desk_file(self.desk.make_folder(), before)
+            file = make_desk_file(self.desk.make_folder(), before)
             got = self.run_with_output(file, file, mode)
             self.check_run(f"an output to the file itself, opened as {mode}, of {len(before):,} bytes", got, 1, before, OWN_OUTPUT)
 
@@ -433,7 +433,7 @@ class FileTests:
         """The same if the path is another one of that file."""
         for before in (b"", file_of_records(DAY)):
             folder, linked = self.desk.make_folder(), self.desk.make_folder() / "linked"
-            file = write_desk_file(folder)
+            file = make_desk_file(folder)
             (folder / "symbolic").symlink_to(file.name)
             (folder / "second").symlink_to("symbolic")
             (folder / "hard").hardlink_to(file)
@@ -448,7 +448,7 @@ class FileTests:
         """An output to another file, which may differ from the desk's by its number alone or by its device alone."""
         for more in ((0, 0, 0), *OTHER_FILES):
             folder = self.desk.make_folder()
-            file = write_desk_file(folder, file_of_records(DAY))
+            file = make_desk_file(folder, file_of_records(DAY))
             said = self.desk.environment_for(file, DESK_OUTPUT=" ".join(map(str, more)))
             got = self.run_with_output(file, folder / "answers", env=said)
             right, entered = ((0, b"day,24\n1,done\n", b""), [CLOSE]) if any(more) else ((1, b"", OWN_OUTPUT), [])
@@ -538,7 +538,7 @@ class FileTests:
         counted = []
         for given in (b"", text):
             folder = self.desk.make_folder()
-            path = write_desk_file(folder, given)
+            path = make_desk_file(folder, given)
             with path.open("rb") as source:
                 events = self.desk.run_on_source(folder / "day.desk", source).events
             kinds = [event.kind for event in events if event.target in (DESK, STREAM)]
@@ -553,7 +553,7 @@ class FileTests:
 
     def check_many_reads(self) -> None:
         """A desk reads as long as there is input: each line is sent once the one before is answered."""
-        with self.desk.start(write_desk_file(self.desk.make_folder(), file_of_records(DAY))) as desk:
+        with self.desk.start(make_desk_file(self.desk.make_folder(), file_of_records(DAY))) as desk:
             (given, answered), number = (pipe.fileno() for pipe in pipes_of(desk)), 0
             is_right = os.read(answered, BATCH) == b"day,24\n"
             while is_right and number < READS:
@@ -567,7 +567,7 @@ class FileTests:
 
     def check_many_lines(self) -> None:
         """The same for more lines, which are all there at once: each read moves the two bytes of one."""
-        file = write_desk_file(self.desk.make_folder(), file_of_records(DAY))
+        file = make_desk_file(self.desk.make_folder(), file_of_records(DAY))
         refusal = " ".join(map(str, RefusedFileCalls(INPUT, 1, ABOVE_ANY_CALL, most=2)))
         got = self.run_on_text([file], b"A\n" * LINES, env=self.desk.environment_for(file, DESK_REFUSE=refusal))
         right = b"day,24\n" + b"".join(b"fault,%d,FieldCount\n" % number for number in range(1, LINES + 1))
@@ -587,7 +587,7 @@ class FileTests:
                 ("bytes over 127", (b"cancel,A,\xff\n" * 65_536)[: 11 << 16], lambda number: b"NotAscii,9"),
                 ("empty lines", b"\n" * (length if whole else 1 << 20), lambda number: b"NotOneRecord")]  # fmt: skip
         for about, text, word in rows:
-            file = write_desk_file(self.desk.make_folder(), file_of_records(DAY))
+            file = make_desk_file(self.desk.make_folder(), file_of_records(DAY))
             begun = time.monotonic()
             got = self.run_on_text([file], text, preexec_fn=limit_memory)
             count = max(1, text.count(b"\n"))
@@ -609,7 +609,7 @@ class FileTests:
 
     def measure_peak_of_fault(self, program: HostileProgram, word: str, before: bytes, text: bytes) -> int:
         """The most bytes that a desk holds while it answers lines with this fault."""
-        printed, peak, _ = program.measure_peak([write_desk_file(self.desk.make_folder(), before)], text)
+        printed, peak, _ = program.measure_peak([make_desk_file(self.desk.make_folder(), before)], text)
         answered = len(re.findall(rb"^fault,\d+,%b$" % word.encode(), printed.stdout, re.MULTILINE))
         is_right = (printed.status, printed.stderr, answered) == (0, b"", text.count(b"\n"))
         self.counts.check(f"{answered:,} lines are answered with the fault {word}: {printed!r:.300}", is_right)
@@ -621,7 +621,7 @@ def limit_memory() -> None:
     resource.setrlimit(resource.RLIMIT_AS, (MEMORY, MEMORY))
 
 
-def write_desk_file(folder: Path, bytes_: bytes = b"x") -> Path:
+def make_desk_file(folder: Path, bytes_: bytes = b"x") -> Path:
     path = folder / "plain"
     path.write_bytes(bytes_)
     return path

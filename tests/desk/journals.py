@@ -68,9 +68,9 @@ class DeskInput:
         self.journal, self.batches = journal, batches
         self.given = [0, *itertools.accumulate(is_record)]
         ends = itertools.accumulate(batch.count(b"\n") for batch in batches)
-        self.borders = {0, *(self.given_by(end) for end in ends)}
+        self.borders = {0, *(self.count_of_records_in(end) for end in ends)}
 
-    def given_by(self, lines: int) -> int:
+    def count_of_records_in(self, lines: int) -> int:
         """How many records these first lines are."""
         return self.given[min(lines, len(self.given) - 1)]
 

@@ -53,7 +53,7 @@ class Kills:
         self.acknowledged = self.unanswered = self.files = 0
         self.wrong: list[str] = []
 
-    def count_held_or_none(self, file: Path) -> int | None:
+    def read_count_of_held_or_none(self, file: Path) -> int | None:
         """How many records a file has; None if they aren't the first ones of the journal."""
         marked = parse_marked_lines_or_none(file.read_bytes()) if file.exists() else b""
         count = None if marked is None else marked.count(b"\n")
@@ -71,7 +71,7 @@ class Kills:
         except BrokenPipeError:
             pass
 
-    def run_and_kill(self, file: Path, held: int, is_at_once: bool) -> bytes:
+    def run_kill_and_return_output(self, file: Path, held: int, is_at_once: bool) -> bytes:
         """The output of a run that is killed: at once with its start, or once it has answered something."""
         surroundings = {**os.environ, **self.desk.environment_for(file, DESK_SLOW=self.rng.choice(SLOW))}
         process = self.killed.start(file, env=surroundings, start_new_session=True)
@@ -92,9 +92,9 @@ class Kills:
     def run_kill_and_check(self, may_be_at_once: bool = True) -> None:
         if self.file is None:
             self.file, self.files = self.desk.make_path(), self.files + 1
-        before = self.count_held_or_none(self.file) or 0
-        text = self.run_and_kill(self.file, before, may_be_at_once and self.rng.random() < 0.3)
-        count, safe = self.count_held_or_none(self.file), crash_files.count_acknowledged(text[: text.rfind(b"\n") + 1], 0)
+        before = self.read_count_of_held_or_none(self.file) or 0
+        text = self.run_kill_and_return_output(self.file, before, may_be_at_once and self.rng.random() < 0.3)
+        count, safe = self.read_count_of_held_or_none(self.file), crash_files.count_acknowledged(text[: text.rfind(b"\n") + 1], 0)
         whole = self.journal.all_printed
         if count is None or count < max(before, safe) or not whole.startswith(text):
             self.wrong.append(f"{before} records, {safe} acknowledged, now {count}; the output ends with {text[-60:]!r}")
@@ -111,7 +111,7 @@ class Kills:
         """The last file is opened and given the rest."""
         if self.file is None:
             return
-        count = self.count_held_or_none(self.file) or 0
+        count = self.read_count_of_held_or_none(self.file) or 0
         rest = b"".join(self.journal.records[count:])
         ran = self.desk.capture_output([self.file], rest)
         if ran != (0, self.journal.all_printed, b""):

@@ -11,14 +11,14 @@ def moments_of_run(
     base: bytes = b"",
     changes: Sequence[UnsyncedChange] = (),
     safe: int = 0,
-    given_by: Callable[[int], int] = lambda lines: 0,
+    count_of_records_in: Callable[[int], int] = lambda lines: 0,
 ) -> Iterator[DiskMoment]:
-    """The moments of a run. `given_by` says how many records are given by this many lines of input."""
-    lines, given, begun = 0, given_by(0), given_by(0)
+    """The moments of a run. `count_of_records_in` says how many records are given by this many lines of input."""
+    lines, given, begun = 0, count_of_records_in(0), count_of_records_in(0)
     for event in events:
         if event.kind == INPUT and event.bytes:
             lines += event.bytes.count(b"\n")
-            given = given_by(lines)
+            given = count_of_records_in(lines)
         elif event.kind == OUTPUT and event.bytes:
             safe = count_acknowledged(event.bytes, safe)
         elif event.is_change and (event.kind == WRITE or event.answer >= 0):

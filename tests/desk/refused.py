@@ -96,7 +96,7 @@ class RunsWithRefusals(crashes.Crashes):
         self.start, self.runs = start, 0
         self.held = 0 if start is None else self.count_of_records_or_none(start) or 0
 
-    def write_held_file(self) -> Path:
+    def make_held_file(self) -> Path:
         file = self.desk.make_path()
         if self.start is not None:
             file.write_bytes(self.start)
@@ -107,14 +107,14 @@ class RunsWithRefusals(crashes.Crashes):
         fronts = [self.journal.printed_text(count) for count in {0, self.held} | self.given.borders]
         return text in fronts if is_whole else self.journal.all_printed.startswith(text)
 
-    def given_by(self, lines: int) -> int:
-        return max(self.held, self.given.given_by(lines))
+    def count_of_records_in(self, lines: int) -> int:
+        return max(self.held, self.given.count_of_records_in(lines))
 
     def check_after(self, about: str, ran: DeskRun, file: Path) -> None:
         """Looks at the files that a crash may leave, and opens the file again."""
         if are_retried(ran.events):
             self.wrong.append(f"{about}: a failed write or sync was followed by another one")
-        for moment in moments.moments_of_run(ran.events, self.start or b"", safe=self.held, given_by=self.given_by):
+        for moment in moments.moments_of_run(ran.events, self.start or b"", safe=self.held, count_of_records_in=self.count_of_records_in):
             allowed = [count for count in {self.held} | self.given.borders if moment.safe <= count <= max(moment.given, moment.safe)]
             for image in crash_files.draw_files_at(moment, self.rng, few=True):
                 self.files += 1
@@ -132,7 +132,7 @@ class RunsWithRefusals(crashes.Crashes):
 
     def run_and_check_refused(self, refusal: RefusedFileCalls, check: Callable[[RefusedFileCalls, DeskRun], bool] | None = None) -> None:
         """Runs the desk with a call refused."""
-        file = self.write_held_file()
+        file = self.make_held_file()
         ran = self.desk.run(file, self.given.batches, refusal)
         name = errno.errorcode.get(refusal.error) or f"{refusal.most} bytes"
         about = f"{self.about}: call {refusal.first} of {refusal.kind} with {name}"
@@ -175,7 +175,7 @@ class RunsWithRefusals(crashes.Crashes):
 
     def check_refusals(self) -> list[str]:
         """Refuses each call in turn, and returns the faults."""
-        ran = self.desk.run(self.write_held_file(), self.given.batches)
+        ran = self.desk.run(self.make_held_file(), self.given.batches)
         made: dict[str, int] = {}
         for event in ran.events:
             made[event.kind] = made.get(event.kind, 0) + 1
@@ -199,9 +199,9 @@ def run_with_refused_calls(
 class RunsWithoutMemory(RunsWithRefusals):
     """The same with calls for memory refused."""
 
-    def run_and_check_without_memory(self, numbers: tuple[int, int]) -> int:
+    def run_check_and_count_growths(self, numbers: tuple[int, int]) -> int:
         first, last = numbers
-        file = self.write_held_file()
+        file = self.make_held_file()
         ran, made = run_with_refused_calls(self.desk, file, self.given.batches, RefusedCalls("memory", first, last))
         about = f"{self.about}: growth {first}" + (" and all later ones" if last != first else "")
         if not (self.is_whole(None, ran) or (ran.status, ran.stderr) == (MACHINE, MEMORY) and self.is_front(ran.stdout, True)):
@@ -211,12 +211,12 @@ class RunsWithoutMemory(RunsWithRefusals):
         return made
 
     def check_refusals(self) -> list[str]:
-        made = self.run_and_check_without_memory((ABOVE_ANY_CALL, ABOVE_ANY_CALL))
+        made = self.run_check_and_count_growths((ABOVE_ANY_CALL, ABOVE_ANY_CALL))
         if made < 10:
             self.wrong.append(f"{self.about}: {made} growths are counted")
         rows = [(first, last) for first in range(1, made + 1) for last in (first, ABOVE_ANY_CALL)]
         with ThreadPoolExecutor(self.desk.jobs) as pool:
-            list(pool.map(self.run_and_check_without_memory, rows))
+            list(pool.map(self.run_check_and_count_growths, rows))
         return self.wrong
 
 
@@ -275,7 +275,7 @@ def check_real_refusals(counts: Counts, desk: DeskProgram, dam: DamProgram, give
     counts.check("a full device: the first batch is in the file", count in given.borders and count > 0)
 
 
-def write_desk_file_of(desk: DeskProgram, given: DeskInput) -> Path:
+def make_desk_file_of(desk: DeskProgram, given: DeskInput) -> Path:
     """The file of a desk that has entered the input."""
     file = desk.make_path()
     desk.run(file, given.batches)
@@ -284,7 +284,7 @@ def write_desk_file_of(desk: DeskProgram, given: DeskInput) -> Path:
 
 def check_texts_cut_off(counts: Counts, desk: DeskProgram, given: DeskInput) -> None:
     """The journal and the help, printed to a full device, to a pipe that nobody reads, and to a file that has room for fewer bytes."""
-    file = write_desk_file_of(desk, given)
+    file = make_desk_file_of(desk, given)
     for words, text in [(["--journal", str(file)], given.journal.text(len(given.journal))), (["--help"], HELP)]:
         def check_run(about: str, bytes_: int, stdout: IO[bytes] | int, **how: Any) -> None:
             how = {"stdin": subprocess.DEVNULL, "stdout": stdout, "stderr": subprocess.PIPE, "timeout": SECONDS, **how}
@@ -308,7 +308,7 @@ def check_texts_cut_off(counts: Counts, desk: DeskProgram, given: DeskInput) -> 
 def check_refused_journal(counts: Counts, desk: DeskProgram, given: DeskInput) -> None:
     """Each call of `--journal` refused in turn: of the file, of the output, and for memory. The file stays as it is. The kit's library
     makes a read again that a signal interrupts."""
-    file, text, words = write_desk_file_of(desk, given), given.journal.text(len(given.journal)), ["--journal"]
+    file, text, words = make_desk_file_of(desk, given), given.journal.text(len(given.journal)), ["--journal"]
     before = file.read_bytes()
     ran, made = run_with_refused_calls(desk, file, (), RefusedCalls("memory"), words)
     kinds = {event.kind for event in ran.events}
@@ -359,12 +359,12 @@ def draw_inputs(dam: DamProgram, whole: bool) -> Iterator[tuple[str, DeskInput, 
     held = sorted(given.borders)[1]
     rest = journals.DeskInput(given.journal, given.batches, [True] * len(given.journal))
     broken = crash_files.HEAD + given.journal.marked_text(held) + GARBAGE
-    yield "a file after a crash", batches_after(rest, held), broken
+    yield "a file after a crash", input_after(rest, held), broken
     if whole:
         yield "the longest names", journals.draw_input(dam, "refused long", journals.draw_long_names, 12, most=5), None
 
 
-def batches_after(given: DeskInput, held: int) -> DeskInput:
+def input_after(given: DeskInput, held: int) -> DeskInput:
     """The input after the first records."""
     journal, lines = given.journal, given.journal.records[held:]
     half = len(lines) // 2

@@ -95,7 +95,7 @@ def measure_cost_of_rest(program: HostileProgram, desk: DeskProgram, data: bytes
 
 def measure_costs_of_torn(program: HostileProgram, desk: DeskProgram, count: int) -> Iterator[tuple[str, Cost]]:
     """Yields what the opening of a file costs that a crash left with line feeds after its lines: its end is repaired."""
-    file, copy = (files.write_desk_file(desk.make_folder(), HEAD + b"+" + DAY + b"\n" * count) for _ in range(2))
+    file, copy = (files.make_desk_file(desk.make_folder(), HEAD + b"+" + DAY + b"\n" * count) for _ in range(2))
     yield f"again after {count:,} bytes torn", measure_cost(program, [file], b"", [copy])
 
 

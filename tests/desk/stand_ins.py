@@ -24,7 +24,7 @@ def try_crashes(desk: DeskProgram, given: DeskInput) -> list[str]:
 def try_refused_syncs(desk: DeskProgram, given: DeskInput) -> list[str]:
     """Each sync refused in turn."""
     row = refused.RunsWithRefusals(desk, "syncs", given)
-    ran = desk.run(row.write_held_file(), given.batches)
+    ran = desk.run(row.make_held_file(), given.batches)
     for number in range(1, 1 + sum(event.kind == SYNC for event in ran.events)):
         row.run_and_check_refused(RefusedFileCalls(SYNC, number, number, errno.EIO), lambda refusal, found: True)
     return row.wrong
@@ -94,7 +94,7 @@ def check_stand_ins(counts: Counts, desk: DeskProgram, dam: DamProgram, _: bool)
     begun = time.monotonic()
     short, long = draw_inputs(dam)
 
-    def run_test(fault: str, test: Callable[[DeskProgram, DeskInput], list[str]]) -> list[str]:
+    def try_on_stand_in(fault: str, test: Callable[[DeskProgram, DeskInput], list[str]]) -> list[str]:
         given = long if test is try_kills else short
         replies = desk.room / f"replies-{len(given.journal)}"
         replies.write_bytes(given.journal.all_printed)
@@ -108,8 +108,8 @@ def check_stand_ins(counts: Counts, desk: DeskProgram, dam: DamProgram, _: bool)
         try_kills,
         try_second_desk,
     ):
-        wrong = run_test("", test)
+        wrong = try_on_stand_in("", test)
         counts.check(f"a desk without a fault, {test.__name__}: {wrong[:2]}", not wrong)
     for fault, test, about in FAULTS:
-        counts.check(f"a desk that {about}, {test.__name__}: nothing was found", bool(run_test(fault, test)))
+        counts.check(f"a desk that {about}, {test.__name__}: nothing was found", bool(try_on_stand_in(fault, test)))
     print(f"stand-ins: {len(FAULTS)} faults to find; {time.monotonic() - begun:.1f} s", flush=True)

@@ -174,10 +174,10 @@ class RandomStreams:
         expected = reader.capture_output_of_dam(self.dam)
         self.lines, self.entries = self.lines + len(expected), self.entries + reader.entries
         self.faults += sum(line.startswith(b"fault,") for line in expected)
-        yield from self.try_whole(rng, text, reader, expected)
-        yield from self.try_halves(rng, text, reader, expected)
+        yield from self.try_whole_stream(rng, text, reader, expected)
+        yield from self.try_halves_of_stream(rng, text, reader, expected)
 
-    def try_whole(self, rng: random.Random, text: bytes, reader: ExpectedDesk, expected: Sequence[bytes]) -> Iterator[str]:
+    def try_whole_stream(self, rng: random.Random, text: bytes, reader: ExpectedDesk, expected: Sequence[bytes]) -> Iterator[str]:
         file = self.desk.make_path()
         ran = self.desk.run(file, draw_cuts(rng, text))
         if ran.printed != (0, b"".join(expected), b""):
@@ -196,7 +196,7 @@ class RandomStreams:
         if printed != (0, b"".join(reader.records), b""):
             yield f"--journal: status {printed.status}, {printed.stderr[:80]!r}, {printed.stdout[-80:]!r}"
 
-    def try_halves(self, rng: random.Random, text: bytes, reader: ExpectedDesk, expected: Sequence[bytes]) -> Iterator[str]:
+    def try_halves_of_stream(self, rng: random.Random, text: bytes, reader: ExpectedDesk, expected: Sequence[bytes]) -> Iterator[str]:
         """The same input in two runs, which both number their lines from 1."""
         lines = text.split(b"\n")
         half = rng.randrange(len(lines))

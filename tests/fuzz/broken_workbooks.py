@@ -15,7 +15,7 @@ ChangeOfRows = Callable[[random.Random, Rows], Rows]
 ChangeOfCells = Callable[[random.Random, Cells], Cells]
 
 
-def breaking_rows(words: str) -> Callable[[ChangeOfRows], Break]:
+def break_function_of_rows(words: str) -> Callable[[ChangeOfRows], Break]:
     """Makes a break of a change to the list of rows, with the words of its fault."""
 
     def breaking(change: ChangeOfRows) -> Break:
@@ -30,26 +30,26 @@ def breaking_rows(words: str) -> Callable[[ChangeOfRows], Break]:
     return breaking
 
 
-@breaking_rows("should increase")
+@break_function_of_rows("should increase")
 def swap_rows(rng: random.Random, rows: Rows) -> Rows:
     at = rng.randrange(1, len(rows))
     rows[at - 1], rows[at] = rows[at], rows[at - 1]
     return rows
 
 
-@breaking_rows("occurs twice")
+@break_function_of_rows("occurs twice")
 def repeat_row(rng: random.Random, rows: Rows) -> Rows:
     at = rng.randrange(1, len(rows))
     rows[at] = rows[at - 1][0], rows[at][1]
     return rows
 
 
-@breaking_rows("they go from 1 to 1048576")
+@break_function_of_rows("they go from 1 to 1048576")
 def add_row_far_away(rng: random.Random, rows: Rows) -> Rows:
     return [*rows, (rng.choice([1_048_577, 5_000_000, 999_999_999]), rows[0][1])]
 
 
-def breaking_cells(words: str) -> Callable[[ChangeOfCells], Break]:
+def break_function_of_cells(words: str) -> Callable[[ChangeOfCells], Break]:
     """Makes a break of a change to the cells of one row, with the words of its fault."""
 
     def breaking(change: ChangeOfCells) -> Break:
@@ -60,31 +60,31 @@ def breaking_cells(words: str) -> Callable[[ChangeOfCells], Break]:
             return rows
 
         change_row.__name__ = change.__name__
-        return breaking_rows(words)(change_row)
+        return break_function_of_rows(words)(change_row)
 
     return breaking
 
 
-@breaking_cells("should increase")
+@break_function_of_cells("should increase")
 def swap_cells(rng: random.Random, cells: Cells) -> Cells:
     at = rng.randrange(1, len(cells))
     cells[at - 1], cells[at] = cells[at], cells[at - 1]
     return cells
 
 
-@breaking_cells("occurs twice")
+@break_function_of_cells("occurs twice")
 def repeat_cell(rng: random.Random, cells: Cells) -> Cells:
     at = rng.randrange(1, len(cells))
     cells[at] = cells[at - 1][0], cells[at][1]
     return cells
 
 
-@breaking_cells("")
+@break_function_of_cells("")
 def add_cell_far_away(rng: random.Random, cells: Cells) -> Cells:
     return [*cells, (rng.choice([16_385, 20_000, 500_000]), cells[0][1])]
 
 
-@breaking_cells("")
+@break_function_of_cells("")
 def replace_cell_by_no_kind(rng: random.Random, cells: Cells) -> Cells:
     wrong = ['t="x"|<v>1</v>', 't="b"|<v>2</v>', "|<v>NaN</v>", "|<v>1e999</v>", "|<v>1 2</v>", 't="s"|<v>9999</v>', 't="s"|<v>-1</v>']
     wrong += ["|<v>1</v><v>2</v>", "|<is><t>1</t></is>", 't="inlineStr"|<v>1</v>', "|<w>1</w>", "|<v>1<t>2</t></v>", 's="99"|<v>1</v>']
@@ -108,7 +108,7 @@ def add_second_table(drawn: RandomWorkbook) -> str:
     return "two elements 'sheetData'"
 
 
-def changing_sheet(change: Callable[[random.Random, str], tuple[str, str]]) -> Break:
+def break_function_of_sheet(change: Callable[[random.Random, str], tuple[str, str]]) -> Break:
     """Makes a break of a change to the text of the sheet, which returns the words of its fault too."""
 
     def break_sheet(drawn: RandomWorkbook) -> str:
@@ -128,7 +128,7 @@ def draw_place(rng: random.Random, content: str, marks: Sequence[str]) -> int:
     return rng.choice(places)
 
 
-@changing_sheet
+@break_function_of_sheet
 def wrap_row_or_cell(rng: random.Random, content: str) -> tuple[str, str]:
     """Puts a row or a cell into an element that is left out, or into another one."""
     name = rng.choice(["row", "c"])
@@ -138,7 +138,7 @@ def wrap_row_or_cell(rng: random.Random, content: str) -> tuple[str, str]:
     return f"{content[:begin]}<{around}>{content[begin:end]}</{around}>{content[end:]}", "stands in"
 
 
-@changing_sheet
+@break_function_of_sheet
 def add_row_behind_the_cells(rng: random.Random, content: str) -> tuple[str, str]:
     """Adds a row after the table of cells, or next to it."""
     row = '<row r="1048576"><c r="A1048576"><v>1</v></c></row>'
@@ -148,7 +148,7 @@ def add_row_behind_the_cells(rng: random.Random, content: str) -> tuple[str, str
     return f"{content[:end]}{row}{content[end:]}", ""
 
 
-@changing_sheet
+@break_function_of_sheet
 def insert_text_in_wrong_place(rng: random.Random, content: str) -> tuple[str, str]:
     marks = ["<sheetData", "</row>", "</sheetData>", "<c ", "<v>", "<f>", "</c>", "<is>", "</is>", "<mergeCell", "<t>"]
     at = draw_place(rng, content, marks)

@@ -54,7 +54,7 @@ class Pairs:
         self.program = timed_program.TimedProgram(program)
         self.other = (b"day,24,,,,,,,\nclose,,,,,,,,\n", b"")
 
-    def draw_and_capture_results(self, rng: random.Random) -> tuple[bytes, bytes]:
+    def draw_journal_and_capture_results(self, rng: random.Random) -> tuple[bytes, bytes]:
         """A closed journal that the program clears, and the results."""
         while True:
             data = days.draw_text(rng, MOST_BLOCKS)
@@ -159,8 +159,8 @@ def main() -> int:
     with tempfile.TemporaryDirectory() as folder:
         for number in range(args.first, args.first + args.count):
             rng = random.Random(f"doctored {args.seed} {number}")
-            pairs.other = pairs.draw_and_capture_results(random.Random(f"other {args.seed} {number}"))
-            pair = pairs.draw_and_capture_results(rng)
+            pairs.other = pairs.draw_journal_and_capture_results(random.Random(f"other {args.seed} {number}"))
+            pair = pairs.draw_journal_and_capture_results(rng)
             data, text, words = draw_changed_pair(rng, pairs, *pair)
             status, wrong = try_audit(folder, pairs, data, text)
             seen[status] += 1

@@ -74,7 +74,7 @@ def draw_day(rng: random.Random, args: argparse.Namespace) -> bytes:
     return days.text_of_lines([*draft.lines, "close,,,,,,,,"])
 
 
-def find_lower_selection_or_none(problem: selection.Problem, accepted: frozenset[int], welfare: int) -> tuple[frozenset[int], int] | None:
+def lower_selection_or_none(problem: selection.Problem, accepted: frozenset[int], welfare: int) -> tuple[frozenset[int], int] | None:
     """The best eligible selection below this one, and its welfare, of those that take one block in or out; a block that is out
     takes its descendants along, and one that is in takes its ancestors along and its rivals away. None if there is none."""
     found = []
@@ -95,7 +95,7 @@ def find_lower_selection_or_none(problem: selection.Problem, accepted: frozenset
     return other, value
 
 
-def find_best_above(problem: selection.Problem, said: results.Results, jobs: int) -> tuple[frozenset[int], int] | None:
+def search_for_best_above(problem: selection.Problem, said: results.Results, jobs: int) -> tuple[frozenset[int], int] | None:
     """The selection that ranks above these results, as a set and its welfare; None if none does."""
     found, _ = better.search_by_enumeration(problem, said, Progress("fuzz", 600, quiet=True), jobs, few=0)
     return found and (found.accepted, found.welfare)
@@ -110,11 +110,11 @@ def try_day(program: timed_program.TimedProgram, data: bytes, jobs: int) -> tupl
     said, wrong = check.results_and_faults(problem, got.stdout)
     if wrong or said is None:
         return wrong[0], None
-    above = find_best_above(problem, said, jobs)
+    above = search_for_best_above(problem, said, jobs)
     if above:
         return f"the selection {sorted(above[0])} is better, with {above[1]}", None
     accepted = frozenset(said.accepted)
-    altered = find_lower_selection_or_none(problem, accepted, said.welfare)
+    altered = lower_selection_or_none(problem, accepted, said.welfare)
     if altered is None:
         return None, None
     kind = "of less welfare" if altered[1] < said.welfare else "of the same welfare"
@@ -122,7 +122,7 @@ def try_day(program: timed_program.TimedProgram, data: bytes, jobs: int) -> tupl
     published, wrong = check.results_and_faults(problem, text)
     if wrong or published is None:
         return f"altered to {sorted(altered[0])} it isn't as the rules say: {wrong[0]}", kind
-    above = find_best_above(problem, published, jobs)
+    above = search_for_best_above(problem, published, jobs)
     if above != (accepted, said.welfare):
         return f"altered to {sorted(altered[0])} it finds {above}, and not the program's selection", kind
     return None, kind

@@ -53,7 +53,7 @@ def long_day() -> bytes:
     return "".join(f"{line}\n" for line in lines).encode()
 
 
-def inputs_with_commands() -> Iterator[tuple[str, list[str], bytes]]:
+def read_inputs_with_commands() -> Iterator[tuple[str, list[str], bytes]]:
     """The commands, words and texts."""
     for closed in (EMPTY, CLOSED, with_quotes(EMPTY), with_quotes(CLOSED)):
         for front in fronts_of(closed):
@@ -82,7 +82,7 @@ def main() -> int:
     parser = argparse.ArgumentParser(prog="tests/fuzz/fixed.py", description=__doc__)
     parser.add_argument("program", metavar="PROGRAM", help="the built program, crates/dam_cli/out/dam_cli")
     program, counts = timed_program.TimedProgram(parser.parse_args().program), Counts()
-    for command, words, text in inputs_with_commands():
+    for command, words, text in read_inputs_with_commands():
         wrong = right_output.try_command(program, command, words, text)
         counts.check(f"{' '.join([command, *words])} of {len(text)} bytes that end with {text[-20:]!r}: {''.join(wrong[:1])}", not wrong)
     return counts.print_totals_and_return_status()

@@ -105,7 +105,7 @@ def search_for_least_limits(program: timed_program.TimedProgram, words: Sequence
     return [least, more]
 
 
-def write_kept(folder: Path, programs: Programs, name: str, command: str, words: Sequence[str], data: bytes) -> Path:
+def run_and_write_kept(folder: Path, programs: Programs, name: str, command: str, words: Sequence[str], data: bytes) -> Path:
     """Writes the input, a case with it, the arguments and the output that the rules require, and the program's output."""
     folder.mkdir(parents=True, exist_ok=True)
     given = folder / f"{name}.csv"
@@ -131,26 +131,26 @@ def try_case(args: argparse.Namespace, programs: Programs, number: int) -> Itera
         for words in draw_words(args, programs, rng, command, data):
             wrong = right_output.try_command(programs.program, command, words, data, programs.like)
             if wrong:
-                yield f"case {number} of seed {args.seed}: {write_and_describe(args, programs, number, command, words, data, wrong)}"
+                yield f"case {number} of seed {args.seed}: {write_smaller_and_return_fault(args, programs, number, command, words, data, wrong)}"
                 break
 
 
-def differs_in_time(programs: Programs, command: str, words: Sequence[str], data: bytes) -> bool:
+def run_and_see_difference_in_time(programs: Programs, command: str, words: Sequence[str], data: bytes) -> bool:
     wrong = right_output.try_command(programs.program, command, words, data, programs.like)
     return wrong not in ([], [timed_program.LATE])
 
 
-def write_and_describe(
+def write_smaller_and_return_fault(
     args: argparse.Namespace, programs: Programs, number: int, command: str, words: Sequence[str], data: bytes, wrong: list[str]
 ) -> str:
     """Keeps an input that shows a difference, made smaller, and reports the differences."""
     if wrong != [timed_program.LATE]:  # smaller inputs might take as long, each of them
-        data = find_smaller(data, lambda part: differs_in_time(programs, command, words, part), args.tries)
-    case = write_kept(Path(args.keep), programs, f"{command}-{args.seed}-{number}", command, words, data)
+        data = search_for_smaller(data, lambda part: run_and_see_difference_in_time(programs, command, words, part), args.tries)
+    case = run_and_write_kept(Path(args.keep), programs, f"{command}-{args.seed}-{number}", command, words, data)
     return f"{' '.join([command, *words])}: {wrong[0]}; kept as {case}"
 
 
-def find_needed_parts(parts: list[bytes], fails: Callable[[bytes], bool], tries: int) -> tuple[list[bytes], int]:
+def search_for_needed_parts(parts: list[bytes], fails: Callable[[bytes], bool], tries: int) -> tuple[list[bytes], int]:
     """Leaves out runs of parts, long ones first, while what is left still fails. Returns that, and how many tries are left."""
     size = len(parts) // 2
     while size >= 1:
@@ -166,11 +166,11 @@ def find_needed_parts(parts: list[bytes], fails: Callable[[bytes], bool], tries:
     return parts, tries
 
 
-def find_smaller(data: bytes, fails: Callable[[bytes], bool], tries: int) -> bytes:
+def search_for_smaller(data: bytes, fails: Callable[[bytes], bool], tries: int) -> bytes:
     """A part of the input that still fails: with fewer lines, then with fewer bytes. At most `tries` smaller inputs are tried."""
-    lines, tries = find_needed_parts(data.splitlines(keepends=True), fails, tries)
+    lines, tries = search_for_needed_parts(data.splitlines(keepends=True), fails, tries)
     data = b"".join(lines)
-    parts, _ = find_needed_parts([data[at : at + 1] for at in range(len(data))], fails, tries)
+    parts, _ = search_for_needed_parts([data[at : at + 1] for at in range(len(data))], fails, tries)
     return b"".join(parts)
 
 
@@ -186,8 +186,8 @@ def find_programs_or_exit(args: argparse.Namespace) -> Programs:
     like = require_program_or_exit(args.like, args.wait) if args.like else None
     # The order of a day's entries may differ from run to run.
     commands = [command for command in COMMANDS if command != "day" or not like]
-    known = [command for command in commands if program.is_command_of_program([command])]
-    has_plans = program.is_command_of_program(["clear", "--workers", "1", "--cut", "0"])
+    known = [command for command in commands if program.run_and_see_command([command])]
+    has_plans = program.run_and_see_command(["clear", "--workers", "1", "--cut", "0"])
     return Programs(program, like, args.commands.split(",") if args.commands else known, has_plans)
 
 

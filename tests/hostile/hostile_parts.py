@@ -15,8 +15,8 @@ from shared.preload import HostileProgram
 
 
 def check_memory(runs: RunsOfRows) -> None:
-    runs.check_rows("memory refused once in the worked cases", rows_of_runs.rows_of_cases())
-    runs.check_rows("memory refused from one call on in the worked cases", rows_of_runs.rows_of_cases_without_memory())
+    runs.check_rows("memory refused once in the worked cases", rows_of_runs.read_rows_of_cases())
+    runs.check_rows("memory refused from one call on in the worked cases", rows_of_runs.read_rows_of_cases_without_memory())
     runs.check_rows("memory refused in days and other runs", rows_of_runs.rows_of_memory())
 
 
@@ -28,7 +28,7 @@ def check_calls(runs: RunsOfRows) -> None:
 
 
 def check_retries(runs: RunsOfRows) -> None:
-    retried_calls.check_rows(runs, runs.program.room, rows_of_runs.rows_of_calls(runs.program))
+    retried_calls.check_rows(runs, runs.program.room, rows_of_runs.capture_rows_of_calls(runs.program))
 
 
 def check_texts(runs: RunsOfRows) -> None:

@@ -128,7 +128,7 @@ def check_whole_reads(runs: RunsOfRows, word: str, text: bytes, answer: AnswerTo
         tried.append(("pipe", lambda: run_from_pipe(runs.program, word, text)))
     for source, run in tried:
         got, made = run()
-        is_right = answer.is_given_answer(got) and made == right
+        is_right = answer.run_and_see_if_given(got) and made == right
         runs.check(f"{about} a {source} by {made} calls, and not {right}, or gives another answer: status {got.status}", is_right)
     runs.program.write_input(text).unlink()
 

@@ -55,19 +55,19 @@ class RetryingRuns:
         """How many calls for memory it makes."""
         return self.program.run(words, data, RefusedCalls("memory", ABOVE_ANY_CALL, ABOVE_ANY_CALL))[1]
 
-    def refused_numbers(self, row: RowOfRetries, total: int) -> list[int]:
+    def measure_refused_numbers(self, row: RowOfRetries, total: int) -> list[int]:
         """The calls for memory that are refused: each, but of a long beginning only some; and one that no run comes to."""
         first = self.measure_count_of_calls(row.beginning, row.data) if row.beginning else 0
         begun = {1 + at * first // SPREAD for at in range(SPREAD)} if first else set()
         return sorted(begun | set(range(first + 1, total + 2)))
 
-    def run_and_check_row(self, row: RowOfRetries) -> int:
+    def run_check_and_count_repeats(self, row: RowOfRetries) -> int:
         """Refuses one call for memory after another. The first ones come before the row's calls; the others come from these, each of
         which is refused once and then answered."""
         check = self.runs.check
         check(f"{row.about}, nothing refused", self.run_refused(row, right_answers.NOTHING_REFUSED) == row.right_output(0))
         total = self.measure_count_of_calls(row.words, row.data)
-        numbers = self.refused_numbers(row, total)
+        numbers = self.measure_refused_numbers(row, total)
         *printed, last = self.runs.pool.map(lambda number: self.run_refused(row, RefusedCalls("memory", number, number)), numbers)
         # one call for memory, for the words, is made again by the kit if it is refused
         before = next((at for at, got in enumerate(printed) if got not in BEFORE | {row.right_output(0)}), len(printed))
@@ -82,14 +82,14 @@ class RetryingRuns:
         return again
 
 
-def journals_at_gate(given: Iterable[tuple[str, bytes]]) -> Iterator[RowOfRetries]:
+def rows_of_journals_at_gate(given: Iterable[tuple[str, bytes]]) -> Iterator[RowOfRetries]:
     """Journals that are entered at a gate."""
     for about, data in given:
         entries = data.count(b"\n")
         yield RowOfRetries(f"{about} at a gate", [], data, f"{entries} entries", least=entries)
 
 
-def journals_on_threads(given: Iterable[tuple[str, bytes]]) -> Iterator[RowOfRetries]:
+def rows_of_journals_on_threads(given: Iterable[tuple[str, bytes]]) -> Iterator[RowOfRetries]:
     """Journals of which each participant enters its commands on a thread of its own, at a gate whose turnstile is called as often after its
     jobs as before."""
     for about, data in given:
@@ -189,6 +189,6 @@ def check_rows(runs: RunsOfRows, room: Path, rows: Iterable[RowOfRetries]) -> No
     refusals = RetryingRuns(runs, room)
     again, count = 0, 0
     for row in rows:
-        again += refusals.run_and_check_row(row)
+        again += refusals.run_check_and_count_repeats(row)
         count += 1
     print(f"memory refused to the calls of {count} rows: {again} calls made again", flush=True)

@@ -29,15 +29,15 @@ class RightAnswer:
         self.texts: dict[bytes, bool] = {}
         self.lock = threading.Lock()
 
-    def is_given_answer(self, got: Printed) -> bool:
+    def run_and_see_if_given(self, got: Printed) -> bool:
         if not self.is_day or got.status or got.stderr:
             return got == self.usual
         with self.lock:
             if got.stdout not in self.texts:
-                self.texts[got.stdout] = self.is_text_of_day(got.stdout)
+                self.texts[got.stdout] = self.run_and_see_if_text_of_day(got.stdout)
             return self.texts[got.stdout]
 
-    def is_text_of_day(self, text: bytes) -> bool:
+    def run_and_see_if_text_of_day(self, text: bytes) -> bool:
         parted = results.journal_and_results(text)
         if parted is None:
             return False
@@ -49,18 +49,18 @@ class RightAnswer:
 
 def is_right_without_memory(answer: RightAnswer, refusal: RefusedCalls, got: Printed, calls: int) -> bool:
     """Memory is refused: the usual answer, or the line for memory, which needs no memory itself."""
-    return answer.is_given_answer(got) or calls >= refusal.first and got == MEMORY
+    return answer.run_and_see_if_given(got) or calls >= refusal.first and got == MEMORY
 
 
 def is_unchanged(answer: RightAnswer, _refusal: RefusedCalls, got: Printed, _calls: int) -> bool:
     """A refused thread or refused random bytes change no answer."""
-    return answer.is_given_answer(got)
+    return answer.run_and_see_if_given(got)
 
 
 def is_right_after_read(answer: RightAnswer, refusal: RefusedCalls, got: Printed, calls: int) -> bool:
     """A failed read ends the run, and nothing is written."""
     if calls < refusal.first:
-        return answer.is_given_answer(got)
+        return answer.run_and_see_if_given(got)
     return got == READ
 
 

@@ -20,7 +20,7 @@ MANY = 200  # how many calls of a large row are refused if not each is
 SMALL = 1_100  # each call for memory of a worked case is refused if it makes no more than this
 
 
-def records_of_example(name: str, wanted: Callable[[bytes], bool] = lambda record: True) -> bytes:
+def read_example(name: str, wanted: Callable[[bytes], bool] = lambda record: True) -> bytes:
     """The records of an example that are wanted, with the day's."""
     day, *rest = (EXAMPLES / name).read_bytes().splitlines(keepends=True)
     return b"".join([day, *filter(wanted, rest)])
@@ -35,12 +35,12 @@ def read_worked_cases() -> list[tuple[str, list[str], bytes]]:
     return [(case.name, case.words, case.stdin) for case in cases.read_all_cases()]
 
 
-AUCTION = records_of_example("auction-day.csv")
-FIRST = records_of_example("first-day.csv")
-QUARTERS = records_of_example("quarter-hours.csv")
-OPEN_AUCTION = records_of_example("auction-day.csv", is_command)
-OPEN_FIRST = records_of_example("first-day.csv", is_command)
-ONE_PARTICIPANT = records_of_example("auction-day.csv", lambda record: b",GAS," in record)
+AUCTION = read_example("auction-day.csv")
+FIRST = read_example("first-day.csv")
+QUARTERS = read_example("quarter-hours.csv")
+OPEN_AUCTION = read_example("auction-day.csv", is_command)
+OPEN_FIRST = read_example("first-day.csv", is_command)
+ONE_PARTICIPANT = read_example("auction-day.csv", lambda record: b",GAS," in record)
 BROKEN = AUCTION + b"amend,NORD\n"
 QUOTED = b"".join(b'"%b"\r\n' % record.replace(b",", b'","') for record in AUCTION.splitlines())
 QUOTED_IN_PART = AUCTION.replace(b"submit", b'"sub"mit').replace(b"close", b'"clo"se')
@@ -69,13 +69,13 @@ def row_of_growths(about: str, words: Words, data: bytes, **how: Any) -> RowOfRu
     return RowOfRuns(about, words, data, "memory", right_answers.is_right_without_memory, **how)
 
 
-def rows_of_cases() -> Iterator[RowOfRuns]:
+def read_rows_of_cases() -> Iterator[RowOfRuns]:
     """One call for memory refused in the worked cases: each in turn, but in a few large ones."""
     for about, words, data in read_worked_cases():
         yield row_of_growths(f"{about}, one growth", words, data, each=SMALL)
 
 
-def rows_of_cases_without_memory() -> Iterator[RowOfRuns]:
+def read_rows_of_cases_without_memory() -> Iterator[RowOfRuns]:
     """All calls for memory refused from one on, in the worked cases."""
     for about, words, data in read_worked_cases():
         yield row_of_growths(f"{about}, all growths from one on", words, data, last=ABOVE_ANY_CALL, each=0, some=8)
@@ -110,13 +110,13 @@ def rows_of_memory() -> Iterator[RowOfRuns]:
         yield row_of_growths(f"{about}, all growths from one on", words, data, last=ABOVE_ANY_CALL, each=each, some=some // 2)
 
 
-def rows_of_calls(program: HostileProgram) -> Iterator[RowOfRetries]:
+def capture_rows_of_calls(program: HostileProgram) -> Iterator[RowOfRetries]:
     """Rows whose calls `dam_refusals` makes, each again if it was refused memory."""
     worked = {name: (words, data) for name, words, data in read_worked_cases()}
     days = [("two orders", TWO_ORDERS)]
     days += [(f"the commands of {name}", worked[f"replay/{name}"][1]) for name in ["stored-run", "closed", "links"]]
-    yield from retried_calls.journals_at_gate([*days, ("the longest day", LONGEST_DAY), ("the auction day", OPEN_AUCTION)])
-    yield from retried_calls.journals_on_threads([("two orders", TWO_ORDERS), ("the auction day", OPEN_AUCTION)])
+    yield from retried_calls.rows_of_journals_at_gate([*days, ("the longest day", LONGEST_DAY), ("the auction day", OPEN_AUCTION)])
+    yield from retried_calls.rows_of_journals_on_threads([("two orders", TWO_ORDERS), ("the auction day", OPEN_AUCTION)])
     yield from retried_calls.rows_of_gates()
     texts = [(name, data) for name, (words, data) in worked.items() if words == ["replay"] or name == "clear/quoted-crlf"]
     written = [("two orders", TWO_ORDERS + CLOSE), ("the longest day", LONGEST_DAY + CLOSE), ("the auction day", AUCTION)]
@@ -164,5 +164,5 @@ def rows_of_devices() -> Iterator[RowOfRuns]:
 def is_right_at_end_of_input(answer: AnswerToRow, refusal: RefusedCalls, got: Printed, calls: int) -> bool:
     """A read of 0 bytes is the end of the input: the answer is the answer to the bytes before it."""
     if calls < refusal.first:
-        return answer.is_given_answer(got)
-    return answer.capture_front(refusal.moved_before(len(answer.data))).is_given_answer(got)
+        return answer.run_and_see_if_given(got)
+    return answer.capture_front(refusal.moved_before(len(answer.data))).run_and_see_if_given(got)

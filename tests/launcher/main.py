@@ -25,7 +25,7 @@ def end_processes_and_exit(number: int, _: object) -> None:
     sys.exit(128 + number)
 
 
-def run_and_print(test: unittest.TestCase) -> bool:
+def run_print_and_see_success(test: unittest.TestCase) -> bool:
     """Runs a test, says how it ended, and returns whether well."""
     result = unittest.TestResult()
     test.run(result)
@@ -43,5 +43,5 @@ def main() -> int:
     suites = [suite for module in (launches, compilations, proofs, check_ends) for suite in load(module)]
     tests = [test for suite in suites if isinstance(suite, unittest.TestSuite) for test in suite if isinstance(test, unittest.TestCase)]
     with ThreadPoolExecutor(len(os.sched_getaffinity(0))) as pool:
-        passed = sum(pool.map(run_and_print, tests))
+        passed = sum(pool.map(run_print_and_see_success, tests))
     return Counts(passed, len(tests) - passed).print_totals_and_return_status()

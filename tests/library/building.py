@@ -68,14 +68,14 @@ class SmallLibrary:
         with open(f"{self.top}/{path}", "w", encoding="utf-8") as file:
             file.write(text)
 
-    def make_calls(self, names: Iterable[str]) -> None:
+    def compile_archive_of_calls(self, names: Iterable[str]) -> None:
         """Makes the archive that the stand-ins take for the proved library."""
         with open(f"{self.kit}/calls.c", "w", encoding="utf-8") as file:
             file.writelines(CALLS.format(name) for name in names)
         for words in (["cc", "-fPIC", "-c", "calls.c"], ["ar", "rc", "calls.a", "calls.o"]):
             subprocess.run(words, cwd=self.kit, check=True)
 
-    def write_sums(self) -> None:
+    def capture_and_write_sums(self) -> None:
         """Writes the sums of the present sources for --over, as the check does before the proofs."""
         self.write("proved/sums", self.run("python3", "-B", "tools/lib/crates/sources.py", "dam_c")[1])
 
@@ -91,7 +91,7 @@ class SmallLibrary:
     def has_no_record(self) -> bool:
         return not any(os.path.exists(f"{path}.json") for path in self.built)
 
-    def are_present(self) -> bool:
+    def run_and_see_if_present(self) -> bool:
         """Whether both files are recorded as built of the present sources."""
         asked = [self.run("python3", "-B", "tools/lib/crates/sources.py", "dam_c", "--fault", path) for path in self.built]
         return asked == [(0, "")] * len(self.built)
@@ -99,9 +99,9 @@ class SmallLibrary:
 
 def check_edit(counts: Counts, at: SmallLibrary, words: Sequence[str], edits: str, edited: str) -> None:
     """Builds, and builds again with an edit of a source: before the build, or while a stand-in runs."""
-    at.write_sums()
+    at.capture_and_write_sums()
     about = f"{' '.join(['library/build', *words])}, with an edit of {edited} {f'while {edits} runs' if edits else 'before it'}"
-    counts.check(f"{about}: the build before", at.run_build(*words) == (0, "") and at.are_present())
+    counts.check(f"{about}: the build before", at.run_build(*words) == (0, "") and at.run_and_see_if_present())
     if not edits:
         at.write(edited, "/* edited before */\n")
     status, said = at.run_build(*words, EDITS=edits, EDITED=f"{at.top}/{edited}")
@@ -115,7 +115,7 @@ def check_records(counts: Counts, folder: str, exports: Iterable[str]) -> None:
         counts.leave_out("the records of library/build: ar is missing")
         return
     at = SmallLibrary(folder)
-    at.make_calls(exports)
+    at.compile_archive_of_calls(exports)
     over = ["--over", "proved"]
     for edited in SOURCES:
         check_edit(counts, at, [], "rt", edited)

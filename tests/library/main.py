@@ -316,14 +316,14 @@ def check_colliding(counts: Counts, library: CalledLibrary, folder: str) -> None
     others += [bytes(2) + b"\1" + bytes(length - 3) for length in (last - 1, *longer, 255, 256, 4_096, 1 << 16, 1 << 24)]
     for call, limit in (("dam_replay", ()), ("dam_clear", (MOST_NODES,)), ("dam_clear", (20,))):
 
-        def took(name: str, *secret: Any, periods: int = 24) -> float:
+        def measure_call(name: str, *secret: Any, periods: int = 24) -> float:
             given = (*secret, texts[periods], len(texts[periods]), *limit)
             return measure_call_or_nan(lambda: library.call_and_read_answer(name, given))
 
         seeded = f"{call}_seeded"
-        quick = [took(seeded, secret, len(secret)) for secret in others]
-        quick += [took(seeded, SECRET, len(SECRET), periods=periods) for periods in rules.DAYS]
-        slow = [took(call), *(took(seeded, secret, len(secret)) for secret in zeros)]
+        quick = [measure_call(seeded, secret, len(secret)) for secret in others]
+        quick += [measure_call(seeded, SECRET, len(SECRET), periods=periods) for periods in rules.DAYS]
+        slow = [measure_call(call), *(measure_call(seeded, secret, len(secret)) for secret in zeros)]
         about = f"{call}: with a secret of zeros, names that collide take {min(slow) / max(quick):.1f} times as long"
         counts.check(about, all(one > LEAST_COLLIDING * other for one in slow for other in quick))
 
@@ -590,7 +590,7 @@ def check_calls(counts: Counts, folder: str, program: str) -> None:
     check_from_rust(counts, folder, library)
 
 
-def prove_and_build(counts: Counts, words: Sequence[str]) -> bool:
+def prove_build_and_see_success(counts: Counts, words: Sequence[str]) -> bool:
     """Proves and builds the library. Returns whether that can be done here."""
     built = subprocess.run([f"{TOP}/library/build", *words], stdout=subprocess.PIPE, stderr=subprocess.STDOUT, errors="replace")
     print("".join(line + "\n" for line in built.stdout.splitlines() if built.returncode or line.startswith("logic=")), end="", flush=True)
@@ -616,7 +616,7 @@ def main() -> int:
             check_heap(counts, folder)
             building.check_records(counts, folder, EXPORTS)
             words = ["--over", given.over] if given.over else []
-            can_build = prove_and_build(counts, words) if given.build or words else True
+            can_build = prove_build_and_see_success(counts, words) if given.build or words else True
             if is_library_built():
                 check_calls(counts, folder, os.path.abspath(given.program))
             elif can_build:

@@ -26,7 +26,7 @@ class Results(NamedTuple):
     volumes: list[int]
     orders: dict[Key, Any]  # by participant and name: an executed volume, or a pair of whether the block is accepted and its surplus
 
-    def lines_but(self, key: Key) -> Results:
+    def without_order(self, key: Key) -> Results:
         """All of it but the line of one order."""
         return self._replace(orders={other: value for other, value in self.orders.items() if other != key})
 
@@ -189,7 +189,7 @@ def try_a_worse_limit(market: Market, book: MarketBook, rng: random.Random) -> I
         limit = market_books.draw_worse_limit_or_none(rng, row.order)
         if not printed.accepts(row) and limit is not None:
             other = market.capture_results(book.with_limit(row, limit))
-            if other.accepts(row) or other.lines_but(row.key) != printed.lines_but(row.key):
+            if other.accepts(row) or other.without_order(row.key) != printed.without_order(row.key):
                 yield f"block {row.name} is rejected, and with the worse limit {limit} the results are others"
 
 
@@ -210,7 +210,7 @@ def try_a_rejected_block_withdrawn(market: Market, book: MarketBook, _: random.R
     printed = market.capture_results(book)
     for row in book.blocks:
         if not printed.accepts(row) and not book.children(row):
-            if market.capture_results(book.without(row)) != printed.lines_but(row.key):
+            if market.capture_results(book.without(row)) != printed.without_order(row.key):
                 yield f"block {row.name} is rejected, and without it the results are others"
 
 

@@ -112,7 +112,7 @@ class Laws(unittest.TestCase):
         )
 
     def test_a_withdrawn_block_changes_nothing(self) -> None:
-        alone = NOTHING.lines_but(UNIT.key)
+        alone = NOTHING.without_order(UNIT.key)
         self.check_law(
             laws.try_a_rejected_block_withdrawn, [NOTHING, alone], [NOTHING, alone._replace(prices=[0])]
         )

@@ -56,7 +56,7 @@ def fault_of_value_or_none(value: Any, schema: JsonObject, at: str = "answer") -
     return None
 
 
-def send_and_check(
+def send_check_and_return_answer(
     counts: Counts,
     office: ServedOffice,
     method: str,
@@ -144,11 +144,11 @@ def check_routes(counts: Counts, office: ServedOffice, periods: int) -> None:
         number = entered + rng.choice([1, 1, 1, 1, 2, 0])
         number = max(1, number)
         body = json.dumps(commands if len(commands) > 1 or rng.random() < 0.5 else commands[0]).encode()
-        status, data = send_and_check(counts, office, "PUT", template, {**values, "number": number}, typed, body)
+        status, data = send_check_and_return_answer(counts, office, "PUT", template, {**values, "number": number}, typed, body)
         if status == 200:
             found = [heads.parse_value_and_is_written(line, heads.parse_receipt) for line in data.splitlines(keepends=True)]
             counts.check("receipts are in their written form", all(is_written for _, is_written in found) and len(found) == len(commands))
-            again = send_and_check(counts, office, "PUT", template, {**values, "number": number}, typed, body)
+            again = send_check_and_return_answer(counts, office, "PUT", template, {**values, "number": number}, typed, body)
             counts.check("the same request again gets the same receipts", again == (200, data))
             records = records[: number - 1] + [receipt.record for receipt, _ in found]
             entered = max(entered, number - 1 + len(found))
@@ -159,16 +159,16 @@ def check_routes(counts: Counts, office: ServedOffice, periods: int) -> None:
         for method in methods:
             if method == "get":
                 for header in (token, dict[str, str]()):
-                    send_and_check(counts, office, "GET", template, values, header)
-                    send_and_check(
+                    send_check_and_return_answer(counts, office, "GET", template, values, header)
+                    send_check_and_return_answer(
                         counts, office, "GET", template, {**values, "day": "nothing", "who": office.who[0], "number": 99_999}, header
                     )
     for query in ("?since=0", "?since=1", "?since=99999", "?since=x", "?since=-1", "?since="):
-        send_and_check(counts, office, "GET", "/days/{day}/head", values, query=query)
-        send_and_check(counts, office, "GET", "/days/{day}/commands/{who}", values, token, query=query)
+        send_check_and_return_answer(counts, office, "GET", "/days/{day}/head", values, query=query)
+        send_check_and_return_answer(counts, office, "GET", "/days/{day}/commands/{who}", values, token, query=query)
     table = f"participant,order,kind,side,price_eur_mwh,periods,volume_mw\n{who},T,block,sell,12.5,1-{periods},3\n"
     for sent in (table, table.replace(who, "OTHER"), "", "x\n", "PK\x03\x04"):
-        send_and_check(counts, office, "POST", "/days/{day}/tables/{who}", values, token, sent.encode())
+        send_check_and_return_answer(counts, office, "POST", "/days/{day}/tables/{who}", values, token, sent.encode())
     office.close_day()
     office.run_tool("publish", office.folder)
     # tables count as many requests
@@ -176,9 +176,9 @@ def check_routes(counts: Counts, office: ServedOffice, periods: int) -> None:
     time.sleep(1)  # in which it allows enough for what follows
     for template in API["paths"]:
         if template.startswith("/days/") and "get" in API["paths"][template]:
-            status, _ = send_and_check(counts, office, "GET", template, values, token)
+            status, _ = send_check_and_return_answer(counts, office, "GET", template, values, token)
             counts.check(f"{template} after the close", status == 200 or template.endswith("statement/{who}"))
-    answer = send_and_check(
+    answer = send_check_and_return_answer(
         counts,
         office,
         "PUT",

@@ -46,7 +46,7 @@ async def run_with_kills(office: ServedOffice, kills: int, count: int, seed: str
     """A load in which the office, its desk or both are killed, and the office is started again. Returns it with the seconds of the
     starts."""
     load, starts, rng = OfficeLoad(office, seed), [], random.Random(seed)
-    running = asyncio.create_task(load.send_all(count))
+    running = asyncio.create_task(load.send_all_and_return_seconds(count))
     for number in range(kills):
         await asyncio.sleep(rng.uniform(0.1, 0.6))
         parts = (("office",), ("desk",), ("office", "desk"))[number % 3]

@@ -188,11 +188,11 @@ def check_ended_desk(counts: Counts, args: argparse.Namespace) -> None:
         wrapped.chmod(0o755)
         with running_office(args.dam, wrapped) as office:
             office.start()
-            (first,) = office.find_desk_processes()
+            (first,) = office.capture_desk_processes()
             office.kill("desk")
             counts.check(
                 "an idle desk that ends is opened again",
-                wait_until(lambda: office.find_desk_processes() not in ([], [first]) and office.is_ready()),
+                wait_until(lambda: office.capture_desk_processes() not in ([], [first]) and office.is_ready()),
             )
             unreadable.touch()
             office.kill("desk")
@@ -296,7 +296,7 @@ def check_whole_day(counts: Counts, args: argparse.Namespace) -> None:
     with running_office(args.dam, args.desk, count=connections) as office:
         office.start()
         load = OfficeLoad(office)
-        took = asyncio.run(load.send_all(most, 600 if args.all else SECONDS))
+        took = asyncio.run(load.send_all_and_return_seconds(most, 600 if args.all else SECONDS))
         print(f"{connections} connections: {load.summary_text(took)}")
         records = office.capture_journal_of_desk()
         replies = loads.capture_replies_of_dam(args.dam, records)

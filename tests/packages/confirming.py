@@ -21,7 +21,7 @@ from packages.making import (
     SHARED,
     capture_tar,
     commit_all,
-    read_contents,
+    capture_contents,
     run_command,
     run_tool,
     write_build_record,
@@ -82,7 +82,7 @@ def check_other_packing(counts: Counts, folder: Path, room: Path) -> None:
 
 def check_hostile_packages(counts: Counts, folder: Path, room: Path) -> None:
     """A package of a stranger: each line is about one file, and a verdict is only printed on a line of its own."""
-    told = json.loads(read_contents(room)["share/dam/provenance.json"])
+    told = json.loads(capture_contents(room)["share/dam/provenance.json"])
     # a name with a line end, a second file of a name, and a second folder
     others = {f"z\n{PLAIN}: the same, byte for byte": b"", "bin/dam": b"#!", "../second/bin/dam": b"#!"}
     named = ["/second/bin/dam", "bin/dam (again)", f"z\\n{PLAIN}: the same, byte for byte"]
@@ -145,7 +145,7 @@ def check_totals(counts: Counts, folder: Path, room: Path) -> None:
     for of, wanted in (("another", None), (commit.strip(), 7)):
         checked.write_text(json.dumps({"commit": of, "passed": 7}))
         status, _, _ = run_tool(folder, "--out", room / "checked")
-        told = json.loads(read_contents(room / "checked")["share/dam/provenance.json"])["check"]
+        told = json.loads(capture_contents(room / "checked")["share/dam/provenance.json"])["check"]
         counts.check(f"a check of {of}", status == 0 and (told and told["passed"]) == wanted)
     checked.write_text(json.dumps({"commit": "another", "passed": 7}))
     status, _, error = run_tool(folder, "--check", checked)

@@ -41,7 +41,7 @@ def fetch_kind(url: str) -> list[object]:
         return [answer.headers.get_content_type(), answer.status == 200 and len(answer.read()) > 100]
 
 
-def wait_for_outcome(office: Office, day: str, log: IO[str]) -> list[Any]:
+def wait_and_return_outcome(office: Office, day: str, log: IO[str]) -> list[Any]:
     """The price of the order's period, and what became of the order; None for both if the log says that nothing is published."""
     until = time.monotonic() + SECONDS
     while time.monotonic() < until:
@@ -69,7 +69,7 @@ def fetch_facts_of_demo(process: subprocess.Popen[str], log: IO[str]) -> dict[st
     (receipt,) = office.enter(day, ORDER)
     told = {"files": [fetch_kind(url + path) for path in PATHS], "programs": find_programs(process.pid), "reply": receipt["reply"]}
     office.ask(Asked("POST", f"/days/{day}/close"))
-    told["price"], told["executed"] = wait_for_outcome(office, day, log)
+    told["price"], told["executed"] = wait_and_return_outcome(office, day, log)
     told["head"] = json.loads(office.head(day))["size"]
     return told
 

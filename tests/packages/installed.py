@@ -57,7 +57,7 @@ class MinimalSystem:
     def __init__(self, root: str) -> None:
         self.root = root
 
-    def words_of_start(self) -> list[str]:
+    def find_words_of_start(self) -> list[str]:
         """The words that start a command in it. It gets a /proc of its own, and its processes end with it."""
         inside = f'mount -t proc proc "$0/proc" && cd "$0" && exec {shutil.which("chroot")} "$0" "$@"'
         return ["unshare", "--mount", "--pid", "--fork", "sh", "-c", inside, self.root]
@@ -65,7 +65,7 @@ class MinimalSystem:
     def run(self, *words: str, data: bytes = b"") -> tuple[int, bytes, str]:
         """The status, the output and the errors of a command."""
         clean = ["env", "-i", "PATH=/usr/bin:/usr/sbin:/bin:/sbin", f"HOME={DAY}", "LC_ALL=C.UTF-8", "DEBIAN_FRONTEND=noninteractive"]
-        ran = subprocess.run([*self.words_of_start(), *clean, *words], input=data, capture_output=True, timeout=SECONDS)
+        ran = subprocess.run([*self.find_words_of_start(), *clean, *words], input=data, capture_output=True, timeout=SECONDS)
         return ran.returncode, ran.stdout, ran.stderr.decode(errors="replace")
 
     def run_in_shell(self, line: str) -> tuple[int, bytes, str]:

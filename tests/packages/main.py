@@ -32,7 +32,7 @@ from packages.making import (
     compile_or_copy_stand_ins,
     copy_and_commit_clone,
     make_and_check_packages,
-    read_contents,
+    capture_contents,
     run_command,
 )
 from packages.packaged import (
@@ -66,7 +66,7 @@ def check_package(counts: Counts, folder: Path, given: argparse.Namespace) -> No
         copy_and_commit_clone(it, stand_ins)
     rooms = make_and_check_packages(counts, one), make_and_check_packages(counts, two, other=True)
     check_same_bytes(counts, *rooms)
-    files = read_contents(rooms[0])
+    files = capture_contents(rooms[0])
     check_provenance(counts, one, rooms[0])
     check_man_pages(counts, files, capture_command_names(one / PROGRAM))
     check_commands_of_pages(counts, files)
@@ -102,7 +102,7 @@ def main() -> int:
     parser.add_argument("--desk", metavar="DESK")
     given = parser.parse_args()
     counts = Counts()
-    missing = [*(name for name in NEEDED if not shutil.which(name)), *site.missing_packages()]
+    missing = [*(name for name in NEEDED if not shutil.which(name)), *site.find_missing_packages()]
     if missing:
         counts.leave_out(f"the package: {', '.join(missing)} missing")
     elif run_command(["git", "rev-parse", "HEAD"])[0]:

@@ -46,7 +46,7 @@ def commit_all(folder: Path, words: str = "all") -> None:
         subprocess.run(["git", *line], cwd=folder, env=when, check=True, stdout=subprocess.DEVNULL)
 
 
-def ask_git_for_tracked_files() -> list[str]:
+def capture_tracked_files() -> list[str]:
     """The files of the working tree that a commit would have."""
     _, shown, _ = run_command(["git", "ls-files", "-z", "--cached", "--others", "--exclude-standard"])
     return [name for name in shown.split("\0") if name and (TOP / name).is_file()]
@@ -55,7 +55,7 @@ def ask_git_for_tracked_files() -> list[str]:
 def copy_and_commit_clone(folder: Path, stand_ins: Path | None) -> None:
     """Makes a copy of the working tree, with the built files."""
     folder.mkdir()
-    for name in ask_git_for_tracked_files():
+    for name in capture_tracked_files():
         (folder / name).parent.mkdir(parents=True, exist_ok=True)
         shutil.copy(TOP / name, folder / name)
     subprocess.run(["git", "init", "--quiet"], cwd=folder, check=True)
@@ -115,7 +115,7 @@ def capture_tar(room: Path) -> bytes:
     return subprocess.run(["xz", "-dc", room / PLAIN], stdout=subprocess.PIPE, check=True).stdout
 
 
-def read_contents(room: Path) -> dict[str, bytes]:
+def capture_contents(room: Path) -> dict[str, bytes]:
     """The files of the archive that runs in place, by name."""
     with tarfile.open(fileobj=io.BytesIO(capture_tar(room))) as archive:
         files = [(it.name.partition("/")[2], archive.extractfile(it)) for it in archive if it.isfile()]

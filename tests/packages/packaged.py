@@ -20,7 +20,7 @@ from packages.making import (
     SECONDS,
     STATIC,
     capture_command_names,
-    read_contents,
+    capture_contents,
     read_usage_of_desk,
     run_command,
 )
@@ -34,7 +34,7 @@ GLIBC = {"bin/dam": "2.34", "bin/dam-desk": "2.34", "lib/x86_64-linux-gnu/libdam
 
 def check_provenance(counts: Counts, folder: Path, room: Path) -> None:
     """The provenance has the commit, and the sum of each other file; the totals of a check only if it was of this commit."""
-    files = read_contents(room)
+    files = capture_contents(room)
     told = json.loads(files.pop("share/dam/provenance.json"))
     _, commit, _ = run_command(["git", "rev-parse", "HEAD"], folder)
     counts.check("provenance: the commit", (told["commit"], told["version"], told["check"]) == (commit.strip(), VERSION, None))

@@ -37,7 +37,7 @@ def check_pages(counts: Counts, debian: Path, archive: Path, program: str | None
     with tempfile.TemporaryDirectory(prefix="reader-") as folder:
         room = Path(folder).resolve()
         room.chmod(0o755)
-        at = unpack_for_reading(archive, room)
+        at = unpack_and_return_folder(archive, room)
         before = read_state(at)
         copies = {name: str(shutil.copy(path, room)) for name, path in (("DEB", debian), ("ARCHIVE", archive))}
         given = {**copies, **({"DAM": f"{at}/{program}"} if program else {})}
@@ -55,7 +55,7 @@ def check_pages_in_system(counts: Counts, system: Any, debian: Path, archive: Pa
     room.mkdir(parents=True)
     copies = {name: Path(shutil.copy(path, room)) for name, path in (("DEB", debian), ("ARCHIVE", archive))}
     given = {name: str(page_session.path_inside(path, root)) for name, path in copies.items()}
-    place = PackagePlace("in a fresh system", root / "usr", {"PATH": SYSTEM_PATH, "PREFIX": "/usr"}, system.words_of_start(), root)
+    place = PackagePlace("in a fresh system", root / "usr", {"PATH": SYSTEM_PATH, "PREFIX": "/usr"}, system.find_words_of_start(), root)
     before = read_state(root / "usr")
     for name in PAGES:
         check_page(counts, name, place, room, given)
@@ -63,7 +63,7 @@ def check_pages_in_system(counts: Counts, system: Any, debian: Path, archive: Pa
     shutil.rmtree(room)
 
 
-def unpack_for_reading(archive: Path, room: Path) -> Path:
+def unpack_and_return_folder(archive: Path, room: Path) -> Path:
     """The folder of the package, in which nobody may write but root."""
     subprocess.run(["tar", "-xJf", archive, "-C", room, "--no-same-owner"], check=True)
     (at,) = (path for path in room.iterdir() if path.is_dir())
@@ -76,7 +76,7 @@ def read_state(at: Path) -> object:
     return {path: (found.st_size, found.st_mtime_ns) for path in at.rglob("*") for found in [path.lstat()]}
 
 
-def words_of_user() -> tuple[list[str], int]:
+def words_and_number_of_user() -> tuple[list[str], int]:
     """The words that start a shell as an ordinary user, and the number of that user."""
     if os.geteuid():
         return [], os.geteuid()
@@ -86,7 +86,7 @@ def words_of_user() -> tuple[list[str], int]:
 
 def check_page(counts: Counts, name: str, place: PackagePlace, room: Path, given: Mapping[str, str]) -> None:
     """The commands of a page, in a folder of the user with a copy of the examples."""
-    words, user = words_of_user()
+    words, user = words_and_number_of_user()
     with tempfile.TemporaryDirectory(dir=room, ignore_cleanup_errors=True) as folder:
         own = Path(folder)
         home = own / "home"

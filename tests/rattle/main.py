@@ -65,7 +65,7 @@ def find_tests_or_exit() -> Iterator[str]:
                 sys.exit(f"tests/rattle/{path} does not end in {ENDING}, so it would be left out")
 
 
-def copy_crates_and_tests(copy: str, left_out: Iterable[str]) -> dict[str, int]:
+def copy_crates_and_count_tests(copy: str, left_out: Iterable[str]) -> dict[str, int]:
     """Copies the crates and lays the tests over them. Returns how many tests each crate has."""
     shutil.copytree(f"{TOP}/crates", f"{copy}/crates", ignore=shutil.ignore_patterns("must-fail", "wrong-bodies", *left_out))
     shutil.copy(f"{TOP}/HANDLES", copy)
@@ -79,11 +79,11 @@ def copy_crates_and_tests(copy: str, left_out: Iterable[str]) -> dict[str, int]:
             file.write(("\n" if os.path.getsize(target) else "") + text)
         counts[crate] = counts.get(crate, 0) + len(re.findall(r"(?m)^\s*#\[test\]", text))
     for path in find_tests_or_exit():
-        declare_module(f"{copy}/crates", path[: -len(ENDING)])
+        write_declaration_if_missing(f"{copy}/crates", path[: -len(ENDING)])
     return counts
 
 
-def declare_module(top: str, path: str) -> None:
+def write_declaration_if_missing(top: str, path: str) -> None:
     """Declares the module of a file of tests in the module above it, unless that does so itself."""
     crate, part, *above, file = path.split("/")
     name, ending = os.path.splitext(file)
@@ -114,14 +114,14 @@ def format_tests_or_exit(copy: str, crates: Iterable[str]) -> dict[str, str]:
     return changed
 
 
-def write_formatted(texts: Mapping[str, str]) -> None:
+def write_and_print_formatted(texts: Mapping[str, str]) -> None:
     """Writes the formatted texts of tests in place of the others."""
     for path, text in texts.items():
         print(f"formatted tests/rattle/{path}")
         write_text(f"{HERE}/{path}", text)
 
 
-def print_unformatted(texts: Mapping[str, str]) -> Result:
+def print_unformatted_and_return_result(texts: Mapping[str, str]) -> Result:
     """Prints the paths of these tests. Returns how many checks passed and failed, and no seconds of a processor."""
     for path in texts:
         print(f"not formatted: tests/rattle/{path} (tests/rattle/run --fmt formats it)", flush=True)
@@ -170,7 +170,7 @@ def capture_output(command: Sequence[str], folder: str) -> tuple[str, int, float
     return printed, process.returncode, used.ru_utime + used.ru_stime
 
 
-def run_tests(copy: str, crate: str, count: int, command: Sequence[str]) -> Result:
+def run_tests_print_and_return_result(copy: str, crate: str, count: int, command: Sequence[str]) -> Result:
     """Runs the tests of a crate and prints their output. Returns how many passed and failed, and the seconds of a processor."""
     began = time.time()
     printed, status, used = capture_output(command, f"{copy}/crates/{crate}")
@@ -199,7 +199,7 @@ def read_wrong_bodies(top: str | Path) -> dict[str, tuple[WrongBody, str, str]]:
     return {edit.name: (edit, crate, test) for edit, crate, test in read_edits_that_tests_find(f"{HERE}/wrong-bodies.edit", top)}
 
 
-def remove_other_tests(folder: str, is_kept: Callable[[str], bool]) -> int:
+def remove_and_count_tests(folder: str, is_kept: Callable[[str], bool]) -> int:
     """Removes the tests of a crate whose paths aren't to be kept. Returns how many are left."""
     kept = 0
     for top, _, files in os.walk(f"{folder}/src"):
@@ -216,13 +216,13 @@ def remove_other_tests(folder: str, is_kept: Callable[[str], bool]) -> int:
 def try_wrong_body(name: str, command: Sequence[str]) -> Result:
     """Tries a wrong body and prints what its test does. Returns how many passed and failed, and the seconds of a processor."""
     with tempfile.TemporaryDirectory(prefix="tests-") as copy:
-        copy_crates_and_tests(copy, ["out"])
+        copy_crates_and_count_tests(copy, ["out"])
         edit, crate, test = read_wrong_bodies(copy)[name]
         why, used, found = edit.fault, 0.0, None
         if not why:
             for path, text in edit.texts.items():
                 write_text(f"{edit.folder}/{path}", text)
-            remove_other_tests(f"{copy}/crates/{crate}", lambda path: path == test)
+            remove_and_count_tests(f"{copy}/crates/{crate}", lambda path: path == test)
             printed, status, used = capture_output(command, f"{copy}/crates/{crate}")
             found = re.search(rf"(?m)^test {test} \.\.\. (\w+)", printed)
             why = None if found else f"no test ran: {' '.join(command)} ended with status {status}\n{printed.rstrip()}"
@@ -233,7 +233,7 @@ def try_wrong_body(name: str, command: Sequence[str]) -> Result:
     return int(is_refused), int(not is_refused), used
 
 
-def end_all(number: int, _: object) -> None:
+def end_all_and_exit(number: int, _: object) -> None:
     """Ends this with the processes that it started, and removes the copy."""
     for process in tuple(RUNNING):
         with contextlib.suppress(ProcessLookupError):
@@ -241,7 +241,7 @@ def end_all(number: int, _: object) -> None:
     sys.exit(128 + number)
 
 
-def print_totals(results: Iterable[Result]) -> int:
+def print_totals_and_return_status_of(results: Iterable[Result]) -> int:
     """Prints the last lines, and returns the status."""
     passed, failed, used = map(sum, zip(*results))
     print(f"{used / 60:.1f} minutes of a processor")
@@ -260,7 +260,7 @@ def main() -> int:
     given = parser.parse_args()
     for number in (signal.SIGHUP, signal.SIGTERM):
         if signal.getsignal(number) != signal.SIG_IGN:
-            signal.signal(number, end_all)
+            signal.signal(number, end_all_and_exit)
     command = ["rt", "test"] if given.prove else ["rt", "try", "--test", "--seconds", str(given.seconds)]
     if given.wrong_bodies:
         known = read_wrong_bodies(TOP)
@@ -268,22 +268,22 @@ def main() -> int:
         if lacking:
             sys.exit(f"tests/rattle/wrong-bodies.edit has no {', '.join(lacking)}")
         with ThreadPoolExecutor(given.jobs) as pool:
-            return print_totals(list(pool.map(lambda it: try_wrong_body(it, command), given.names or known)))
+            return print_totals_and_return_status_of(list(pool.map(lambda it: try_wrong_body(it, command), given.names or known)))
     with tempfile.TemporaryDirectory(prefix="tests-") as copy:
         # A proof begins with the work that the repository's own checks of the crates kept.
-        counts = copy_crates_and_tests(copy, [] if given.prove else ["out"])
+        counts = copy_crates_and_count_tests(copy, [] if given.prove else ["out"])
         if given.fmt:
-            write_formatted(format_tests_or_exit(copy, counts))
+            write_and_print_formatted(format_tests_or_exit(copy, counts))
             return 0
         lacking = [it for it in given.names if not counts.get(it)]
         if lacking:
             sys.exit(f"tests/rattle has no folder with tests of {', '.join(lacking)}; dam_tests has the tests of public functions")
         crates = given.names or sorted(filter(counts.get, counts), key=lambda it: -counts[it])
         if given.only:
-            counts = {it: remove_other_tests(f"{copy}/crates/{it}", lambda path: any(word in path for word in given.only)) for it in crates}
+            counts = {it: remove_and_count_tests(f"{copy}/crates/{it}", lambda path: any(word in path for word in given.only)) for it in crates}
             crates = [it for it in crates if counts[it]]
             if not crates:
                 sys.exit(f"there are no tests with {' or '.join(given.only)} in their paths")
-        formats = [] if given.names or given.only else [print_unformatted(format_tests_or_exit(copy, counts))]
+        formats = [] if given.names or given.only else [print_unformatted_and_return_result(format_tests_or_exit(copy, counts))]
         with ThreadPoolExecutor(1 if given.prove else given.jobs) as pool:
-            return print_totals([*formats, *pool.map(lambda it: run_tests(copy, it, counts[it], command), crates)])
+            return print_totals_and_return_status_of([*formats, *pool.map(lambda it: run_tests_print_and_return_result(copy, it, counts[it], command), crates)])

@@ -40,7 +40,7 @@ class WrongBody:
     @cached_property
     def bodies(self) -> dict[tuple[str, int], str]:
         """The new body of each function whose body changes, by path and number in the file; none if anything else changes too."""
-        return bodies_changed(self.texts, self.folder)
+        return read_changed_bodies(self.texts, self.folder)
 
 
 def read_edits(folder: str, kinds: Iterable[str]) -> list[WrongBody]:
@@ -99,7 +99,7 @@ def read_edits_that_tests_find(file: str, top: str | Path) -> list[tuple[WrongBo
             fault = "it has no name, or another's"
         elif len(crates) != 1 or len(tests) != 1:
             fault = "it needs one 'test:' line, and 'file:' lines of one crate"
-        elif not has_test(os.path.dirname(file), *tests[0]):
+        elif not read_and_see_test(os.path.dirname(file), *tests[0]):
             fault = f"there is no test {' '.join(tests[0])}"
         names.add(name)
         text = TEST_LINE.sub("", CRATE_PATH.sub("file: ", text))
@@ -109,7 +109,7 @@ def read_edits_that_tests_find(file: str, top: str | Path) -> list[tuple[WrongBo
     return found
 
 
-def has_test(tests: str, crate: str, path: str) -> bool:
+def read_and_see_test(tests: str, crate: str, path: str) -> bool:
     """Returns whether the tests of a crate, below this folder, have one of this path, such as bound::prices::a_test."""
     *modules, name = path.split("::")
     file = f"{tests}/{crate}/src/{'/'.join(modules) or 'lib'}.rt.test"
@@ -150,7 +150,7 @@ def read_and_edit(edit: str, folder: str) -> dict[str, str]:
     return texts
 
 
-def bodies_changed(texts: Mapping[str, str], folder: str) -> dict[tuple[str, int], str]:
+def read_changed_bodies(texts: Mapping[str, str], folder: str) -> dict[tuple[str, int], str]:
     """Returns the new body of each function whose body changes, by path and number; none if anything else changes too."""
     found = {}
     for path, text in texts.items():

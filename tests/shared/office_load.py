@@ -52,7 +52,7 @@ class OfficeLoad:
                 if fault.status not in (None, 503):
                     raise
 
-    async def send_all(self, count: int, seconds: float = 600) -> float:
+    async def send_all_and_return_seconds(self, count: int, seconds: float = 600) -> float:
         """Sends that many commands of each participant, or as many as there is time for. Returns the seconds that it took."""
         began = time.perf_counter()
         await asyncio.gather(*(self.send_commands(who, count, began + seconds) for who in self.office.who))

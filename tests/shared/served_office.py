@@ -134,14 +134,14 @@ class ServedOffice:
     def asynchronous_client_of(self, who: str) -> AsyncOffice:
         return AsyncOffice(self.url, self.tokens[who])
 
-    def find_desk_processes(self) -> list[int]:
+    def capture_desk_processes(self) -> list[int]:
         """The processes of desks of this office: those that it started."""
         found = subprocess.run(["ps", "-o", "pid=,args=", "--ppid", str(self.process.pid)], capture_output=True, text=True).stdout
         return [int(line.split()[0]) for line in found.splitlines() if str(self.files / "desk") in line]
 
     def kill(self, *parts: str) -> None:
         """Kills the office, its desk or both."""
-        victims = self.find_desk_processes() if "desk" in parts else []
+        victims = self.capture_desk_processes() if "desk" in parts else []
         victims += [self.process.pid] if "office" in parts else []
         for victim in victims:
             with contextlib.suppress(ProcessLookupError):

@@ -45,7 +45,7 @@ class SitePage(HTMLParser):
         if (direction := found.get("rel")) in ("prev", "next"):
             self.neighbours[direction] = found.get("href")
         self.fetches += [value for name, value in attrs if value and (tag, name.removeprefix("xlink:")) in FETCHED]
-        self.fetches += fetched_by_style(found.get("style") or "")
+        self.fetches += links_of_style(found.get("style") or "")
 
     handle_startendtag = handle_starttag
 
@@ -62,7 +62,7 @@ class SitePage(HTMLParser):
         return {block.strip("\n") for block in self.blocks}
 
 
-def fetched_by_style(text: str) -> list[str]:
+def links_of_style(text: str) -> list[str]:
     """The files that a style fetches, but for those that it has in itself."""
     found = (one or other for one, other in OF_STYLES.findall(text))
     return [url for url in found if not url.startswith("data:") and not url.startswith("#")]
@@ -76,7 +76,7 @@ class Site:
     def relative_name(self, path: Path) -> str:
         return path.relative_to(self.folder).as_posix()
 
-    def fault_of_link_or_none(self, page: SitePage, url: str) -> str | None:
+    def find_fault_of_link_or_none(self, page: SitePage, url: str) -> str | None:
         """Why a link of a page leads nowhere in the site, if it doesn't."""
         parts = urlsplit(url)
         if parts.scheme or parts.netloc:
@@ -94,10 +94,10 @@ class Site:
         """Each link, fetched file and place of the site that is wrong, with its page."""
         for page in self.pages.values():
             for url in [*page.links, *page.fetches]:
-                if wrong := self.fault_of_link_or_none(page, url):
+                if wrong := self.find_fault_of_link_or_none(page, url):
                     yield f"{self.relative_name(page.path)}: {url}: {wrong}"
             yield from (f"{self.relative_name(page.path)}: two places are named {name}" for name in page.twice)
         for path in sorted(self.folder.rglob("*.css")):
-            for url in fetched_by_style(path.read_text(encoding="utf-8")):
+            for url in links_of_style(path.read_text(encoding="utf-8")):
                 if urlsplit(url).scheme or not (path.parent / url).is_file():
                     yield f"{self.relative_name(path)}: {url}: not in the site"

@@ -42,7 +42,7 @@ class TimedProgram:
                 return Printed(ENDED, b"", f"{LATE}\n".encode())
             return Printed(status, read_contents(stdout), read_contents(stderr))
 
-    def is_command_of_program(self, words: Sequence[str]) -> bool:
+    def run_and_see_command(self, words: Sequence[str]) -> bool:
         """Whether it has such a command: it then finds a fault in the empty input, and none in the command line."""
         return self.capture_output(words, b"").status != COMMAND_LINE
 

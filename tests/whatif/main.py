@@ -80,7 +80,7 @@ def accepted_by_place(problem: selection.Problem, place: int) -> numpy.ndarray[A
     return found
 
 
-def check_small(counts: Counts, program: str, seed: str, number: int) -> int:
+def check_small_and_count(counts: Counts, program: str, seed: str, number: int) -> int:
     """A block of a small book: its worst limit, and the answer of the rules for each limit."""
     rng = random.Random(f"whatif {seed} {number}")
     drawn = market_books.draw_book(rng)
@@ -135,7 +135,7 @@ def main() -> int:
     args = parse_arguments()
     counts, accepted = Counts(), []
     for number in range(1, args.count + 1):
-        accepted.append(check_small(counts, args.program, args.seed, number))
+        accepted.append(check_small_and_count(counts, args.program, args.seed, number))
     for number in range(1, args.windows + 1):
         check_window(counts, args.program, args.seed, number)
     check_full(counts, args.program)

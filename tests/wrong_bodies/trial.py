@@ -63,7 +63,7 @@ class Trial:
     def try_batch(self, edits: Sequence[WrongBody]) -> dict[str, str]:
         """Tries edits of different functions at once. Returns, by their names, those whose function is refused for itself, and a goal."""
         self.batches += 1
-        texts, names, leaders, lines = self.texts_laid_together(edits)
+        texts, names, leaders, lines = self.read_sources_and_return_joint_texts(edits)
         report = self.write_and_check(texts, f"{len(edits)} wrong bodies at once")
         if report.is_proved:
             return {}
@@ -95,7 +95,7 @@ class Trial:
         half = len(edits) // 2
         return {**self.try_batch(edits[:half]), **self.try_batch(edits[half:])} if half else {}
 
-    def texts_laid_together(
+    def read_sources_and_return_joint_texts(
         self, edits: Sequence[WrongBody]
     ) -> tuple[dict[str, str], dict[Place, str], dict[str, str], dict[Place, range]]:
         """Returns the texts of the crate's files with all bodies of these edits; and of each function in them, by path and number,

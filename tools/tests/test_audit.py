@@ -212,16 +212,16 @@ class Text(unittest.TestCase):
                 self.assertEqual(list(records(given)), wanted)
 
     def test_where_records_and_open_quotes_begin(self):
-        from lib.base.text import open_quote_place, placed_records
+        from lib.base.text import place_of_open_quote, placed_records
 
         text = b'\r\na,b\r\n\n"c""\n";d\re,"f'
         self.assertEqual(list(placed_records(text)), [(2, [b"a", b"b"]), (8, [b'c"\n;d']), (17, [b"e", b"f"])])
         self.assertEqual(list(placed_records(text, b";"))[1], (8, [b'c"\n', b"d"]))
         for given, place in {b"": None, b'a"\n': None, b'"a"\n"b"': None, text: 8, text[9:]: 4, b'a,"b""c': 2, b'""""": 1"\n"': 10}.items():
             with self.subTest(given):
-                self.assertEqual(open_quote_place(given), place)
-        self.assertEqual(open_quote_place(b'"a";"b', b";"), 4)
-        self.assertEqual(open_quote_place(b'a,"' + b"x" * 200_000), 2)
+                self.assertEqual(place_of_open_quote(given), place)
+        self.assertEqual(place_of_open_quote(b'"a";"b', b";"), 4)
+        self.assertEqual(place_of_open_quote(b'a,"' + b"x" * 200_000), 2)
 
     def test_the_written_journal_reads_back(self):
         for number in range(300):

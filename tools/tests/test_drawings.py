@@ -35,7 +35,7 @@ class Crates(unittest.TestCase):
         self.assertEqual(found, {"low": [], "high": ["low", "kit", "other"], "middle": ["low"], "top": ["high", "middle", "low"]})
         self.assertEqual(list(crates.parse_crates(LIST, with_kinds=True)), ["low", "high staticlib", "middle", "top", "high"])
         self.assertEqual(crates.without_foreign(found)["high"], ["low"])
-        self.assertEqual(crates.all_below(found, "top"), {"low", "high", "middle"})
+        self.assertEqual(crates.crates_below(found, "top"), {"low", "high", "middle"})
 
     def test_the_list_of_a_repository_and_another(self):
         with tempfile.TemporaryDirectory() as top:

@@ -399,7 +399,7 @@ class Facts(unittest.TestCase):
             return 1 + max(map(longest, used[name]), default=0)
 
         programs = ("dam_cli", "dam_desk")
-        needed = {name for program in programs for name in (program, *crates.all_below(used, program))}
+        needed = {name for program in programs for name in (program, *crates.crates_below(used, program))}
         self.assertLessEqual(needed, set(seconds_of_proofs()), "tools/prove has no time of it")
         text = plain(TOP / "docs" / "CHECK.md")
         self.assertEqual(int(re.search(r"`\./dam prove` proves (\d+) of the crates", text)[1]), len(needed))

@@ -147,7 +147,7 @@ class Files(unittest.TestCase):
         out, old = self.folder / "a.csv", b"old" * 100
         out.write_bytes(old)
         number, limits = out.stat().st_ino, resource.getrlimit(resource.RLIMIT_FSIZE)
-        with mock.patch.object(replacing, "write_replacement", side_effect=OSError(errno.EBUSY, "")):
+        with mock.patch.object(replacing, "write_and_return_rename", side_effect=OSError(errno.EBUSY, "")):
             resource.setrlimit(resource.RLIMIT_FSIZE, (1_000, limits[1]))
             try:
                 with self.assertRaisesRegex(OSError, "File too large"):
@@ -256,13 +256,13 @@ class Files(unittest.TestCase):
         for links in (contextlib.nullcontext(), mock.patch.object(os, "link", side_effect=fault)):
             for make in (lambda: own.write_bytes(b"mine"), lambda: own.symlink_to("gone")):
                 with links, contextlib.ExitStack() as cleanups:
-                    put = replacing.write_new_beside(own, b"new", cleanups)
+                    put = replacing.write_new_beside_and_return_put(own, b"new", cleanups)
                     make()
                     self.assertRaises(FileExistsError, put)
                 self.assertTrue(own.is_symlink() or own.read_bytes() == b"mine")
                 own.unlink()
             with links, contextlib.ExitStack() as cleanups:
-                replacing.write_new_beside(own, b"new", cleanups)()
+                replacing.write_new_beside_and_return_put(own, b"new", cleanups)()
                 self.assertEqual(own.read_bytes(), b"new")
                 self.assertEqual(sorted(path.name for path in self.folder.iterdir()), ["a.csv", "day.csv", "results.txt"])
             own.unlink()
@@ -271,7 +271,7 @@ class Files(unittest.TestCase):
         """On a file system without links."""
         own, limits = self.folder / "a.csv", resource.getrlimit(resource.RLIMIT_FSIZE)
         with mock.patch.object(os, "link", side_effect=OSError(errno.EPERM, "")), contextlib.ExitStack() as cleanups:
-            put = replacing.write_new_beside(own, b"new" * 1_000, cleanups)
+            put = replacing.write_new_beside_and_return_put(own, b"new" * 1_000, cleanups)
             resource.setrlimit(resource.RLIMIT_FSIZE, (1_000, limits[1]))
             try:
                 with self.assertRaisesRegex(OSError, "File too large"):

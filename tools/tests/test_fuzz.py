@@ -37,7 +37,7 @@ class Called:
     def capture_output(self, words, data):
         return fake_dam.answer_with_defect(words[0], words[1:], data, self.defect)
 
-    def is_command_of_program(self, words):
+    def run_and_see_command(self, words):
         return True
 
 

@@ -29,7 +29,7 @@ from shared.site import Site
 if modules.has_module("aiohttp"):
     from shared import browser
 
-MISSING = site.missing_packages()
+MISSING = site.find_missing_packages()
 NEEDS_MKDOCS = unittest.skipIf(MISSING, f"{' and '.join(MISSING)} missing")
 NO_BROWSER = "python3-aiohttp is missing" if not modules.has_module("aiohttp") else None if browser.find_browser_or_none() else "chromium is missing"
 SECONDS = 60  # that the index of the search may take

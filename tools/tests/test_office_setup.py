@@ -312,7 +312,7 @@ class Setup(Office):
         aside.rename(held)
         self.assertEqual(run_tool("office", "revoke", self.office.path, "OIL")[0], exits.NO_INPUT)
         status, out, _ = run_tool("office", "renew", self.office.path, "GAS")
-        self.assertTrue(tokens.Register(self.office.path_of(folder.PARTICIPANTS)).is_token_of("GAS", out.decode().strip()))
+        self.assertTrue(tokens.Register(self.office.path_of(folder.PARTICIPANTS)).read_and_see_if_token_of("GAS", out.decode().strip()))
         self.assertEqual(run_tool("office", "publish", self.office.path)[0], exits.NO_INPUT)
         self.assertEqual(run_tool("office", "revoke", self.office.path, "GAS")[0], 0)
         words[1] = "2099-11-29"
@@ -403,7 +403,7 @@ class Setup(Office):
         self.write_office()
         room = self.office.path.parent
         self.write_and_read_participants("participant\nGAS\n")
-        tokens.Register(self.office.path_of(folder.PARTICIPANTS)).write_new_tokens(["GAS"])
+        tokens.Register(self.office.path_of(folder.PARTICIPANTS)).write_and_return_new_tokens(["GAS"])
         words = ["--day", "2099-11-28", "--close", "12:00", "--participants", room / "p.csv"]
         day = self.office.path_of(folder.DAYS) / DAY
         for path, asked in (
@@ -488,7 +488,7 @@ class Setup(Office):
         """The reasons why days aren't served, after one look, and the days that are."""
         with patch_of_opening(Disk()):
             served = serving.Office(self.office, programs.Programs("dam", "dam-desk"), monitoring.Log(io.StringIO()))
-            missed = served.take_up_days()
+            missed = served.take_up_days_and_return_faults()
             await served.stop_days()
         return missed, list(served.writers)
 
@@ -527,7 +527,7 @@ class Setup(Office):
     async def test_damaged_tokens_are_named_and_no_defect_of_a_request(self):
         self.write_office()
         path, log = self.office.path_of(folder.PARTICIPANTS), io.StringIO()
-        token = tokens.Register(path).write_new_tokens(["GAS"])["GAS"]
+        token = tokens.Register(path).write_and_return_new_tokens(["GAS"])["GAS"]
         kept = path.read_bytes()
         asked = mock.Mock(match_info={"who": "GAS"}, headers={"Authorization": f"Bearer {token}"}, remote="127.0.0.1")
         with patch_of_opening(Disk()), mock.patch.object(serving, "LOOK_SECONDS", 0.001):
@@ -651,7 +651,7 @@ class Setup(Office):
             setup.make_day_or_stop(self.office, folder.Terms(later, 24, FUTURE, "UTC", dict.fromkeys(NAMES, 10)))
             with self.office.holding():
                 pass
-            tokens.Register(self.office.path_of(folder.PARTICIPANTS)).write_new_tokens(["GAS"])
+            tokens.Register(self.office.path_of(folder.PARTICIPANTS)).write_and_return_new_tokens(["GAS"])
             operator_commands.write_request(self.office.list_folders_by_day()[later], folder.CLOSE_NOW)
         owner = os.stat(self.office.path)
         self.assertEqual({call.args[1:] for call in chown.call_args_list}, {(owner.st_uid, owner.st_gid)})

@@ -28,37 +28,37 @@ class Tokens(Office):
     def test_tokens_are_random_hashed_and_one_participants(self):
         self.write_office()
         register = tokens.Register(self.office.path_of(folder.PARTICIPANTS))
-        made = {who: register.write_new_token(who) for who in NAMES}
+        made = {who: register.write_and_return_new_token(who) for who in NAMES}
         text = self.office.path_of(folder.PARTICIPANTS).read_text()
         for who, token in made.items():
             self.assertGreaterEqual(len(token.partition(".")[2]), 43)
             self.assertNotIn(token.partition(".")[2], text)
-            self.assertEqual([other for other in NAMES if register.is_token_of(other, token)], [who])
+            self.assertEqual([other for other in NAMES if register.read_and_see_if_token_of(other, token)], [who])
         # each of the 43 characters is drawn, of which the last has four bits alone
         drawn = [tokens.draw_token("GAS").partition(".")[2] for _ in range(64)]
         self.assertGreater(min(len(set(values)) for values in zip(*drawn)), 8)
         for wrong in ("", "GAS.", made["GAS"][:-1], made["GAS"] + "x", tokens.NOBODY, "\udc80"):
-            self.assertFalse(register.is_token_of("GAS", wrong))
-        self.assertFalse(register.is_token_of("NOBODY", made["GAS"]))
+            self.assertFalse(register.read_and_see_if_token_of("GAS", wrong))
+        self.assertFalse(register.read_and_see_if_token_of("NOBODY", made["GAS"]))
         served = tokens.Register(self.office.path_of(folder.PARTICIPANTS))
-        self.assertTrue(served.is_token_of("GAS", made["GAS"]))
+        self.assertTrue(served.read_and_see_if_token_of("GAS", made["GAS"]))
         register.write_revoked("GAS")
-        self.assertFalse(served.is_token_of("GAS", made["GAS"]))
-        self.assertTrue(served.is_token_of("A", made["A"]))
-        new = register.write_new_token("GAS")
-        self.assertTrue(served.is_token_of("GAS", new) and not served.is_token_of("GAS", made["GAS"]))
+        self.assertFalse(served.read_and_see_if_token_of("GAS", made["GAS"]))
+        self.assertTrue(served.read_and_see_if_token_of("A", made["A"]))
+        new = register.write_and_return_new_token("GAS")
+        self.assertTrue(served.read_and_see_if_token_of("GAS", new) and not served.read_and_see_if_token_of("GAS", made["GAS"]))
 
     def test_a_new_token_counts_also_within_the_resolution_of_the_file_s_time(self):
         self.write_office()
         path = self.office.path_of(folder.PARTICIPANTS)
         register, served = tokens.Register(path), tokens.Register(path)
-        old = register.write_new_token("GAS")
-        self.assertTrue(served.is_token_of("GAS", old))
+        old = register.write_and_return_new_token("GAS")
+        self.assertTrue(served.read_and_see_if_token_of("GAS", old))
         before = path.stat()
-        new = register.write_new_token("GAS")
+        new = register.write_and_return_new_token("GAS")
         os.utime(path, ns=(before.st_atime_ns, before.st_mtime_ns))
         self.assertEqual(path.stat().st_size, before.st_size)
-        self.assertEqual([served.is_token_of("GAS", token) for token in (old, new)], [False, True])
+        self.assertEqual([served.read_and_see_if_token_of("GAS", token) for token in (old, new)], [False, True])
 
     def test_no_change_of_the_tokens_is_lost(self):
         """Several processes change them at the same time: here threads, each with the file for itself."""
@@ -69,8 +69,8 @@ class Tokens(Office):
 
         def change(own):
             register = tokens.Register(path)
-            made.update(register.write_new_tokens(own[1:]))
-            made[own[0]] = register.write_new_token(own[0])
+            made.update(register.write_and_return_new_tokens(own[1:]))
+            made[own[0]] = register.write_and_return_new_token(own[0])
             register.write_revoked(own[1])
 
         threads = [threading.Thread(target=change, args=(own,)) for own in names]
@@ -80,14 +80,14 @@ class Tokens(Office):
             thread.join()
         register = tokens.Register(path)
         for own in names:
-            self.assertEqual([register.is_token_of(who, made[who]) for who in own], [True, False, True, True, True])
-        self.assertEqual(register.write_new_tokens(names[0]), {})
+            self.assertEqual([register.read_and_see_if_token_of(who, made[who]) for who in own], [True, False, True, True, True])
+        self.assertEqual(register.write_and_return_new_tokens(names[0]), {})
 
     def test_each_connection_may_be_sent_a_file(self):
         """Slow downloads leave files for the close."""
         needed = 2 * connections.MOST_CONNECTIONS + 100
         with mock.patch.multiple(serving.resource, getrlimit=lambda _: (1_024, 1 << 20), setrlimit=mock.DEFAULT) as made:
-            serving.raise_file_limit()
+            serving.set_limit_of_open_files()
         soft, hard = made["setrlimit"].call_args.args[1]
         self.assertTrue(needed <= soft <= hard)
         unit = (TOOLS.parent / "examples" / "operating" / "dam-office.service").read_text()
@@ -128,7 +128,7 @@ class Tokens(Office):
         office.writers[DAY].is_known.set()
         made = routes.Web(office)
         made.budgets.reads = budgets.Buckets(0.001, budgets.MOST_READS, lambda: 0.0)
-        headers = {"Authorization": f"Bearer {office.register.write_new_token('GAS')}", "Content-Length": "1"}
+        headers = {"Authorization": f"Bearer {office.register.write_and_return_new_token('GAS')}", "Content-Length": "1"}
 
         async def read(*_):
             return requests.ReadTable(["x" * 2_000_000], [])
@@ -197,22 +197,22 @@ class Tokens(Office):
     def test_guesses_are_slowed_down_and_others_are_not(self):
         now = [0.0]
         buckets = budgets.Buckets(1, 3, lambda: now[0])
-        self.assertEqual([buckets.charge_unless_empty("a") > 0 for _ in range(5)], [False, False, False, True, True])
-        self.assertEqual(buckets.charge_unless_empty("b"), 0)
+        self.assertEqual([buckets.charge_or_return_seconds("a") > 0 for _ in range(5)], [False, False, False, True, True])
+        self.assertEqual(buckets.charge_or_return_seconds("b"), 0)
         now[0] = 1.0
-        self.assertEqual([buckets.charge_unless_empty("a") > 0 for _ in range(2)], [False, True])
-        self.assertEqual(buckets.charge_unless_empty("c", 1_000), 0)
-        self.assertGreater(buckets.charge_unless_empty("c"), 900)
+        self.assertEqual([buckets.charge_or_return_seconds("a") > 0 for _ in range(2)], [False, True])
+        self.assertEqual(buckets.charge_or_return_seconds("c", 1_000), 0)
+        self.assertGreater(buckets.charge_or_return_seconds("c"), 900)
         buckets.charge("c", 1_000)
-        self.assertGreater(buckets.charge_unless_empty("c"), 1_900, "what is charged is owed, also in debt")
+        self.assertGreater(buckets.charge_or_return_seconds("c"), 1_900, "what is charged is owed, also in debt")
         with mock.patch.object(budgets, "MOST_BUCKETS", 5):
             for number in range(100):
                 now[0] += 10_000
-                buckets.charge_unless_empty(number)
+                buckets.charge_or_return_seconds(number)
             self.assertLessEqual(len(buckets.held), 6)
-            buckets.charge_unless_empty("d", 2)
+            buckets.charge_or_return_seconds("d", 2)
             for number in range(100):
-                buckets.charge_unless_empty(number)
+                buckets.charge_or_return_seconds(number)
         self.assertEqual(buckets.calls_left("d"), 1, "many names don't fill a bucket again")
 
 

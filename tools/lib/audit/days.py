@@ -151,7 +151,7 @@ class Audits:
         with self.lock:
             return next(self.places, None)
 
-    def audit_days(self) -> None:
+    def run_audits_and_keep_records(self) -> None:
         """The work of a thread: audits days as long as there are any."""
         while (at := self.take_next_place()) is not None:
             try:
@@ -171,10 +171,10 @@ class Audits:
         """Starts threads, or fewer if memory is short, and does the work itself if there is none."""
         for number in range(jobs):
             try:
-                threading.Thread(target=self.audit_days, daemon=True).start()
+                threading.Thread(target=self.run_audits_and_keep_records, daemon=True).start()
             except RuntimeError:
                 if not number:
-                    self.audit_days()
+                    self.run_audits_and_keep_records()
                 return
 
     def end_processes(self) -> None:

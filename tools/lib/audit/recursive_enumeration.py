@@ -76,11 +76,11 @@ class Search:
 
     def try_all(self) -> Selection:
         net = dict.fromkeys(self.curves, 0)
-        self.try_selections(0, frozenset(), {}, net, {number: curve.welfare_at(0) for number, curve in self.curves.items()}, 0)
+        self.search_and_keep_best(0, frozenset(), {}, net, {number: curve.welfare_at(0) for number, curve in self.curves.items()}, 0)
         assert self.best is not None  # without any block each period balances
         return self.best
 
-    def try_selections(
+    def search_and_keep_best(
         self,
         place: int,
         accepted: frozenset[int],
@@ -99,8 +99,8 @@ class Search:
         of_group = 0 if group is None else taken.get(group, 0)
         if (parent is None or parent in accepted) and of_group < rules.MOST_OF_GROUP:
             groups = taken if group is None else {**taken, group: of_group + 1}
-            self.try_selections(place + 1, accepted | {place}, groups, *self.sums_with_block(order, net, worth, value))
-        self.try_selections(place + 1, accepted, taken, net, worth, value)
+            self.search_and_keep_best(place + 1, accepted | {place}, groups, *self.sums_with_block(order, net, worth, value))
+        self.search_and_keep_best(place + 1, accepted, taken, net, worth, value)
 
     def sums_with_block(
         self, order: Order, net: dict[int, int], worth: dict[int, int | None], value: int

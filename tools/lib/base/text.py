@@ -38,15 +38,15 @@ def placed_records(text: bytes, comma: bytes = b",") -> Iterator[tuple[int, list
     fields, separated by commas, only the first ones are read."""
     begin = 0
     taken: list[int] = []
-    raise_field_limit(len(text))
-    for fields in csv.reader(texts_cut_and_counted(csv_lines(text), taken), delimiter=comma.decode()):
+    set_field_limit(len(text))
+    for fields in csv.reader(iterate_texts_and_append_lengths(csv_lines(text), taken), delimiter=comma.decode()):
         if fields:
             yield begin, [field.replace(NO_NUL, "\0").encode("latin-1") for field in fields]
         begin += sum(taken)
         taken.clear()
 
 
-def texts_cut_and_counted(texts: Iterable[str], taken: list[int]) -> Iterator[str]:
+def iterate_texts_and_append_lengths(texts: Iterable[str], taken: list[int]) -> Iterator[str]:
     """The texts, of which the length is noted as soon as one is taken. A long one that begins a record is cut."""
     for text in texts:
         is_first = not taken
@@ -67,7 +67,7 @@ def count_lines(text: bytes, begin: int, end: int) -> int:
     return text.count(b"\n", begin, end) + text.count(b"\r", begin, end) - text.count(b"\r\n", begin, end)
 
 
-def raise_field_limit(length: int) -> None:
+def set_field_limit(length: int) -> None:
     """Lets `csv` read fields of this length, in the whole process."""
     if length > csv.field_size_limit():
         csv.field_size_limit(length)
@@ -78,10 +78,10 @@ def csv_lines(text: bytes) -> Iterator[str]:
     return (line[0] for line in LINE.finditer(text.decode("latin-1").replace("\0", NO_NUL)))
 
 
-def open_quote_place(text: bytes, comma: bytes = b",") -> int | None:
+def place_of_open_quote(text: bytes, comma: bytes = b",") -> int | None:
     """Where a quote begins that isn't closed on its line; None if there is none."""
     begin = 0
-    raise_field_limit(len(text))
+    set_field_limit(len(text))
     for line in csv_lines(text):
         if '"' not in line:
             begin += len(line)

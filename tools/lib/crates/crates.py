@@ -32,12 +32,12 @@ def without_foreign(crates: dict[str, list[str]]) -> dict[str, list[str]]:
     return {name: [library for library in below if library in crates] for name, below in crates.items()}
 
 
-def all_below(crates: dict[str, list[str]], name: str) -> set[str]:
+def crates_below(crates: dict[str, list[str]], name: str) -> set[str]:
     """The crates of the list that a crate uses, directly or not."""
     found: set[str] = set()
     for library in crates[name]:
         if library in crates:
-            found |= {library} | all_below(crates, library)
+            found |= {library} | crates_below(crates, library)
     return found
 
 

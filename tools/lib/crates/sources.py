@@ -86,7 +86,7 @@ def read_sums_of_crates(crate: str) -> dict[str, str]:
     # a repository without threads has no file HANDLES
     handles = read_file_sum(f"{TOP}/HANDLES") if os.path.exists(f"{TOP}/HANDLES") else ""
     found = {}
-    for name in sorted({crate, *crates.all_below(below, crate)}):
+    for name in sorted({crate, *crates.crates_below(below, crate)}):
         found[name] = read_sum_of_files(f"{TOP}/crates/{name}", list_source_files(name), handles, *below[name])
     if crate == LIBRARY:
         found["library"] = read_sum_of_files(f"{TOP}/library", [f"{TOP}/library/{it}" for it in IN_C])

@@ -32,7 +32,7 @@ def words_of(text: str) -> set[str]:
     return set(WORD.findall(COMMENT.sub("", text)))
 
 
-def clause_text(function: str) -> set[str]:
+def words_of_clauses(function: str) -> set[str]:
     clauses = CLAUSE.search(function)
     return words_of(function[clauses.start() :]) if clauses else set()
 
@@ -119,7 +119,7 @@ class Repository:
                 module = str(path.relative_to(folder).with_suffix(""))
                 text, found = self.read_source_and_targets(crate, module)
                 for function in FUNCTION.finditer(text):
-                    for name in sorted(clause_text(function[0])):
+                    for name in sorted(words_of_clauses(function[0])):
                         node = found.get(name)
                         if node and node[1] == "specs" and not node[2].startswith("inside"):
                             yield (*node[:3], self.read_holder_name(node[0], *node[2:])), f"{crate}::{module}::{function[2]}"
@@ -193,7 +193,7 @@ class Repository:
     def read_contract_targets(self, function: str, crate: str, module: str) -> set[Node]:
         """The names in the clauses of a public function or method."""
         _, found = self.read_source_and_targets(crate, module)
-        return targets_of(clause_text(self.read_signature(function, crate, module)), found)
+        return targets_of(words_of_clauses(self.read_signature(function, crate, module)), found)
 
     def read_targets_named_in(self, node: Node) -> set[Node]:
         """The definitions and types that a definition or a type names."""

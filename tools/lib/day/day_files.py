@@ -90,7 +90,7 @@ class Day:
         """The published numbers, by the name that `dam_tools` first gave them, for the programs that use it."""
         return self.published
 
-    def print_fault(self, tool: str, quiet: bool = False) -> int:
+    def print_fault_and_return_status(self, tool: str, quiet: bool = False) -> int:
         """The status of a tool that has shown the results. It says on standard error if they are wrong, or encoded in another way."""
         if self.wrong and not quiet:
             exits.print_note(tool, f"the results break the rules ({self.wrong[0]}): {SEE_AUDIT}")

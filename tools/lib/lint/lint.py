@@ -139,7 +139,7 @@ class Lint:
         """Reports the quotes that aren't closed on their line. Returns the text without them, after which no line could be told from another.
         The last field of a journal may have such a quote."""
         for number in range(MOST_QUOTES):
-            at = text.open_quote_place(data, comma)
+            at = text.place_of_open_quote(data, comma)
             if at is None or not number and is_journal(data):
                 break
             line = text.count_lines(data, 0, at) + 1

@@ -47,7 +47,7 @@ class Admission:
     def is_authorized(self, request: web.Request) -> bool:
         """Whether the token is the participant's now."""
         scheme, _, token = request.headers.get("Authorization", "").partition(" ")
-        known = self.office.register.is_token_of(request.match_info["who"], token)
+        known = self.office.register.read_and_see_if_token_of(request.match_info["who"], token)
         return known and scheme.lower() == "bearer"
 
     def require_writer_and_participant(
@@ -70,7 +70,7 @@ class Admission:
 
     def refuse_stranger_to_demo(self, request: web.Request) -> None:
         token = request.headers.get("Authorization", "").partition(" ")[2]
-        if not self.office.register.is_token_of(token.partition(".")[0], token):
+        if not self.office.register.read_and_see_if_token_of(token.partition(".")[0], token):
             raise Refused(RequestFault.TOKEN, "the token isn't of a participant")
 
 

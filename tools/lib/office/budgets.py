@@ -43,7 +43,7 @@ class Buckets:
         """Takes tokens, also if there aren't as many: the bucket is in debt then."""
         self.held[name] = self.calls_left(name) - count, self.now()
 
-    def charge_unless_empty(self, name: str | None, count: int = 1) -> float:
+    def charge_or_return_seconds(self, name: str | None, count: int = 1) -> float:
         """Takes tokens, if there is one; the bucket may be in debt afterwards. Returns the seconds until it isn't, or 0."""
         if len(self.held) >= MOST_BUCKETS:
             self.held = {other: bucket for other, bucket in self.held.items() if self.calls_left(other) < self.most}
@@ -82,12 +82,12 @@ class Budgets:
         self.charge_address_or_refuse(self.guesses, request, "too many wrong tokens")
 
     def charge_address_or_refuse(self, buckets: Buckets, request: web.Request, words: str) -> None:
-        if not self.behind_proxy and (seconds := buckets.charge_unless_empty(address_or_network(request.remote))):
+        if not self.behind_proxy and (seconds := buckets.charge_or_return_seconds(address_or_network(request.remote))):
             handler_of(request).is_deaf = True  # else the rest of many requests at once would be read too
             raise Refused(RequestFault.TOO_FAST, words, seconds=seconds)
 
 
 def charge_or_refuse(buckets: Buckets, who: str, count: int) -> None:
     """Charges a participant's request, or refuses it."""
-    if seconds := buckets.charge_unless_empty(who, count):
+    if seconds := buckets.charge_or_return_seconds(who, count):
         raise Refused(RequestFault.TOO_FAST, "too many requests", seconds=seconds)

@@ -180,7 +180,7 @@ class DayWriter:
                 desk, watching = await self.open_desk()
                 while not self.ledger.is_closed:
                     await self.wait_for_commands_or_raise(desk, watching)
-                    self.queue.take_batch(self.ledger)
+                    self.queue.make_batch_and_answer_others(self.ledger)
                     if self.queue.batch:
                         await self.enter_batch(desk)
                         pause, ends = FIRST_PAUSE, 0

@@ -72,7 +72,7 @@ async def serve_demo(args: argparse.Namespace, programs: Programs) -> None:
         office = folder.Folder(f"{room}/office")
         setup.make_office(office)
         register = tokens.Register(office.path_of(folder.PARTICIPANTS))
-        made = {who: register.write_new_token(who) for who in PARTICIPANTS}
+        made = {who: register.write_and_return_new_token(who) for who in PARTICIPANTS}
         day = demo_terms(args.seconds)
         setup.make_day_or_stop(office, day)
         served = Office(office, programs, monitoring.Log())

@@ -112,7 +112,7 @@ def close_and_wait_or_stop(office: Folder, files: DayFolder) -> bool:
             raise exits.Stop(f"{files.day} has no results after {CLOSE_SECONDS} s: see the office's log", exits.UNDECIDED)
         if waited > tell_at:
             tell_at += TELL_SECONDS
-            words = explain_wait_by_trial(files)
+            words = write_trial_and_explain_wait(files)
             if words != told:
                 exits.print_note("office", words)
             told = words
@@ -120,7 +120,7 @@ def close_and_wait_or_stop(office: Folder, files: DayFolder) -> bool:
     return True
 
 
-def explain_wait_by_trial(files: DayFolder) -> str:
+def write_trial_and_explain_wait(files: DayFolder) -> str:
     """For what a close waits, as far as the folder shows it."""
     missing = "results" if files.has_file(folder.HEAD) else "head"
     try:

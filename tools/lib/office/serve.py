@@ -45,17 +45,17 @@ class Office:
         self.key = files.read_key()
         self.public_key = files.read_public_text_or_stop(self.key)
         self.register = tokens.Register(files.path_of(folder.PARTICIPANTS))
-        self.register.read_if_changed()
+        self.register.read_and_keep_if_changed()
         self.writers: dict[str, DayWriter] = {}
         self.tasks: list[asyncio.Task[None]] = []
         self.missed: dict[str | None, str] = {}  # by the name of a day, why it isn't served; by None, why the days or the tokens aren't known
 
-    def take_up_days(self) -> dict[str | None, str]:
+    def take_up_days_and_return_faults(self) -> dict[str | None, str]:
         """Takes up the days that aren't yet; those that are open come first. Returns the faults of those that can't be."""
         missed: dict[str | None, str] = {}
         new: list[tuple[bool, str, folder.DayFolder]] = []
         with noting_unreadable(None, missed):
-            self.register.read_if_changed()
+            self.register.read_and_keep_if_changed()
         for name, files in self.files.list_folders_by_day().items():
             with noting_unreadable(name, missed):
                 if name not in self.writers:
@@ -66,7 +66,7 @@ class Office:
                 self.tasks.append(asyncio.create_task(self.writers[name].write_until_published()))
         return missed
 
-    def log_missed(self, missed: dict[str | None, str]) -> None:
+    def log_and_note_missed(self, missed: dict[str | None, str]) -> None:
         """Logs why days aren't served, once for each reason. They are tried again, and the others go on."""
         for name, fault in missed.items():
             if self.missed.get(name) != fault:
@@ -80,9 +80,9 @@ class Office:
     async def take_up_days_forever(self) -> None:
         while True:
             try:
-                self.log_missed(self.take_up_days())
+                self.log_and_note_missed(self.take_up_days_and_return_faults())
             except OSError as fault:  # such as too many open files: the days that are served go on
-                self.log_missed({None: str(fault)})
+                self.log_and_note_missed({None: str(fault)})
             await asyncio.sleep(LOOK_SECONDS)
 
     async def wait_until_known(self) -> None:
@@ -116,7 +116,7 @@ def read_tls_context_or_stop(tls: tuple[str, str]) -> ssl.SSLContext:
     return context
 
 
-def raise_file_limit() -> None:
+def set_limit_of_open_files() -> None:
     """Lets this process open as many files as it may: a connection is one, and may be sent another."""
     soft, hard = resource.getrlimit(resource.RLIMIT_NOFILE)
     wanted = 2 * connections.MOST_CONNECTIONS + 500

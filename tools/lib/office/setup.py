@@ -202,5 +202,5 @@ def make_or_extend_office(office: folder.Folder, args: argparse.Namespace) -> tu
     terms = require_terms(args, require_shares(given))
     make_office(office)
     with making_day(office, terms):  # a token is made only if it is shown
-        made = register.write_new_tokens(given)
+        made = register.write_and_return_new_tokens(given)
     return terms, made

@@ -46,7 +46,7 @@ class SubmissionQueue:
         self.waiting.append(submission)
         self.wake.set()
 
-    def take_batch(self, ledger: Ledger) -> None:
+    def make_batch_and_answer_others(self, ledger: Ledger) -> None:
         """Makes the next batch from those that wait. A submission whose numbers the batch has already waits until the batch is entered, and
         the close until all others are. Those that can't be entered, or are already, are answered."""
         batch: list[tuple[Command, Submission]] = []
@@ -67,7 +67,7 @@ class SubmissionQueue:
                 fail_future(one.done, fault)
             elif not (new := one.commands[last - one.first + 1 :]):
                 answer_entered(ledger, one)
-            elif fault := token_refusal(one):
+            elif fault := read_token_refusal(one):
                 fail_future(one.done, fault)
             else:
                 batch += [(command, one) for command in new]
@@ -122,7 +122,7 @@ def conflict_refusal(ledger: Ledger, submission: Submission) -> Refused | None:
     return None
 
 
-def token_refusal(submission: Submission) -> Refused | None:
+def read_token_refusal(submission: Submission) -> Refused | None:
     """The fault of a submission whose token isn't its participant's now; None if it is."""
     try:
         return None if submission.is_authorized() else Refused(RequestFault.TOKEN, "the token isn't of this participant any more")

@@ -48,34 +48,34 @@ class Register:
         self.seen: tuple[int, int, int] | None = None
         self.digests: dict[str, str | None] = {}
 
-    def read_if_changed(self) -> None:
+    def read_and_keep_if_changed(self) -> None:
         found = self.path.stat()
         state = found.st_mtime_ns, found.st_ino, found.st_size
         if state != self.seen:
             with folder.stopping_if_damaged(self.path, "the digests of the participants' tokens"):
                 self.digests, self.seen = parse_digests(self.path.read_bytes()), state
 
-    def is_token_of(self, who: str, token: str) -> bool:
+    def read_and_see_if_token_of(self, who: str, token: str) -> bool:
         """Whether a token is the participant's. The comparison takes the same time for every token, and for a name that isn't known."""
-        self.read_if_changed()
+        self.read_and_keep_if_changed()
         return hmac.compare_digest(self.digests.get(who) or NOBODY, digest_of(token))
 
     def read_names(self) -> list[str]:
-        self.read_if_changed()
+        self.read_and_keep_if_changed()
         return list(self.digests)
 
     def read_revoked(self) -> list[str]:
-        self.read_if_changed()
+        self.read_and_keep_if_changed()
         return [who for who, digest in self.digests.items() if digest is None]
 
-    def write_new_token(self, who: str) -> str:
+    def write_and_return_new_token(self, who: str) -> str:
         """Gives the participant a new token in place of any earlier one, and returns it."""
         token = draw_token(who)
         with self.rewriting() as digests:
             digests[who] = digest_of(token)
         return token
 
-    def write_new_tokens(self, names: Iterable[str]) -> dict[str, str]:
+    def write_and_return_new_tokens(self, names: Iterable[str]) -> dict[str, str]:
         """Gives a token to each of these who isn't a participant yet, and returns the tokens."""
         with self.rewriting() as digests:
             tokens = {who: draw_token(who) for who in names if who not in digests}
@@ -95,7 +95,7 @@ class Register:
             folder.give_to_owner_of(lock, self.path.parent)
             fcntl.flock(lock, fcntl.LOCK_EX)
             self.seen = None  # a change within the resolution of the file's time is seen too
-            self.read_if_changed()
+            self.read_and_keep_if_changed()
             digests = dict(self.digests)
             yield digests
             folder.write_synced(self.path, folder.json_bytes(digests))

@@ -115,10 +115,10 @@ def guard_tool(tool: str) -> None:
     guard_process(tool)
     exit_if_stack_is_small(tool)
     if sys.flags.no_site:
-        find_packages_of_system(tool)
+        import_site_or_exit(tool)
 
 
-def find_packages_of_system(tool: str) -> None:
+def import_site_or_exit(tool: str) -> None:
     """Lets Python find the packages of the system, which may run code of their own, only now that the tool is guarded."""
     try:
         import site

@@ -22,10 +22,10 @@ MOST_LINKS = 40  # that Linux follows
 def write_replacing(path: str | Path, data: bytes) -> None:
     """Writes a file. A device, a pipe, and a file that can't be replaced are written in place."""
     with contextlib.ExitStack() as cleanups:
-        write_beside(path, data, cleanups)()
+        write_beside_and_return_put(path, data, cleanups)()
 
 
-def write_beside(path: str | Path, data: bytes, cleanups: contextlib.ExitStack) -> Callable[[], object]:
+def write_beside_and_return_put(path: str | Path, data: bytes, cleanups: contextlib.ExitStack) -> Callable[[], object]:
     """The call that puts a file in its place. Unless it's to be written in place, it's written before, next to that, and `cleanups` removes
     it if it isn't put."""
     target = find_link_target(str(Path(path)))
@@ -39,7 +39,7 @@ def write_beside(path: str | Path, data: bytes, cleanups: contextlib.ExitStack) 
         os.close(os.open(target, os.O_WRONLY))  # a file that can't be written isn't replaced
     in_place = functools.partial(write_in_place, target, data)
     try:
-        rename = write_replacement(target, old, data, cleanups)
+        rename = write_and_return_rename(target, old, data, cleanups)
     except OSError as fault:
         return in_place_call_or_raise(in_place, old, fault)
 
@@ -52,11 +52,11 @@ def write_beside(path: str | Path, data: bytes, cleanups: contextlib.ExitStack) 
     return put
 
 
-def write_new_beside(path: str | Path, data: bytes, cleanups: contextlib.ExitStack) -> Callable[[], object]:
+def write_new_beside_and_return_put(path: str | Path, data: bytes, cleanups: contextlib.ExitStack) -> Callable[[], object]:
     """The call that puts a new file in its place, and ends with FileExistsError if there is one by then, or a link. The file is written
     before, next to its place; `cleanups` removes it if it isn't put."""
     path = str(Path(path))
-    made = path_beside(path)
+    made = draw_path_beside(path)
     create_file(made, data, cleanups)
 
     def put() -> None:
@@ -120,14 +120,14 @@ def read_stat(path: str) -> os.stat_result | None:
         return None
 
 
-def write_replacement(target: str, old: os.stat_result | None, data: bytes, cleanups: contextlib.ExitStack) -> Callable[[], object]:
+def write_and_return_rename(target: str, old: os.stat_result | None, data: bytes, cleanups: contextlib.ExitStack) -> Callable[[], object]:
     """Writes a new file next to the target. The call that gives it the target's name; `cleanups` removes it if that isn't called."""
-    made = path_beside(target)
+    made = draw_path_beside(target)
     create_file(made, data, cleanups, None if old is None else functools.partial(copy_rights, target=target, old=old))
     return functools.partial(os.rename, made, target)
 
 
-def path_beside(path: str) -> str:
+def draw_path_beside(path: str) -> str:
     return os.path.join(os.path.dirname(path), f".dam-{secrets.token_hex(8)}")
 
 

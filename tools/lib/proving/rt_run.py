@@ -7,7 +7,7 @@ import shutil
 import subprocess
 import time
 
-from ..crates.crates import all_below, make_link_or_copy
+from ..crates.crates import crates_below, make_link_or_copy
 from ..crates.sources import TOP, read_own_crates
 from .bar import print_and_flush, shown
 from .plan import CRATES, Crates
@@ -60,7 +60,7 @@ class Proof(RtRun):
     """The proof of one crate, in its copy of the repository. A program is also built, and run once."""
 
     def __init__(self, crates: Crates, name: str, room: str, jobs: int) -> None:
-        self.copy, self.sources, self.below = f"{room}/{name}", f"{room}/sources", all_below(crates, name)
+        self.copy, self.sources, self.below = f"{room}/{name}", f"{room}/sources", crates_below(crates, name)
         self.here, self.there, self.old = f"{CRATES}/{name}/out", f"{self.copy}/crates/{name}/out", f"{self.copy}/old"
         self.is_program = is_program(name)
         words, given = ["rt", "run" if self.is_program else "lib", "--jobs", str(jobs)], os.devnull

@@ -89,7 +89,7 @@ class OperatorStatements:
         later: dict[Head, set[Head]] = defaultdict(set)  # of each head, those that begin with it
         for path in paths:
             extension = self.read_value(path, heads.parse_extension, "an extension", findings)
-            if extension is not None and self.add_if_valid(path, extension, findings):
+            if extension is not None and self.add_if_valid_and_see(path, extension, findings):
                 later[unsigned(extension.old)].add(unsigned(extension.new))
         self.earlier = longest_beginnings(later)
 
@@ -101,7 +101,7 @@ class OperatorStatements:
             findings.append(unread_finding_or_raise(path, fault))
             return None
 
-    def add_if_valid(self, path: str, extension: Extension, findings: list[Finding]) -> bool:
+    def add_if_valid_and_see(self, path: str, extension: Extension, findings: list[Finding]) -> bool:
         """Whether an extension connects its heads. If it doesn't, `findings` gets that. Anyone can make another path, so a wrong one is
         nobody's fault."""
         one, other = (self.add_and_find_signer(path, end, findings, EXTENSION) for end in (extension.old, extension.new))

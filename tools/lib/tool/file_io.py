@@ -138,7 +138,7 @@ def write_file_or_stdout(tool: str, path: str, data: bytes, advice: str | None =
 def write_files(tool: str, files: Mapping[str, bytes], advice: str | None = None) -> None:
     """Writes files by their paths. None is put in its place before each is whole, and from then on Ctrl-C ends the tool only once all are.
     With advice, none replaces a file that is there by then: the tool ends as by `refuse_to_replace`."""
-    prepare = replacing.write_new_beside if advice else replacing.write_beside
+    prepare = replacing.write_new_beside_and_return_put if advice else replacing.write_beside_and_return_put
     written = []
     with contextlib.ExitStack() as cleanups:
         puts = {path: call_or_stop(path, prepare, path, data, cleanups) for path, data in files.items()}

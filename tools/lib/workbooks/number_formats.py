@@ -173,7 +173,7 @@ def hides_zero(pieces: Pieces) -> bool:
     return not re.search(f"[0/{GENERAL}]", "".join(map(one_character_of, pieces))) and "-" not in "".join(plain_signs(pieces))
 
 
-def added_text(pieces: Pieces) -> list[str]:
+def added_texts(pieces: Pieces) -> list[str]:
     """The words that a section of a format adds to a number, before and after digits."""
     ends = f"0#?.,/@{GENERAL}"  # what may end words
     words = (added_characters(piece) or ("\0" if one_character_of(piece) in ends or len(piece) > 1 else piece) for piece in pieces)
@@ -228,7 +228,7 @@ def sections_function(code: str, fractions: Fractions) -> Shown:
     changes = changes_by_sign(code)
     sections = sections_of(code)[:3]
     parts = [sections] if re.search(r"\[[<>=]", code) else [[section] for section in sections]  # a number has one of these
-    kinds = [kind_function([words for section in part for words in added_text(section)]) for part in parts]
+    kinds = [kind_function([words for section in part for words in added_texts(section)]) for part in parts]
     roundings = [[rounding_function(pieces, fractions) for pieces in part] for part in parts]
 
     def shown(words: int | str) -> str:
