@@ -41,7 +41,7 @@ def measure_load(office: ServedOffice, count: int) -> tuple[float, float]:
 
 def serve_and_measure_load(programs: Programs, kind: type[ServedOffice]) -> tuple[float, float]:
     with running_office(programs.dam, programs.desk, kind=kind, count=CONNECTIONS) as office:
-        office.start()
+        office.start_and_return_seconds()
         return measure_load(office, COMMANDS)
 
 
@@ -56,12 +56,12 @@ def measure_comparison(figures: Figures, programs: Programs) -> None:
 
 def measure_whole_day(figures: Figures, programs: Programs) -> None:
     with running_office(programs.dam, programs.desk, count=CONNECTIONS) as office:
-        office.start()
+        office.start_and_return_seconds()
         rate, _ = measure_load(office, WHOLE_DAY)
         figures.add_median(Label("day", "commands of a day that an office takes"), [rate], PER_SECOND)
         office.kill("office", "desk")
-        figures.add_median(Label("start", "a start of an office after a crash"), [office.start()])
-        figures.add_median(Label("close", "from the close to the results"), [office.close_day()])
+        figures.add_median(Label("start", "a start of an office after a crash"), [office.start_and_return_seconds()])
+        figures.add_median(Label("close", "from the close to the results"), [office.close_day_and_return_seconds()])
 
 
 def measure(figures: Figures, programs: Programs) -> None:

@@ -69,7 +69,7 @@ def main() -> int:
     try:
         import distributed  # noqa: F401
     except ImportError:
-        counts.leave_out("many days on a cluster: python3-distributed is missing")
+        counts.count_and_print_left_out("many days on a cluster: python3-distributed is missing")
         return counts.print_totals_and_return_status()
     import dam_tools
     from dam_tools.lib.runs import which
@@ -85,6 +85,6 @@ def main() -> int:
         os.environ["DAM_LIBRARY"] = str(which.LIBRARY)
         run_and_check_results(counts, "the library", texts, wanted)
     else:
-        counts.leave_out("many days on a cluster by the library for C: it isn't built from the present sources")
+        counts.count_and_print_left_out("many days on a cluster by the library for C: it isn't built from the present sources")
     lost.run_and_check_whatif(counts, program)
     return counts.print_totals_and_return_status()

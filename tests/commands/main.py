@@ -76,9 +76,9 @@ def run_and_check_page(counts: Counts, name: str, program: Path, desk: Path, wri
         home = make_home_folder(room, program)
         one = make_reader_with_linked_commands(home, program, desk)
         if missing := page_session.find_missing_needs(name, one):
-            counts.leave_out(f"the commands of {name}: {', '.join(missing)} missing")
+            counts.count_and_print_left_out(f"the commands of {name}: {', '.join(missing)} missing")
             return
-        printed = page_session.run_and_check_commands(counts, name, one, room)
+        printed = page_session.run_check_and_return_outputs(counts, name, one, room)
         if writes:
             (TOP / name).write_text(text_with_outputs((TOP / name).read_text(), printed))
         if (TOP / ".git").exists() and shutil.which("git"):

@@ -39,7 +39,7 @@ def iterate_instructions_of_desk(
 
 def check_names(counts: Counts, desk: DeskProgram, dam: DamProgram, whole: bool) -> None:
     if not shutil.which("valgrind"):
-        counts.leave_out("a desk with names that collide: valgrind, which counts instructions, is missing", 1)
+        counts.count_and_print_left_out("a desk with names that collide: valgrind, which counts instructions, is missing", 1)
         return
     begun = time.monotonic()
     program = HostileProgram(desk.words[0], desk.room)

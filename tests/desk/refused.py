@@ -173,7 +173,7 @@ class RunsWithRefusals(crashes.Crashes):
             for most in SHORT[1:]:
                 yield RefusedFileCalls(kind, 1, ABOVE_ANY_CALL, 0, most), self.is_short
 
-    def check_refusals(self) -> list[str]:
+    def try_refusals(self) -> list[str]:
         """Refuses each call in turn, and returns the faults."""
         ran = self.desk.run(self.make_held_file(), self.given.batches)
         made: dict[str, int] = {}
@@ -210,7 +210,7 @@ class RunsWithoutMemory(RunsWithRefusals):
         self.runs += 1
         return made
 
-    def check_refusals(self) -> list[str]:
+    def try_refusals(self) -> list[str]:
         made = self.run_check_and_count_growths((ABOVE_ANY_CALL, ABOVE_ANY_CALL))
         if made < 10:
             self.wrong.append(f"{self.about}: {made} growths are counted")
@@ -379,7 +379,7 @@ def check_refused_calls(counts: Counts, desk: DeskProgram, dam: DamProgram, whol
     for about, given, start in draw_inputs(dam, whole):
         for kind in (RunsWithRefusals, RunsWithoutMemory):
             row = kind(desk, about, given, start)
-            wrong = row.check_refusals()
+            wrong = row.try_refusals()
             counts.passed += row.runs - min(row.runs, len(wrong))
             counts.failed += len(wrong)
             print("\n".join(f"differs: {line}" for line in wrong[: crashes.SHOWN]), end="\n" if wrong else "", flush=True)

@@ -144,4 +144,4 @@ def check_shape_costs(counts: Counts, desk: DeskProgram, dam: DamProgram, whole:
     if shutil.which("valgrind"):
         check_costs(counts, HERE, measure_costs(desk))
     else:
-        counts.leave_out("what a desk costs for each shape of a journal: valgrind, which counts instructions, is missing", 1)
+        counts.count_and_print_left_out("what a desk costs for each shape of a journal: valgrind, which counts instructions, is missing", 1)

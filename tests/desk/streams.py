@@ -18,7 +18,7 @@ from desk.journals import DamProgram, DeskInput
 from lib.base import rules
 from lib.journal import journal as format_of
 from shared import broken_texts, crash_files
-from shared.processes import pipes_of, wait_until
+from shared.processes import pipes_of, wait_and_see_if
 from shared.counts import Counts
 from shared.records import CLOSE
 
@@ -52,18 +52,18 @@ class ExpectedDesk:
         """Reads a line without its end."""
         self.line += 1
         try:
-            self.answers.append(self.enter_or_raise(line))
+            self.answers.append(self.enter_and_return_answer_or_raise(line))
         except LineFault as fault:
             self.answers.append(f"fault,{self.line},{fault}\n".encode())
 
-    def enter_or_raise(self, line: bytes) -> bytes | int:
+    def enter_and_return_answer_or_raise(self, line: bytes) -> bytes | int:
         if len(line) > LONGEST_LINE:
             raise LineFault("TooLong")
         if not line.isascii():
             raise LineFault(f"NotAscii,{next(at for at, byte in enumerate(line) if byte > 127)}")
         line += b"\n"  # which a quote that isn't closed takes in
         if self.day is None:
-            return self.enter_day_or_raise(line)
+            return self.enter_day_and_return_answer_or_raise(line)
         if self.periods_in_line_or_none(line):
             if self.periods_in_line_or_none(line) != self.day:
                 raise LineFault("OtherDay")
@@ -78,7 +78,7 @@ class ExpectedDesk:
         self.records.append(f"{format_of.command_record_text(command)}\n".encode())
         return self.entries
 
-    def enter_day_or_raise(self, line: bytes) -> int:
+    def enter_day_and_return_answer_or_raise(self, line: bytes) -> int:
         day = self.parse_or_raise(line)
         if day.commands:
             raise LineFault("NotOneRecord")
@@ -308,7 +308,7 @@ def check_many_starts(counts: Counts, desk: DeskProgram, given: DeskInput) -> No
     desk that is still to open the file would have it after the first."""
     file = desk.make_path()
     started = [desk.start(file, stderr=subprocess.PIPE) for _ in range(8)]
-    wait_until(lambda: sum(process.poll() is None for process in started) < 2, device.SECONDS)
+    wait_and_see_if(lambda: sum(process.poll() is None for process in started) < 2, device.SECONDS)
     printed = [process.communicate(b"".join(given.batches)) for process in started]
     ends = sorted((process.returncode, *texts) for process, texts in zip(started, printed))
     right = [(0, given.journal.all_printed, b""), *[(4, b"", LOCKED_LINE)] * 7]

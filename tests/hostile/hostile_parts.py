@@ -78,7 +78,7 @@ def main() -> int:
         return 0
     for name in asked.names:
         if name in COUNTED and not shutil.which("valgrind"):
-            runs.leave_out(f"{name}: valgrind, which counts instructions, is missing")
+            runs.count_and_print_left_out(f"{name}: valgrind, which counts instructions, is missing")
         else:
             PARTS[name](runs)
     return runs.print_totals_and_return_status()

@@ -300,7 +300,7 @@ class LaunchTests(DamCase):
                 if runs:
                     os.remove(f"{self.at.top}/began")
 
-    def start_ignoring(self, ignored: str, *words: str) -> subprocess.Popen[str]:
+    def start_with_ignored(self, ignored: str, *words: str) -> subprocess.Popen[str]:
         """Starts ./dam as nohup does: it ignores the signals with these names."""
         return self.at.start("sh", "-c", f"trap '' {ignored}; exec \"$0\" \"$@\"", f"{self.at.top}/dam", *words)
 
@@ -316,22 +316,22 @@ class LaunchTests(DamCase):
         each = signal.SIGHUP, signal.SIGINT, signal.SIGTERM
         self.at.write("crates/dam_cli/src/main.rt", f"{PROGRAM}# SECONDS 2")
         self.at.write("crates/low/src/lib.rt", "SECONDS 2")
-        with self.start_ignoring("HUP INT TERM", "x") as process:
+        with self.start_with_ignored("HUP INT TERM", "x") as process:
             self.wait_for(lambda: os.path.exists(f"{self.at.top}/out/unproved/lock"))
             self.signal_and_assert_running(process, *each)
             self.assertEqual(stdout_of(process).readline(), "words: x\n")
             self.signal_and_assert_running(process, *each)
             self.assertEqual(process.communicate("text", timeout=60), ("text", self.line_of_unproved()))
         self.assertEqual(process.returncode, 0)
-        with self.start_ignoring("HUP", "prove") as process:
-            self.wait_for(lambda: self.at.read_moved("low"))
+        with self.start_with_ignored("HUP", "prove") as process:
+            self.wait_for(lambda: self.at.read_moved_work("low"))
             self.signal_and_assert_running(process, signal.SIGHUP)
             process.terminate()
             self.assertIn("stopped; what was proved so far is kept\n", process.communicate(timeout=60)[1])
         self.assertEqual(process.returncode, 128 + signal.SIGTERM)
         self.assertEqual(self.at.read("crates/low/out/incremental/begun"), "begun\n")
-        with self.start_ignoring("HUP INT TERM", "prove") as process:
-            self.wait_for(lambda: self.at.read_moved("low") == "begun\n" * 2)
+        with self.start_with_ignored("HUP INT TERM", "prove") as process:
+            self.wait_for(lambda: self.at.read_moved_work("low") == "begun\n" * 2)
             self.signal_and_assert_running(process, *each)
             self.assertNotIn("stopped", process.communicate(timeout=60)[1])
         self.assertEqual(process.returncode, 0)

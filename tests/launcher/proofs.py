@@ -108,7 +108,7 @@ class ProveTests(RepositoryCase):
         self.at.write("crates/dam_cli/out/more", "kept")
         self.at.write("crates/dam_cli/src/main.rt", f"{PROGRAM}# SECONDS 1.5")
         with self.at.start(f"{self.at.top}/tools/prove", "dam_cli") as process:
-            self.wait_for(lambda: self.at.read_moved("dam_cli") == "begun\n" * 2)
+            self.wait_for(lambda: self.at.read_moved_work("dam_cli") == "begun\n" * 2)
             self.assertEqual(self.at.run(self.at.program, "x", given="text"), (0, "words: x\ntext", ""))
             process.communicate(timeout=60)
         self.assertEqual(process.returncode, 0)
@@ -200,7 +200,7 @@ class ProveTests(RepositoryCase):
     def test_stopped_while_it_waits(self) -> None:
         self.at.write("crates/low/src/lib.rt", "SECONDS 3")
         with self.at.start(f"{self.at.top}/tools/prove", "dam_cli") as first:
-            self.wait_for(lambda: "begun" in self.at.read_moved("low"))
+            self.wait_for(lambda: "begun" in self.at.read_moved_work("low"))
             for number in (signal.SIGTERM, signal.SIGINT, signal.SIGHUP):
                 with self.at.start(f"{self.at.top}/tools/prove", "dam_cli") as second:
                     assert second.stderr
@@ -208,7 +208,7 @@ class ProveTests(RepositoryCase):
                     second.send_signal(number)
                     second.communicate(timeout=30)
                 self.assertEqual(second.returncode, 128 + number)
-                self.assertIn("begun", self.at.read_moved("low"))
+                self.assertIn("begun", self.at.read_moved_work("low"))
             first.communicate(timeout=30)
         self.assertEqual(first.returncode, 0)
         self.assertTrue(self.at.has_no_copy())

@@ -112,7 +112,7 @@ def check_records(counts: Counts, folder: str, exports: Iterable[str]) -> None:
     """Files are recorded as built of the sources from before the proof. If one of these is edited meanwhile, no record is left, also of an
     earlier build."""
     if not shutil.which("ar"):
-        counts.leave_out("the records of library/build: ar is missing")
+        counts.count_and_print_left_out("the records of library/build: ar is missing")
         return
     at = SmallLibrary(folder)
     at.compile_archive_of_calls(exports)

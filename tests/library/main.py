@@ -242,7 +242,7 @@ def check_odd_limits(counts: Counts, library: CalledLibrary) -> None:
 def check_exports(counts: Counts) -> None:
     """The shared object shows its calls and nothing else."""
     if not shutil.which("nm"):
-        counts.leave_out("what the shared object exports: nm is missing")
+        counts.count_and_print_left_out("what the shared object exports: nm is missing")
         return
     shown = subprocess.run(["nm", "-D", "--defined-only", f"{BUILT}/libdam.so"], stdout=subprocess.PIPE).stdout.decode()
     names = {line.split()[-1] for line in shown.splitlines()}
@@ -252,7 +252,7 @@ def check_exports(counts: Counts) -> None:
 def check_soname(counts: Counts) -> None:
     """A program that is linked with the shared object asks at its start for that of this major version."""
     if not shutil.which("readelf"):
-        counts.leave_out("the soname of the shared object: readelf is missing")
+        counts.count_and_print_left_out("the soname of the shared object: readelf is missing")
         return
     shown = subprocess.run(["readelf", "-d", f"{BUILT}/libdam.so.1"], stdout=subprocess.PIPE).stdout.decode(errors="replace")
     names = re.findall(r"\(SONAME\).*\[(.*)\]", shown)
@@ -397,12 +397,12 @@ def check_compilers(counts: Counts, folder: str) -> None:
         is_compiled = compile_program_or_print(["cc", "-std=c11", *strict, source], f"{folder}/one.o")
         counts.check(f"{os.path.relpath(source, TOP)} compiles", is_compiled)
     if not shutil.which("c++"):
-        counts.leave_out("the caller in C as a program in C++: there is no compiler `c++`")
+        counts.count_and_print_left_out("the caller in C as a program in C++: there is no compiler `c++`")
     if run_and_see_rustc():
         words = ["rustc", "--edition", "2021", "--emit", "metadata", f"{HERE}/caller.rs"]
         counts.check("the caller in Rust is accepted", compile_program_or_print(words, f"{folder}/caller.rmeta"))
     else:
-        counts.leave_out(f"the caller in Rust: rustc {RUST[0]}.{RUST[1]} or newer is missing")
+        counts.count_and_print_left_out(f"the caller in Rust: rustc {RUST[0]}.{RUST[1]} or newer is missing")
 
 
 def compile_caller_or_none(counts: Counts, folder: str) -> str | None:
@@ -501,7 +501,7 @@ def check_peaks(counts: Counts, caller: str, program: str, folder: str) -> None:
 def check_memory(counts: Counts, caller: str) -> None:
     """valgrind finds no fault of memory and no leak."""
     if not shutil.which("valgrind"):
-        counts.leave_out("the library under valgrind: valgrind is missing")
+        counts.count_and_print_left_out("the library under valgrind: valgrind is missing")
         return
     for word in ("replay", "clear"):
         words = ["valgrind", "-q", "--leak-check=full", "--error-exitcode=99", caller, word]
@@ -520,7 +520,7 @@ def measure_instructions(words: Sequence[str], text: bytes, folder: str) -> int:
 def check_costs(counts: Counts, caller: str, program: str, folder: str) -> None:
     """A call takes about as many instructions as the program on the same text."""
     if not shutil.which("valgrind"):
-        counts.leave_out("the instructions of the library: valgrind, which counts them, is missing")
+        counts.count_and_print_left_out("the instructions of the library: valgrind, which counts them, is missing")
         return
     alone, limit = ["clear", "--workers", "1", "--cut", "0"], "100000"
     calls = [(["replay"], ["replay"]), (["clear"], alone), (["clear", limit], [*alone, "--nodes", limit])]
@@ -595,7 +595,7 @@ def prove_build_and_see_success(counts: Counts, words: Sequence[str]) -> bool:
     built = subprocess.run([f"{TOP}/library/build", *words], stdout=subprocess.PIPE, stderr=subprocess.STDOUT, errors="replace")
     print("".join(line + "\n" for line in built.stdout.splitlines() if built.returncode or line.startswith("logic=")), end="", flush=True)
     if built.returncode == CAN_NOT:
-        counts.leave_out(f"the library is not built: {built.stdout.splitlines()[-1]}")
+        counts.count_and_print_left_out(f"the library is not built: {built.stdout.splitlines()[-1]}")
         return False
     counts.check("the library is proved and built", built.returncode == 0)
     return True
@@ -609,7 +609,7 @@ def main() -> int:
     given = parser.parse_args()
     counts = Counts()
     if not shutil.which("cc"):
-        counts.leave_out("the library: there is no C compiler `cc`")
+        counts.count_and_print_left_out("the library: there is no C compiler `cc`")
     else:
         with tempfile.TemporaryDirectory() as folder:
             check_compilers(counts, folder)
@@ -620,5 +620,5 @@ def main() -> int:
             if is_library_built():
                 check_calls(counts, folder, os.path.abspath(given.program))
             elif can_build:
-                counts.leave_out("the calls: the library isn't built (library/build builds it, and so does ./check)")
+                counts.count_and_print_left_out("the calls: the library isn't built (library/build builds it, and so does ./check)")
     return counts.print_totals_and_return_status()

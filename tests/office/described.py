@@ -13,7 +13,7 @@ from lib.base.json_value import JsonObject
 from lib.office import fixed_files, refusals, routes
 from lib.seal import heads
 from shared.counts import Counts
-from shared.processes import wait_until
+from shared.processes import wait_and_see_if
 from shared.served_office import ServedOffice
 
 API, DEMO = (json.loads(fixed_files.read_openapi_text(is_demo)) for is_demo in (False, True))
@@ -169,10 +169,10 @@ def check_routes(counts: Counts, office: ServedOffice, periods: int) -> None:
     table = f"participant,order,kind,side,price_eur_mwh,periods,volume_mw\n{who},T,block,sell,12.5,1-{periods},3\n"
     for sent in (table, table.replace(who, "OTHER"), "", "x\n", "PK\x03\x04"):
         send_check_and_return_answer(counts, office, "POST", "/days/{day}/tables/{who}", values, token, sent.encode())
-    office.close_day()
+    office.close_day_and_return_seconds()
     office.run_tool("publish", office.folder)
     # tables count as many requests
-    wait_until(lambda: office.send_request(f"/days/{office.day}/orders/{who}", token)[0] != 429, WAIT_SECONDS, 0.1)
+    wait_and_see_if(lambda: office.send_request(f"/days/{office.day}/orders/{who}", token)[0] != 429, WAIT_SECONDS, 0.1)
     time.sleep(1)  # in which it allows enough for what follows
     for template in API["paths"]:
         if template.startswith("/days/") and "get" in API["paths"][template]:

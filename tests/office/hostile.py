@@ -14,7 +14,7 @@ from collections.abc import Sequence
 from pathlib import Path
 
 from shared.counts import Counts
-from shared.processes import wait_until
+from shared.processes import wait_and_see_if
 from shared.served_office import ServedOffice
 
 SECONDS = 40  # that an answer, or the end of a connection, may take
@@ -327,7 +327,7 @@ def check_silent(counts: Counts, office: ServedOffice) -> None:
             with contextlib.suppress(OSError):
                 stack.enter_context(connect(office))
         (office.files / "close-now").touch()
-        has_results = wait_until((office.files / "results.txt").exists, SECONDS)
+        has_results = wait_and_see_if((office.files / "results.txt").exists, SECONDS)
         counts.check("silent connections don't stop the close", has_results and office.process.poll() is None)
         files = len(os.listdir(f"/proc/{office.process.pid}/fd"))
         counts.check(f"and those that are too many are ended: {files} files", files < 1_100)
@@ -351,7 +351,7 @@ def check_downloads(counts: Counts, office: ServedOffice, context: ssl.SSLContex
             one.sendall(request_bytes("GET", f"/days/{office.day}/journal"))
         for one in readers:
             one.recv(1)  # the answer has begun
-        wait_until(lambda: read_peak_memory(office) - before >= MOST_KEPT, KEPT_SECONDS, 0.5)
+        wait_and_see_if(lambda: read_peak_memory(office) - before >= MOST_KEPT, KEPT_SECONDS, 0.5)
         kept = read_peak_memory(office) - before
         counts.check(f"slow downloads keep little memory: {kept} KiB", kept < MOST_KEPT)
 
@@ -363,7 +363,7 @@ def check_many(counts: Counts, office: ServedOffice, most: int) -> None:
             for _ in range(most):
                 stack.enter_context(connect(office))
         time.sleep(0.5)
-    wait_until(office.is_ready, step=0.1)
+    wait_and_see_if(office.probe_and_see_readiness, step=0.1)
     counts.check(f"it serves after {most} connections", office.send_request("/days")[0] == 200)
     counts.check("it refused some", (office.read_metric_or_none("dam_office_connections_refused_total") or 0) > 0)
 

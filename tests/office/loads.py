@@ -52,7 +52,7 @@ async def run_with_kills(office: ServedOffice, kills: int, count: int, seed: str
         parts = (("office",), ("desk",), ("office", "desk"))[number % 3]
         await asyncio.to_thread(office.kill, *parts)
         if "office" in parts:
-            starts.append(await asyncio.to_thread(office.start))
+            starts.append(await asyncio.to_thread(office.start_and_return_seconds))
         if running.done():
             break
     await running

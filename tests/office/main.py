@@ -46,7 +46,7 @@ def main() -> int:
     missing = [name for module, name in PACKAGES.items() if not modules.has_module(module)]
     missing += [str(path) for path in (args.dam, args.desk) if not os.access(path, os.X_OK)]
     if missing:
-        counts.leave_out(f"the office: {', '.join(missing)} is missing")
+        counts.count_and_print_left_out(f"the office: {', '.join(missing)} is missing")
         return counts.print_totals_and_return_status()
     from office import scenes
 

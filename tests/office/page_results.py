@@ -24,7 +24,7 @@ async def check_close_and_results(counts: Counts, page: BrowserTab, office: Serv
     await page.evaluate("announce(61); announce(59)")
     counts.check("and again", await read_text(page, "announced") == "1 minute left")
     await type_into(page, "name", "LATE")
-    await asyncio.to_thread(office.close_day)
+    await asyncio.to_thread(office.close_day_and_return_seconds)
     await page.wait_until("document.activeElement.id === 'results-title'")
     counts.check("the focus is at the results, which are seen", await page.evaluate(ON_SCREEN % "results-title"))
     counts.check(

@@ -80,7 +80,7 @@ async def check_length(counts: Counts, page: BrowserTab, office: ServedOffice, p
     counts.check(f"a block over {periods} periods: {first}", first[6:8] == ["4,000.00", f"1-{periods}: 9,999.9"])
     fits = await page.evaluate("document.documentElement.scrollWidth") <= WIDTHS[0] and await page.evaluate(SCROLLED) == 0
     counts.check(f"a day of {periods} periods fits into {WIDTHS[0]}", fits)
-    await asyncio.to_thread(office.close_day)
+    await asyncio.to_thread(office.close_day_and_return_seconds)
     await page.wait_until("!document.getElementById('results').hidden")
     (row,), prices = await read_cells(page, "statement"), await read_cells(page, "prices")
     energy = f"{9_999.9 * periods * float(rules.DAYS[periods]):,.1f}"
@@ -95,7 +95,7 @@ async def check_lengths(counts: Counts, args: argparse.Namespace) -> None:
     async with browser.running_browser_tab("data:text/html,") as page:
         for periods in sorted(set(rules.DAYS) - {24}):
             with running_office(args.dam, args.desk, periods=periods, day=day_of(periods)) as office:
-                office.start()
+                office.start_and_return_seconds()
                 await check_length(counts, page, office, periods)
         found = [fault for fault in page.faults if "CONNECTION_REFUSED" not in fault]  # of an office that has ended
         counts.check(f"no script fails at a day of another length: {found}", not found)
@@ -147,7 +147,7 @@ def run_and_check_demo(counts: Counts, args: argparse.Namespace) -> None:
 
 def check_pages(counts: Counts, args: argparse.Namespace) -> None:
     with running_office(args.dam, args.desk) as office, tempfile.TemporaryDirectory() as room:
-        office.start()
+        office.start_and_return_seconds()
         asyncio.run(check_day(counts, office, args.pictures, Path(room)))
     asyncio.run(check_lengths(counts, args))
     run_and_check_demo(counts, args)

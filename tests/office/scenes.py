@@ -27,7 +27,7 @@ from shared.counts import Counts
 from shared.office_load import OfficeLoad
 from shared.place import TOP
 from shared.ports import find_free_port
-from shared.processes import pipes_of, stdout_of, wait_until
+from shared.processes import pipes_of, stdout_of, wait_and_see_if
 from shared.served_office import TOOL, OfficeFault, ServedOffice, day_of, running_office
 
 KILLS, ALL_KILLS = 3, 30
@@ -54,7 +54,7 @@ def call_and_see_refusal(call: Callable[[], object], fault: str) -> bool:
 
 def check_strangers(counts: Counts, args: argparse.Namespace) -> None:
     with running_office(args.dam, args.desk) as office:
-        office.start()
+        office.start_and_return_seconds()
         hostile.check_headers(counts, office)
         hostile.check_messages(counts, office)
         hostile.check_slow(counts, office)
@@ -74,7 +74,7 @@ def check_strangers(counts: Counts, args: argparse.Namespace) -> None:
 class OfficeWithTls(ServedOffice):
     """An office whose answers need TLS, so that its log alone tells whether it is ready."""
 
-    def is_ready(self) -> bool:
+    def probe_and_see_readiness(self) -> bool:
         return self.process.poll() is None and b'"serving"' in self.log.read_bytes()
 
 
@@ -83,12 +83,12 @@ def check_tls(counts: Counts, args: argparse.Namespace) -> None:
         cert, key = hostile.make_certificate(room)
         with running_office(args.dam, args.desk, kind=OfficeWithTls, words=["--tls", cert, key]) as office:
             with contextlib.suppress(RuntimeError):
-                office.start()
+                office.start_and_return_seconds()
             hostile.check_tls(counts, office, cert)
             hostile.check_silent(counts, office)
             office.stop()
             office.log.write_text("")
-            office.start()  # with the memory of a new one
+            office.start_and_return_seconds()  # with the memory of a new one
             hostile.check_downloads(counts, office, ssl.create_default_context(cafile=cert))
 
 
@@ -101,7 +101,7 @@ def check_full_disk(counts: Counts, args: argparse.Namespace) -> None:
         limited.chmod(0o755)
         full.touch()
         with running_office(args.dam, limited) as office:
-            office.start()
+            office.start_and_return_seconds()
             who = office.who[0]
             record = f"submit,{who},%s,block,buy,1,{';'.join(f'{period}:1' for period in range(1, 25))},,"
             entered, path = 0, f"/days/{office.day}/commands/{who}/"
@@ -118,7 +118,7 @@ def check_full_disk(counts: Counts, args: argparse.Namespace) -> None:
             for part in (("desk",), ("office",)):
                 office.kill(*part)
                 if "office" in part:
-                    office.start()
+                    office.start_and_return_seconds()
                 counts.check(
                     "and it stays", [one["entry"] for one in office.client_of(who).commands(office.day)] == list(range(1, entered + 2))
                 )
@@ -128,7 +128,7 @@ def check_full_office(counts: Counts, args: argparse.Namespace) -> None:
     """A disk that is full for the office too: it is unavailable until there is room, without a command that shows it; and while the files
     of a closed day can't be made."""
     with running_office(args.dam, args.desk) as office:
-        office.start()
+        office.start_and_return_seconds()
         who = office.who[0]
         record = f"submit,{who},%s,block,buy,1,{';'.join(f'{period}:1' for period in range(1, 25))},,"
         office.client_of(who).enter(office.day, *(record % f"A-{number}" for number in range(40)))
@@ -145,20 +145,20 @@ def check_full_office(counts: Counts, args: argparse.Namespace) -> None:
         counts.check(f"and says so in its counts: {values}", values == [0, 0])
         set_file_limit(office, resource.RLIM_INFINITY)
         office.kill("desk")  # which has the limit
-        counts.check("with room it is available again, without a command", wait_until(office.is_ready))
-        counts.check("and its counts say so", wait_until(lambda: office.read_metric_or_none("dam_office_right") == 1))
+        counts.check("with room it is available again, without a command", wait_and_see_if(office.probe_and_see_readiness))
+        counts.check("and its counts say so", wait_and_see_if(lambda: office.read_metric_or_none("dam_office_right") == 1))
         set_file_limit(office, 4_096)
         said = office.folder.parent / "said"
         with said.open("wb") as stream:
             began = subprocess.Popen([*TOOL, "close", office.folder], env=office.environment, stdout=stream, stderr=stream)
-        counts.check("and not while a closed day has no files", wait_until(lambda: office.send_request("/healthz")[0] == 503))
+        counts.check("and not while a closed day has no files", wait_and_see_if(lambda: office.send_request("/healthz")[0] == 503))
         state = json.loads(office.run_tool("status", office.folder, "--json").stdout)["days"][0]["state"]
         counts.check(f"both name the same state: {state}", state == json.loads(office.send_request(f"/days/{office.day}")[2])["state"] != "open")
-        counts.check("close says that it waits", wait_until(lambda: b"has no head yet" in said.read_bytes()))
+        counts.check("close says that it waits", wait_and_see_if(lambda: b"has no head yet" in said.read_bytes()))
         set_file_limit(office, resource.RLIM_INFINITY)
         status = began.wait(60)
         counts.check(f"and ends with the results: {said.read_bytes()!r}", status == 0 and b"has its results" in said.read_bytes())
-        counts.check("and the office is available once they are there", wait_until(office.is_ready))
+        counts.check("and the office is available once they are there", wait_and_see_if(office.probe_and_see_readiness))
 
 
 def set_file_limit(office: ServedOffice, size: int) -> None:
@@ -187,18 +187,18 @@ def check_ended_desk(counts: Counts, args: argparse.Namespace) -> None:
         wrapped.write_text(f'#!/bin/sh\n[ ! -e {unreadable} ] || {{ echo unreadable >&2; exit 4; }}\nexec {args.desk} "$@"\n')
         wrapped.chmod(0o755)
         with running_office(args.dam, wrapped) as office:
-            office.start()
+            office.start_and_return_seconds()
             (first,) = office.capture_desk_processes()
             office.kill("desk")
             counts.check(
                 "an idle desk that ends is opened again",
-                wait_until(lambda: office.capture_desk_processes() not in ([], [first]) and office.is_ready()),
+                wait_and_see_if(lambda: office.capture_desk_processes() not in ([], [first]) and office.probe_and_see_readiness()),
             )
             unreadable.touch()
             office.kill("desk")
-            counts.check("without one the office is unavailable", wait_until(lambda: office.send_request("/healthz")[0] == 503, 5))
+            counts.check("without one the office is unavailable", wait_and_see_if(lambda: office.send_request("/healthz")[0] == 503, 5))
             unreadable.unlink()
-            counts.check("until it opens again", wait_until(office.is_ready))
+            counts.check("until it opens again", wait_and_see_if(office.probe_and_see_readiness))
             office.stop()
             events = [json.loads(line)["event"] for line in office.log.read_text().splitlines()]
             counts.check(f"an office that is ended says so: {events}", events[-1] == "ended" and "stopped" not in events)
@@ -207,14 +207,14 @@ def check_ended_desk(counts: Counts, args: argparse.Namespace) -> None:
 def check_rolled_back(counts: Counts, args: argparse.Namespace) -> None:
     """A desk's file that is put back by an entry while no office runs, and one that is lost."""
     with running_office(args.dam, args.desk) as office:
-        office.start()
+        office.start_and_return_seconds()
         who, desk, signed = office.who[0], office.files / "desk", office.files / "signed-head.json"
         client = office.client_of(who)
         client.enter(office.day, f"cancel,{who},A,,,,,,")
         earlier = desk.read_bytes()
         client.enter(office.day, f"cancel,{who},B,,,,,,")
         counts.check(
-            "the newest head is soon in its file", wait_until(lambda: signed.exists() and json.loads(signed.read_bytes())["size"] == 2)
+            "the newest head is soon in its file", wait_and_see_if(lambda: signed.exists() and json.loads(signed.read_bytes())["size"] == 2)
         )
         office.kill("office", "desk")
         later = desk.read_bytes()
@@ -229,7 +229,7 @@ def check_rolled_back(counts: Counts, args: argparse.Namespace) -> None:
                 office.stop()
                 office.log.write_text("")
         desk.write_bytes(later)
-        office.start()
+        office.start_and_return_seconds()
         counts.check(
             "with its file back the day goes on", office.client_of(who).enter(office.day, f"cancel,{who},C,,,,,,")[0]["number"] == 3
         )
@@ -237,7 +237,7 @@ def check_rolled_back(counts: Counts, args: argparse.Namespace) -> None:
         counts.check("an orderly end has the newest head", json.loads(signed.read_bytes())["size"] == 3)
         desk.write_bytes(earlier)
         signed.unlink()
-        office.start()
+        office.start_and_return_seconds()
         counts.check("and without the head's file a shorter journal is served", len(office.client_of(who).commands(office.day)) == 1)
     check_restored(counts, args)
 
@@ -245,7 +245,7 @@ def check_rolled_back(counts: Counts, args: argparse.Namespace) -> None:
 def check_restored(counts: Counts, args: argparse.Namespace) -> None:
     """A day whose last entries are on no disk any more: receipts have them, and a desk's file of their records gives the same receipts."""
     with running_office(args.dam, args.desk) as office:
-        office.start()
+        office.start_and_return_seconds()
         entered = [(who, office.client_of(who).enter(office.day, f"cancel,{who},{name},,,,,,")[0]) for name in "AB" for who in office.who]
         path, head = f"/days/{office.day}/commands", office.send_request(f"/days/{office.day}/head")[2]
         office.kill("office", "desk")
@@ -255,7 +255,7 @@ def check_restored(counts: Counts, args: argparse.Namespace) -> None:
             (office.files / name).unlink()
         records = "".join(f"{record}\n" for record in [*backup, *(receipt["record"] for receipt in after)])
         subprocess.run([args.desk, office.files / "desk"], input=records.encode(), capture_output=True, check=True)
-        office.start()
+        office.start_and_return_seconds()
         again = [
             (who, json.loads(office.send_request(f"{path}/{who}/{number}", office.bearer_header(who))[2]))
             for number in (1, 2)
@@ -270,14 +270,14 @@ def check_kills(counts: Counts, args: argparse.Namespace) -> None:
     count, rounds = (ALL_KILLS, 5) if args.all else (KILLS, 1)
     for number in range(rounds):
         with running_office(args.dam, args.desk, count=20) as office:
-            office.start()
+            office.start_and_return_seconds()
             load, starts = asyncio.run(loads.run_with_kills(office, count // rounds, 60, f"kills {number}"))
             records = office.capture_journal_of_desk()
             replies = loads.capture_replies_of_dam(args.dam, records)
             wrong = list(loads.faults_of_load(load, records, replies, read_key(office)))
             counts.check(f"no acknowledged command is lost, changed or doubled: {wrong[:3]}", not wrong)
             counts.check("each command is acknowledged", len(load.acknowledged) == len(records) == 20 * 60)
-            office.close_day()
+            office.close_day_and_return_seconds()
             counts.check("a day with kills is closed", office.capture_journal_of_desk()[-1] == "close,,,,,,,,")
             receipts, head = office.folder / "r.jsonl", office.folder / "h.json"
             client = office.client_of(office.who[0])
@@ -294,7 +294,7 @@ def check_whole_day(counts: Counts, args: argparse.Namespace) -> None:
     connections = ALL_CONNECTIONS if args.all else CONNECTIONS
     most = (rules.MOST_RECORDS - 2) // connections  # of each
     with running_office(args.dam, args.desk, count=connections) as office:
-        office.start()
+        office.start_and_return_seconds()
         load = OfficeLoad(office)
         took = asyncio.run(load.send_all_and_return_seconds(most, 600 if args.all else SECONDS))
         print(f"{connections} connections: {load.summary_text(took)}")
@@ -303,9 +303,9 @@ def check_whole_day(counts: Counts, args: argparse.Namespace) -> None:
         wrong = list(loads.faults_of_load(load, records, replies, read_key(office)))
         counts.check(f"no reply is lost, wrong or twice: {wrong[:3]}", not wrong and len(load.acknowledged) == len(records))
         office.kill("office", "desk")
-        again = office.start()
+        again = office.start_and_return_seconds()
         print(f"a start with {len(records)} entries: {again:.2f} s")
-        published = office.close_day()
+        published = office.close_day_and_return_seconds()
         print(f"from the close to the results: {published:.2f} s")
         check_published(counts, args, office)
         office.kill("office", "desk")
@@ -319,7 +319,7 @@ def iterate_wrong_answers_of_start(office: ServedOffice, size: int) -> Iterator[
     """The answers of an office that starts, until it is ready, which aren't those of a closed day with this number of entries."""
     who, is_ready = office.who[0], False
     while not is_ready:
-        is_ready = office.is_ready()
+        is_ready = office.probe_and_see_readiness()
         for path in (f"/days/{office.day}/head", f"/days/{office.day}/commands/{who}/1", f"/days/{office.day}/receipts/{who}"):
             with contextlib.suppress(OSError):  # it doesn't listen yet
                 status, _, data = office.send_request(path, office.bearer_header(who))
@@ -333,7 +333,7 @@ def check_week(counts: Counts, args: argparse.Namespace) -> None:
     """A second day and a new participant, while the first day is open; a new token; an office that is served twice; a start after a
     close."""
     with running_office(args.dam, args.desk) as office:
-        office.start()
+        office.start_and_return_seconds()
         first, later, who = office.day, "2099-11-30", office.who[0]
         office.client_of(who).enter(first, f"cancel,{who},A,,,,,,")
         table = office.folder.parent / "more.csv"
@@ -341,7 +341,7 @@ def check_week(counts: Counts, args: argparse.Namespace) -> None:
         words = ["--day", later, "--periods", 96, "--close", "12:00", "--participants", table, "--json"]
         made = office.run_tool("init", office.folder, *words)
         office.tokens.update(json.loads(made.stdout)["tokens"])
-        wait_until(lambda: office.send_request(f"/days/{later}")[0] == 200, 10)
+        wait_and_see_if(lambda: office.send_request(f"/days/{later}")[0] == 200, 10)
         new = office.client_of("NEW")
         counts.check("a day is added while another is open", new.enter(later, "submit,NEW,A,hour,buy,1,96:1,,")[0]["reply"] == "done")
         counts.check("days have journals of their own", [one["entries"] for one in new.days()] == [1, 1])
@@ -368,7 +368,7 @@ def check_week(counts: Counts, args: argparse.Namespace) -> None:
         )
         office.process.send_signal(signal.SIGINT)
         counts.check("an office ends at Ctrl-C", office.process.wait(SECONDS) == 0)
-        office.start()
+        office.start_and_return_seconds()
         receipts = office.client_of(who).receipts(first)
         counts.check("a closed day is served after a start", heads.parse_value_and_is_written(receipts, heads.parse_receipt)[0].head.size == 2)
         counts.check("and the other day is still open", office.client_of("NEW").enter(later, "cancel,NEW,A,,,,,,")[0]["number"] == 2)
@@ -391,7 +391,7 @@ def check_demo(counts: Counts, args: argparse.Namespace) -> None:
             gas.enter(day, "submit,GAS,UNIT-8,hour,sell,6000,8:500,,")
             described.check_answer_of_demo(counts, "post", "/days/{day}/close", gas.ask(Asked("POST", f"/days/{day}/close")))
             counts.check("a demo describes its requests", gas.get("/openapi.json") == described.DEMO)
-            wait_until(lambda: gas.days()[0]["has_statement"], step=0.05)
+            wait_and_see_if(lambda: gas.days()[0]["has_statement"], step=0.05)
             # as in the trader's guide
             counts.check("a demo has results", gas.prices(day)[7] == (8, 6_000, 800) and gas.statement(day)[0]["executed_mwh"] == 35)
         finally:
@@ -432,7 +432,7 @@ def check_published(counts: Counts, args: argparse.Namespace, office: ServedOffi
         name, *more = texts
         ran = run_tool("audit", folder / "journal.csv", folder / name, *more, *words)
         counts.check(f"the audit accepts {name}: {ran.stdout[-300:]}{ran.stderr[-300:]}", ran.returncode == 0)
-    wait_until(lambda: not call_and_see_refusal(lambda: client.statement(office.day), "NotFound"), 60, 0.1)
+    wait_and_see_if(lambda: not call_and_see_refusal(lambda: client.statement(office.day), "NotFound"), 60, 0.1)
     rows = client.statement(office.day)
     counts.check(
         "a statement has each command of the participant",
@@ -448,7 +448,7 @@ def check_routes(counts: Counts, args: argparse.Namespace) -> None:
 
     for periods in sorted(rules.DAYS):
         with running_office(args.dam, args.desk, periods=periods, day=day_of(periods)) as office:
-            office.start()
+            office.start_and_return_seconds()
             check_alerts(counts, office)
             described.check_routes(counts, office, periods)
 
@@ -462,7 +462,7 @@ def check_alerts(counts: Counts, office: ServedOffice) -> None:
 
 def check_page(counts: Counts, args: argparse.Namespace) -> None:
     if browser.find_browser_or_none() is None:
-        counts.leave_out("the page: chromium is missing")
+        counts.count_and_print_left_out("the page: chromium is missing")
         return
     from office import scene_of_page
 

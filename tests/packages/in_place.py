@@ -55,7 +55,7 @@ def check_office(counts: Counts, at: Path, folder: Path, own: dict[str, str], cl
     """The office in place runs the programs next to it, from an order to the results. Stand-ins clear nothing: they say so."""
     missing = [debian for module, debian in OF_THE_OFFICE.items() if run_command(["/usr/bin/python3", "-c", f"import {module}"])[0]]
     if missing:
-        counts.leave_out(f"the office in place: {', '.join(missing)} missing")
+        counts.count_and_print_left_out(f"the office in place: {', '.join(missing)} missing")
         return
     # other programs on the path aren't taken
     others = folder / "others"

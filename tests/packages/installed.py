@@ -95,7 +95,7 @@ def capture_release_or_none() -> tuple[str, str] | None:
     return None
 
 
-def try_debootstrap(root: str, name: str, place: str) -> list[str] | None:
+def make_system_or_return_fault(root: str, name: str, place: str) -> list[str] | None:
     """Makes the system, with the sources of packages that this machine has."""
     ran = subprocess.run(["debootstrap", "--variant=minbase", name, root, place], stdout=subprocess.PIPE, stderr=subprocess.STDOUT)
     if ran.returncode:
@@ -170,13 +170,13 @@ def check_installed(counts: Counts, package: Path, archive: Path, caller: Path) 
     found = None if missing else capture_release_or_none()
     if missing or os.geteuid() or not found:
         why = f"{', '.join(missing)} missing" if missing else "not root" if os.geteuid() else "this machine's release of Debian isn't known"
-        counts.leave_out(f"the package in a fresh system: {why}")
+        counts.count_and_print_left_out(f"the package in a fresh system: {why}")
         return
     with tempfile.TemporaryDirectory(prefix="installed-") as folder:
         root = f"{folder}/root"
-        wrong = try_debootstrap(root, *found)
+        wrong = make_system_or_return_fault(root, *found)
         if wrong is not None:
-            counts.leave_out(f"the package in a fresh system: debootstrap failed: {' '.join(wrong)}")
+            counts.count_and_print_left_out(f"the package in a fresh system: debootstrap failed: {' '.join(wrong)}")
             return
         check_in_system(counts, MinimalSystem(root), package, archive, caller)
 

@@ -29,7 +29,7 @@ from packages.making import (
     PLAIN,
     PROGRAM,
     capture_command_names,
-    compile_or_copy_stand_ins,
+    make_stand_ins,
     copy_and_commit_clone,
     make_and_check_packages,
     capture_contents,
@@ -58,8 +58,8 @@ NEEDED = ("git", "help2man", "go-md2man", "dpkg-deb", "dpkg-shlibdeps", "xz", "c
 def check_package(counts: Counts, folder: Path, given: argparse.Namespace) -> None:
     faults = [fault for fault in (sources.read_stale_text(TOP / name, crate) for name, crate in BUILT.items()) if fault]
     if faults:
-        counts.leave_out(f"the package of what was built: {faults[0]}; stand-ins take its place")
-    stand_ins = compile_or_copy_stand_ins(folder / "stand-ins", given) if faults else None
+        counts.count_and_print_left_out(f"the package of what was built: {faults[0]}; stand-ins take its place")
+    stand_ins = make_stand_ins(folder / "stand-ins", given) if faults else None
     clears = not faults or bool(given.dam and given.desk)
     one, two = folder / "one", folder / "a second place"
     for it in (one, two):
@@ -79,7 +79,7 @@ def check_package(counts: Counts, folder: Path, given: argparse.Namespace) -> No
     if clears:
         reader.check_pages(counts, rooms[0] / DEBIAN, rooms[0] / PLAIN, "bin/dam" if faults else None)
     else:
-        counts.leave_out("the commands of the pages, installed: stand-ins clear no day")
+        counts.count_and_print_left_out("the commands of the pages, installed: stand-ins clear no day")
     check_wheel(counts, one, rooms[0], files, clears=not faults)
     if not faults:
         check_traces(counts)
@@ -89,7 +89,7 @@ def check_package(counts: Counts, folder: Path, given: argparse.Namespace) -> No
     check_hostile_packages(counts, one, rooms[1])
     check_totals(counts, one, rooms[1])
     if given.install and faults:
-        counts.leave_out("the package in a fresh system: stand-ins clear no day")
+        counts.count_and_print_left_out("the package in a fresh system: stand-ins clear no day")
     elif given.install:
         installed.check_installed(counts, rooms[0] / DEBIAN, rooms[0] / PLAIN, TOP / "tests/library/caller.c")
     check_refusals(counts, one, rooms[1])
@@ -104,9 +104,9 @@ def main() -> int:
     counts = Counts()
     missing = [*(name for name in NEEDED if not shutil.which(name)), *site.find_missing_packages()]
     if missing:
-        counts.leave_out(f"the package: {', '.join(missing)} missing")
+        counts.count_and_print_left_out(f"the package: {', '.join(missing)} missing")
     elif run_command(["git", "rev-parse", "HEAD"])[0]:
-        counts.leave_out("the package: this is no clone of a repository")
+        counts.count_and_print_left_out("the package: this is no clone of a repository")
     else:
         with tempfile.TemporaryDirectory() as folder:
             check_package(counts, Path(folder).resolve(), given)

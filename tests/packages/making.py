@@ -77,7 +77,7 @@ def write_build_record(folder: Path, name: str, crate: str) -> None:
     run_command([sys.executable, "tools/lib/crates/sources.py", crate, folder.parent / "sums", folder / name], folder)
 
 
-def compile_or_copy_stand_ins(folder: Path, given: argparse.Namespace) -> Path:
+def make_stand_ins(folder: Path, given: argparse.Namespace) -> Path:
     """Compiles the stand-ins of the built files, in place of those that aren't given."""
     folder.mkdir()
     subprocess.run(["cc", STAND_IN, "-o", folder / "dam_cli"], check=True)

@@ -32,7 +32,7 @@ class PackagePlace(NamedTuple):
 def check_pages(counts: Counts, debian: Path, archive: Path, program: str | None = None) -> None:
     """The commands of each page. With a stand-in for the library, the tools run `program` of the package instead."""
     if not os.geteuid() and not shutil.which("setpriv"):
-        counts.leave_out("the commands of the pages, installed: setpriv is missing")
+        counts.count_and_print_left_out("the commands of the pages, installed: setpriv is missing")
         return
     with tempfile.TemporaryDirectory(prefix="reader-") as folder:
         room = Path(folder).resolve()
@@ -94,7 +94,7 @@ def check_page(counts: Counts, name: str, place: PackagePlace, room: Path, given
         environment = page_session.make_environment_with_browser(home, {**place.environment, **given}, place.root)
         reader = page_session.PageReader(INSTALLED, place.files / "share/doc/dam", [*place.shell, *words], environment, place.root)
         if missing := page_session.find_missing_needs(name, reader):
-            counts.leave_out(f"the commands of {name}, {place.what}: {', '.join(missing)} missing")
+            counts.count_and_print_left_out(f"the commands of {name}, {place.what}: {', '.join(missing)} missing")
             return
         subprocess.run(["chmod", "-R", "u+w", home], check=True)
         if words:
@@ -102,4 +102,4 @@ def check_page(counts: Counts, name: str, place: PackagePlace, room: Path, given
         prefix = place.environment["PREFIX"]
         asked = [*reader.shell, "test", "-w", f"{prefix}/bin", "-o", "-w", f"{prefix}/share/doc/dam"]
         counts.check(f"{name}: the user may write to the package", subprocess.run(asked).returncode == 1)
-        page_session.run_and_check_commands(counts, name, reader, own)
+        page_session.run_check_and_return_outputs(counts, name, reader, own)

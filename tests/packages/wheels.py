@@ -17,7 +17,7 @@ from shared.place import TOP
 def check_wheel(counts: Counts, folder: Path, room: Path, files: Mapping[str, bytes], clears: bool) -> None:
     """pip's wheel has the Python files of the package, and the library, which clears a day if it is no stand-in."""
     if run_command(["/usr/bin/python3", "-c", "import setuptools, wheel, pip"])[0]:
-        counts.leave_out("the wheel: python3-pip, python3-setuptools or python3-wheel is missing")
+        counts.count_and_print_left_out("the wheel: python3-pip, python3-setuptools or python3-wheel is missing")
         return
     words = ["-m", "pip", "wheel", "--quiet", "--no-index", "--no-deps", "--no-build-isolation", "--wheel-dir", room, "."]
     status, _, error = run_command(["/usr/bin/python3", *words], folder)

@@ -96,7 +96,7 @@ def write_declaration_if_missing(top: str, path: str) -> None:
             text.write(f"\n#[cfg(test)]\nmod {name};\n")
 
 
-def format_tests_or_exit(copy: str, crates: Iterable[str]) -> dict[str, str]:
+def format_and_return_changed_or_exit(copy: str, crates: Iterable[str]) -> dict[str, str]:
     """Runs `rt fmt` over the copied crates. Returns the formatted text of each file of tests that it changes, by its path."""
     for crate in crates:
         printed, status, _ = capture_output(["rt", "fmt"], f"{copy}/crates/{crate}")
@@ -213,7 +213,7 @@ def remove_and_count_tests(folder: str, is_kept: Callable[[str], bool]) -> int:
     return kept
 
 
-def try_wrong_body(name: str, command: Sequence[str]) -> Result:
+def try_and_print_wrong_body(name: str, command: Sequence[str]) -> Result:
     """Tries a wrong body and prints what its test does. Returns how many passed and failed, and the seconds of a processor."""
     with tempfile.TemporaryDirectory(prefix="tests-") as copy:
         copy_crates_and_count_tests(copy, ["out"])
@@ -268,12 +268,12 @@ def main() -> int:
         if lacking:
             sys.exit(f"tests/rattle/wrong-bodies.edit has no {', '.join(lacking)}")
         with ThreadPoolExecutor(given.jobs) as pool:
-            return print_totals_and_return_status_of(list(pool.map(lambda it: try_wrong_body(it, command), given.names or known)))
+            return print_totals_and_return_status_of(list(pool.map(lambda it: try_and_print_wrong_body(it, command), given.names or known)))
     with tempfile.TemporaryDirectory(prefix="tests-") as copy:
         # A proof begins with the work that the repository's own checks of the crates kept.
         counts = copy_crates_and_count_tests(copy, [] if given.prove else ["out"])
         if given.fmt:
-            write_and_print_formatted(format_tests_or_exit(copy, counts))
+            write_and_print_formatted(format_and_return_changed_or_exit(copy, counts))
             return 0
         lacking = [it for it in given.names if not counts.get(it)]
         if lacking:
@@ -284,6 +284,6 @@ def main() -> int:
             crates = [it for it in crates if counts[it]]
             if not crates:
                 sys.exit(f"there are no tests with {' or '.join(given.only)} in their paths")
-        formats = [] if given.names or given.only else [print_unformatted_and_return_result(format_tests_or_exit(copy, counts))]
+        formats = [] if given.names or given.only else [print_unformatted_and_return_result(format_and_return_changed_or_exit(copy, counts))]
         with ThreadPoolExecutor(1 if given.prove else given.jobs) as pool:
             return print_totals_and_return_status_of([*formats, *pool.map(lambda it: run_tests_print_and_return_result(copy, it, counts[it], command), crates)])

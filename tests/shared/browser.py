@@ -29,9 +29,9 @@ class BrowserTab:
         self.socket, self.numbers = socket, itertools.count(1)
         self.answers: dict[int, asyncio.Future[dict[str, Any]]] = {}
         self.faults: list[str] = []
-        self.reader = asyncio.create_task(self.read_messages())
+        self.reader = asyncio.create_task(self.read_and_keep_messages())
 
-    async def read_messages(self) -> None:
+    async def read_and_keep_messages(self) -> None:
         async for message in self.socket:
             value = json.loads(message.data)
             if "id" in value:
@@ -63,14 +63,14 @@ class BrowserTab:
         """Waits until an expression is true, also while another page is opened."""
         with contextlib.suppress(asyncio.TimeoutError):
             async with asyncio.timeout(WAIT_SECONDS):
-                while not await self.is_true(script):
+                while not await self.evaluate_and_see(script):
                     await asyncio.sleep(STEP)
                 return
         raise AssertionError(
             f"it never is so: {script}; the page says: {await self.evaluate('document.getElementById(`message`)?.textContent')}"
         )
 
-    async def is_true(self, script: str) -> bool:
+    async def evaluate_and_see(self, script: str) -> bool:
         try:
             return await self.evaluate(f"Boolean({script})")
         except RuntimeError as fault:

@@ -108,9 +108,9 @@ class CaseReader:
             for row in parse_rows([it for it in parts if it.kind == "table"]):
                 its = [it.with_cells(row) for it in parts if it.kind != "table"]
                 its += [it for it in usual if it.kind not in {own.kind for own in its}]
-                self.add_case(number, with_cells_of_row(number, name, row), its)
+                self.read_and_add_case(number, with_cells_of_row(number, name, row), its)
 
-    def add_case(self, number: int, name: str, parts: Sequence[Part]) -> None:
+    def read_and_add_case(self, number: int, name: str, parts: Sequence[Part]) -> None:
         kinds = [it.kind for it in parts]
         twice = [it for it in kinds if kinds.count(it) > 1 and it not in STREAMS or {f"{it} begins", f"{it} ends"} & {*kinds}]
         if twice or name in self.found or "args" not in kinds:
@@ -120,10 +120,10 @@ class CaseReader:
             raise CaseFault(number, f"the status of {name} is no number: {values['status']}")
         runs = [line.split() for it in parts if it.kind == "runs" for at, text in it.lines for line in parse_repeats(at, text)]
         stdin = [self.read_text_of(it) for it in parts if it.kind == "stdin"] or [b""]
-        out, error = (self.parse_expected(stream, parts) for stream in STREAMS)
+        out, error = (self.read_expected(stream, parts) for stream in STREAMS)
         self.found[name] = Case(f"{self.file}/{name}", values["args"].split(), runs or [[]], stdin[0], out, error, int(values["status"]))
 
-    def parse_expected(self, stream: str, parts: Iterable[Part]) -> Expected:
+    def read_expected(self, stream: str, parts: Iterable[Part]) -> Expected:
         its = [(it.kind, self.read_text_of(it)) for it in parts if it.kind.split()[0] == stream]
         texts, ends = [text for kind, text in its if kind == stream], dict(its)
         return Expected(texts or [b""], ends.get(f"{stream} begins", b""), ends.get(f"{stream} ends", b""))

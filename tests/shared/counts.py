@@ -11,7 +11,7 @@ class Counts:
         if not is_right:
             print(f"differs: {about}", flush=True)
 
-    def leave_out(self, about: str, count: int = 1) -> None:
+    def count_and_print_left_out(self, about: str, count: int = 1) -> None:
         self.skipped += count
         print(f"left out: {about}", flush=True)
 

@@ -30,7 +30,7 @@ class OfficeLoad:
         self.acknowledged: list[tuple[str, int, JsonObject]] = []
         self.seconds: list[float] = []
 
-    async def send_commands(self, who: str, count: int, until: float) -> None:
+    async def send_commands_and_keep_receipts(self, who: str, count: int, until: float) -> None:
         rng, live = random.Random(f"{self.seed} {who}"), list[str]()
         async with self.office.asynchronous_client_of(who) as client:
             for number in range(1, count + 1):
@@ -38,12 +38,12 @@ class OfficeLoad:
                 began = time.perf_counter()
                 if began > until:
                     return
-                (receipt,) = await self.send_until_entered(client, line)
+                (receipt,) = await self.send_and_return_receipts(client, line)
                 self.seconds.append(time.perf_counter() - began)
                 assert receipt["record"] == line, receipt
                 self.acknowledged.append((who, number, receipt))
 
-    async def send_until_entered(self, client: AsyncOffice, line: str) -> list[JsonObject]:
+    async def send_and_return_receipts(self, client: AsyncOffice, line: str) -> list[JsonObject]:
         """The receipts of commands, which are sent until these come: the office may be down for long."""
         while True:
             try:
@@ -55,7 +55,7 @@ class OfficeLoad:
     async def send_all_and_return_seconds(self, count: int, seconds: float = 600) -> float:
         """Sends that many commands of each participant, or as many as there is time for. Returns the seconds that it took."""
         began = time.perf_counter()
-        await asyncio.gather(*(self.send_commands(who, count, began + seconds) for who in self.office.who))
+        await asyncio.gather(*(self.send_commands_and_keep_receipts(who, count, began + seconds) for who in self.office.who))
         return time.perf_counter() - began
 
     def summary_text(self, took: float) -> str:

@@ -187,7 +187,7 @@ def is_line(line: str, wanted: str) -> bool:
     return line.startswith(wanted.removesuffix(CUT)) if wanted.endswith(CUT) else line == wanted
 
 
-def run_and_check_commands(counts: Counts, name: str, reader: PageReader, room: Path) -> dict[str, str]:
+def run_check_and_return_outputs(counts: Counts, name: str, reader: PageReader, room: Path) -> dict[str, str]:
     """Runs the commands of a page in the folder home of a room, and checks each block. Returns the outputs by the quoted ones."""
     try:
         made = list(steps_or_raise(name, (reader.pages / name).read_text(encoding="utf-8"), reader.form))

@@ -25,7 +25,7 @@ def read_processor_time() -> float:
     return sum(used.ru_utime + used.ru_stime for used in both)
 
 
-def wait_until(holds: Callable[[], object], seconds: float = 20, step: float = 0.02) -> bool:
+def wait_and_see_if(holds: Callable[[], object], seconds: float = 20, step: float = 0.02) -> bool:
     """Whether something holds within these seconds."""
     end = time.monotonic() + seconds
     while not (found := holds()) and time.monotonic() < end:

@@ -71,11 +71,11 @@ class ServedOffice:
     def files(self) -> Path:
         return self.folder / "days" / self.day
 
-    def start(self) -> float:
+    def start_and_return_seconds(self) -> float:
         """Serves the office, and returns the seconds until the day takes commands."""
         began = time.monotonic()
         self.start_process()
-        while not self.is_ready():
+        while not self.probe_and_see_readiness():
             if self.process.poll() is not None or time.monotonic() - began > START_SECONDS:
                 raise RuntimeError(f"the office doesn't start: {self.log.read_text()[-2_000:]}")
             time.sleep(STEP)
@@ -89,18 +89,18 @@ class ServedOffice:
     def start_and_see_readiness(self) -> bool:
         """Serves the office, and returns whether the day takes commands, or its log says that it is stopped."""
         self.start_process()
-        while not (self.is_ready() or b'"stopped"' in self.log.read_bytes() and self.is_listening()):
+        while not (self.probe_and_see_readiness() or b'"stopped"' in self.log.read_bytes() and self.probe_and_see_listening()):
             if self.process.poll() is not None:
                 raise RuntimeError(f"the office doesn't start: {self.log.read_text()[-2_000:]}")
             time.sleep(STEP)
-        return self.is_ready()
+        return self.probe_and_see_readiness()
 
-    def is_listening(self) -> bool:
+    def probe_and_see_listening(self) -> bool:
         with contextlib.suppress(OSError), socket.create_connection(("127.0.0.1", self.port)):
             return True
         return False
 
-    def is_ready(self) -> bool:
+    def probe_and_see_readiness(self) -> bool:
         try:
             return self.send_request("/healthz")[0] == 200
         except OSError:
@@ -159,7 +159,7 @@ class ServedOffice:
         shown = subprocess.run([self.environment["DAM_DESK"], "--journal", self.files / "desk"], capture_output=True, check=True)
         return shown.stdout.decode().splitlines()[1:]
 
-    def close_day(self) -> float:
+    def close_day_and_return_seconds(self) -> float:
         """Closes the day, and returns the seconds until the results are published."""
         began = time.monotonic()
         (self.files / "close-now").touch()

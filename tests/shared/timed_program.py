@@ -32,7 +32,7 @@ class TimedProgram:
         with open_in_memory(data) as stdin, open_in_memory() as stdout, open_in_memory() as stderr:
             ran = subprocess.Popen([self.path, *words], stdin=stdin, stdout=stdout, stderr=stderr, close_fds=False, env=self.environment)
             try:
-                wait_for_end(ran.pid, self.seconds)
+                wait_and_see_end(ran.pid, self.seconds)
             finally:
                 status = ran.poll()
                 if status is None:
@@ -60,7 +60,7 @@ def read_contents(file: BinaryIO) -> bytes:
     return file.read()
 
 
-def wait_for_end(pid: int, seconds: float) -> bool:
+def wait_and_see_end(pid: int, seconds: float) -> bool:
     """Waits until a process has ended, for at most this number of seconds: whether it has."""
     process = os.pidfd_open(pid)
     try:

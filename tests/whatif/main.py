@@ -118,7 +118,7 @@ def check_full(counts: Counts, program: str) -> None:
     assert isinstance(cleared, bytes), cleared
     day = day_files.Day.of_text(journal.parse_journal(data), cleared)
     os.environ["DAM"] = program
-    said = limits.capture_rejected_sentences(day)
+    said = limits.capture_rejected_sentences_and_print_notes(day)
     rejected = [place for place in range(len(day.problem.blocks)) if place not in day.published.accepted]
     counts.check(f"a full book: limits of {len(said)} blocks, {len(rejected)} are rejected", list(said) == rejected != [])
     for place, words in said.items():

@@ -23,7 +23,7 @@ GONE = "proofs/{name}/Answers.antt:1:1: error: `right` is not in scope"
 class StandInTrial(Trial):
     """A trial whose check refuses a function with `wrong` in its body, and lists the methods of `Tree` under the module `tree`."""
 
-    def run_check(self, what):
+    def run_and_print_check(self, what):
         self.checks += 1
         self.tried = [*getattr(self, "tried", []), what]
         os.makedirs(self.out, exist_ok=True)

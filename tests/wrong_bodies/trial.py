@@ -32,7 +32,7 @@ class Trial:
 
     def __enter__(self) -> Trial:
         """Proves the crate as it stands, or sees that it is proved, and sets that work aside."""
-        report = self.run_check("as it stands")
+        report = self.run_and_print_check("as it stands")
         shutil.rmtree(self.aside, ignore_errors=True)
         if not report.is_proved:
             raise NotProved("\n".join(report.lines[-20:]))
@@ -147,12 +147,12 @@ class Trial:
         try:
             for path, text in texts.items():
                 write_text(f"{self.folder}/{path}", text)
-            return self.run_check(what)
+            return self.run_and_print_check(what)
         finally:
             for path, text in right.items():
                 write_text(f"{self.folder}/{path}", text)
 
-    def run_check(self, what: str) -> CheckReport:
+    def run_and_print_check(self, what: str) -> CheckReport:
         """Checks the crate as its files are now, and says how long that took."""
         began, before = time.time(), read_processor_time()
         printed = subprocess.run(

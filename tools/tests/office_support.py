@@ -70,7 +70,7 @@ class DeskInMemory:
     async def wait_for_end(self):
         await self.end.wait()
 
-    async def wait_for_fault(self):
+    async def wait_and_return_fault(self):
         return DeskEnded("as planned")
 
     async def end_or_kill(self):

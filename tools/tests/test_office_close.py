@@ -292,7 +292,7 @@ class Closing(Office):
             said = []
             with (
                 mock.patch.multiple(operator_commands, CLOSE_SECONDS=0.2, TELL_SECONDS=0.02, STEP=0.001),
-                mock.patch.object(self.office, "is_served", lambda: served),
+                mock.patch.object(self.office, "hold_and_see_if_served", lambda: served),
                 mock.patch.object(files, "write_trial_or_raise", mock.Mock(side_effect=room)),
                 mock.patch.object(exits, "print_note", lambda _, line: said.append(line)),
             ):

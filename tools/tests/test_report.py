@@ -217,7 +217,7 @@ class Page(unittest.TestCase):
         """As the page of the day does, with amounts written alike."""
         day, whys = day_of(AUCTION.read_bytes(), read_results(AUCTION)), []
         place = next(place for place, block in enumerate(day.problem.blocks) if block.name == "UNIT-7")
-        with unittest.mock.patch("lib.whatif.limits.capture_rejected_sentences", lambda *_: {place: "With a limit of 92.00 EUR/MWh."}):
+        with unittest.mock.patch("lib.whatif.limits.capture_rejected_sentences_and_print_notes", lambda *_: {place: "With a limit of 92.00 EUR/MWh."}):
             for who in (None, "OLD"):
                 page = importlib.import_module("lib.report.page").capture_day_page(day, "day", [], None, who)
                 whys.append(re.search(r"[^>]*With a limit of 92.00 EUR/MWh[^<]*", page)[0].strip())

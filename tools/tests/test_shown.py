@@ -48,7 +48,7 @@ class Scenes(unittest.TestCase):
             (room / "home").mkdir()
             (room / "page.md").write_text(page)
             reader = page_session.PageReader(form, room, [], page_session.make_environment_with_browser(room / "home", {"PATH": "/usr/bin:/bin"}))
-            page_session.run_and_check_commands(counts, "page.md", reader, room)
+            page_session.run_check_and_return_outputs(counts, "page.md", reader, room)
         return counts.passed, counts.failed
 
     def test_each_text_is_on_its_page(self):

@@ -163,7 +163,7 @@ class Page(unittest.TestCase):
         day = support.day_of(data, results or support.results_of(data, best(data)))
         told = unittest.mock.patch.object(exits, "print_note", lambda _, line: self.notes.append(line))
         with unittest.mock.patch.object(engine, "clear_and_return_output_or_fault", output), told:
-            return limits.capture_rejected_sentences(day, *words)
+            return limits.capture_rejected_sentences_and_print_notes(day, *words)
 
     def setUp(self):
         self.notes = []

@@ -123,8 +123,8 @@ class Formulas(OrderOfWorkbook):
 
     def test_a_match_across_parts_that_are_read_at_once(self):
         data = made.archive_bytes({"a": b" " * (limits.CHUNK - 3) + b"TODAY()"})
-        self.assertTrue(package.Package(data).has_match("A", formulas.IN_BYTES))
-        self.assertFalse(package.Package(data).has_match("b", formulas.IN_BYTES))
+        self.assertTrue(package.Package(data).read_and_see_match("A", formulas.IN_BYTES))
+        self.assertFalse(package.Package(data).read_and_see_match("b", formulas.IN_BYTES))
 
     def test_brackets_that_are_not_closed(self):
         """Excel writes none. The rest of the formula is read once, and counts as it is."""

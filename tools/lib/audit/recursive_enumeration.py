@@ -74,7 +74,7 @@ class Search:
         self.best: Selection | None = None
         self.tried = 0
 
-    def try_all(self) -> Selection:
+    def search_all(self) -> Selection:
         net = dict.fromkeys(self.curves, 0)
         self.search_and_keep_best(0, frozenset(), {}, net, {number: curve.welfare_at(0) for number, curve in self.curves.items()}, 0)
         assert self.best is not None  # without any block each period balances
@@ -133,7 +133,7 @@ def search_recursively(problem: selection.Problem, progress: Progress | None = N
     search = Search(problem, progress)
     if progress:
         progress.add_expected_steps(2 ** len(problem.blocks))
-    best = search.try_all()
+    best = search.search_all()
     if selection.eligible_welfare(problem, best.accepted) != best.welfare:
         raise AssertionError(f"the selection {sorted(best.accepted)} is not eligible with the welfare that the search gave it")
     return best, tried_text(len(problem.blocks), search.tried)

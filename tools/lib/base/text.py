@@ -94,7 +94,7 @@ def place_of_open_quote(text: bytes, comma: bytes = b",") -> int | None:
     return None
 
 
-def parse_number(text: bytes, least: int, greatest: int) -> int | None:
+def number_or_none(text: bytes, least: int, greatest: int) -> int | None:
     """The number that a text is: decimal, without leading zeros, with a `-` if it is below zero. None for any other text."""
     if not NUMBER.fullmatch(text):
         return None
@@ -102,33 +102,33 @@ def parse_number(text: bytes, least: int, greatest: int) -> int | None:
     return value if least <= value <= greatest else None
 
 
-def parse_price(text: bytes) -> int | None:
-    return parse_number(text, rules.LOWEST_PRICE, rules.HIGHEST_PRICE)
+def price_or_none(text: bytes) -> int | None:
+    return number_or_none(text, rules.LOWEST_PRICE, rules.HIGHEST_PRICE)
 
 
-def parse_volume(text: bytes) -> int | None:
-    return parse_number(text, 1, rules.GREATEST_VOLUME)
+def volume_or_none(text: bytes) -> int | None:
+    return number_or_none(text, 1, rules.GREATEST_VOLUME)
 
 
-def parse_volumes(text: bytes) -> tuple[tuple[int, int], ...] | None:
+def volumes_or_none(text: bytes) -> tuple[tuple[int, int], ...] | None:
     """Pairs `period:volume`, separated by `;`, by increasing period. None for any other text."""
     pairs: list[tuple[int, int]] = []
     if text.count(b";") >= rules.GREATEST_PERIOD:
         return None
     for pair in text.split(b";"):
         before, colon, after = pair.partition(b":")
-        period, volume = parse_number(before, 1, rules.GREATEST_PERIOD), parse_volume(after)
+        period, volume = number_or_none(before, 1, rules.GREATEST_PERIOD), volume_or_none(after)
         if not colon or period is None or volume is None or pairs and period <= pairs[-1][0]:
             return None
         pairs.append((period, volume))
     return tuple(pairs)
 
 
-def parse_participant(text: bytes) -> str | None:
+def participant_or_none(text: bytes) -> str | None:
     return text.decode() if PARTICIPANT.fullmatch(text) else None
 
 
-def parse_name(text: bytes) -> str | None:
+def name_or_none(text: bytes) -> str | None:
     return text.decode() if NAME.fullmatch(text) else None
 
 

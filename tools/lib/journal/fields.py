@@ -56,12 +56,12 @@ def name_parser(allowed: str, parser: Callable[[bytes], str | None]) -> Callable
     return parse
 
 
-participant_and_advice = name_parser(f"1 to {rules.LONGEST_PARTICIPANT} capitals A to Z", text.parse_participant)
-order_name_and_advice = name_parser(text.A_NAME, text.parse_name)
+participant_and_advice = name_parser(f"1 to {rules.LONGEST_PARTICIPANT} capitals A to Z", text.participant_or_none)
+order_name_and_advice = name_parser(text.A_NAME, text.name_or_none)
 
 
 def price_and_advice(field: str) -> tuple[int | None, str | None]:
-    if field.isascii() and text.parse_price(field.encode()) is not None:
+    if field.isascii() and text.price_or_none(field.encode()) is not None:
         return int(field), None
     allowed = f"it should be whole cents per MWh from {rules.LOWEST_PRICE} to {rules.HIGHEST_PRICE}"
     return number_and_advice(field, allowed, 100, "EUR/MWh", rules.LOWEST_PRICE, rules.HIGHEST_PRICE)
@@ -89,9 +89,9 @@ def pair_and_advice(pair: str) -> tuple[tuple[int, int] | None, str | None]:
         return None, f"{text.quoted(pair)} should be period:volume, such as 8:450"
     if re.fullmatch(r"[0-9]+-[0-9]+", number):
         return None, f"{text.quoted(pair)} has a range of periods: write a pair for each, such as 8:450;9:450"
-    if text.parse_number(number.encode(), 1, rules.GREATEST_PERIOD) is None:
+    if text.number_or_none(number.encode(), 1, rules.GREATEST_PERIOD) is None:
         return None, f"{text.quoted(number)} in {text.quoted(pair)} should be a period from 1 to {rules.GREATEST_PERIOD}"
-    if volume.isascii() and text.parse_volume(volume.encode()) is not None:
+    if volume.isascii() and text.volume_or_none(volume.encode()) is not None:
         pair_now = int(number), int(volume)
         return pair_now, None if pair == f"{number}:{volume}" else f"{text.quoted(pair)} has a space: write {number}:{volume}"
     allowed = f"{text.quoted(volume)} in {text.quoted(pair)} should be whole tenths of a MW from 1 to {rules.GREATEST_VOLUME}"
@@ -101,7 +101,7 @@ def pair_and_advice(pair: str) -> tuple[tuple[int, int] | None, str | None]:
 
 def volumes_and_advice(field: str) -> tuple[Volumes | None, str | None]:
     """Pairs by increasing period: all that is wrong with them."""
-    if field.isascii() and (volumes := text.parse_volumes(field.encode())) is not None:
+    if field.isascii() and (volumes := text.volumes_or_none(field.encode())) is not None:
         return volumes, None
     if not field:
         return None, "it should be period:volume, such as 8:450, or several, such as 8:450;9:450"

@@ -8,7 +8,7 @@ from ..base import rules, text
 
 Volumes = tuple[tuple[int, int], ...]  # pairs of a period and tenths of a MW, by increasing period
 Key = tuple[str, str]  # the participant and the name of an order
-NAMES_OF_ORDER = text.parse_participant, text.parse_name  # the parsers of the first two fields of a command
+NAMES_OF_ORDER = text.participant_or_none, text.name_or_none  # the parsers of the first two fields of a command
 
 
 class Order(NamedTuple):
@@ -88,20 +88,20 @@ def parse_journal(data: bytes) -> Journal:
     return Journal(periods, commands)
 
 
-def parse_empty(field: bytes) -> str | None:
+def empty_or_none(field: bytes) -> str | None:
     return "" if field == b"" else None
 
 
-def parse_optional_name(field: bytes) -> str | None:
-    return "" if field == b"" else text.parse_name(field)
+def optional_name_or_none(field: bytes) -> str | None:
+    return "" if field == b"" else text.name_or_none(field)
 
 
 def word_parser(*words: str) -> Callable[[bytes], str | None]:
     return lambda field: field.decode() if field.decode() in words else None
 
 
-def parse_one_volume(field: bytes) -> Volumes | None:
-    pairs = text.parse_volumes(field)
+def one_volume_or_none(field: bytes) -> Volumes | None:
+    pairs = text.volumes_or_none(field)
     return pairs if pairs and len(pairs) == 1 else None
 
 
@@ -110,7 +110,7 @@ def parse_fields(fields: list[bytes], *parsers: Callable[[bytes], object]) -> li
     that breaks its rule is the record's fault."""
     values = []
     for at in range(1, 9):
-        parser = parsers[at - 1] if at <= len(parsers) else parse_empty
+        parser = parsers[at - 1] if at <= len(parsers) else empty_or_none
         value = parser(fields[at])
         if value is None:
             raise BadField(at + 1)
@@ -127,14 +127,14 @@ def parse_command(fields: list[bytes]) -> Command:
     kind = fields[0]
     if kind == b"submit":
         # The fields up to the fourth say how the ones after it are read.
-        behind: list[Callable[[bytes], object]] = [parse_one_volume, parse_empty, parse_empty]
+        behind: list[Callable[[bytes], object]] = [one_volume_or_none, empty_or_none, empty_or_none]
         if fields[3] != b"hour":
-            behind = [text.parse_volumes, parse_optional_name, parse_optional_name]
+            behind = [text.volumes_or_none, optional_name_or_none, optional_name_or_none]
         words = word_parser("hour", "block"), word_parser("buy", "sell")
-        who, name, *order = parse_fields(fields, *NAMES_OF_ORDER, *words, text.parse_price, *behind)
+        who, name, *order = parse_fields(fields, *NAMES_OF_ORDER, *words, text.price_or_none, *behind)
         return Submit(who, name, Order(*order))
     if kind == b"amend":
-        parsers = parse_empty, parse_empty, text.parse_price, text.parse_volumes
+        parsers = empty_or_none, empty_or_none, text.price_or_none, text.volumes_or_none
         who, name, _, _, price, volumes = parse_fields(fields, *NAMES_OF_ORDER, *parsers)
         return Amend(who, name, price, volumes)
     if kind == b"cancel":

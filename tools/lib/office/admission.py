@@ -35,7 +35,7 @@ class Admission:
         """The participant whose token the request has, and whose name its path has; all others are refused alike."""
         who = request.match_info["who"]
         try:
-            is_authorized = self.is_authorized(request)
+            is_authorized = self.read_and_see_authorization(request)
         except folder.UNREADABLE:
             raise unread_tokens_refusal() from None
         if not is_authorized:
@@ -44,7 +44,7 @@ class Admission:
             raise Refused(RequestFault.TOKEN, "the token isn't of this participant")
         return who
 
-    def is_authorized(self, request: web.Request) -> bool:
+    def read_and_see_authorization(self, request: web.Request) -> bool:
         """Whether the token is the participant's now."""
         scheme, _, token = request.headers.get("Authorization", "").partition(" ")
         known = self.office.register.read_and_see_if_token_of(request.match_info["who"], token)

@@ -177,7 +177,7 @@ class DayWriter:
         while not self.ledger.is_closed:
             size = self.ledger.size
             try:
-                desk, watching = await self.open_desk()
+                desk, watching = await self.start_desk_and_watch()
                 while not self.ledger.is_closed:
                     await self.wait_for_commands_or_raise(desk, watching)
                     self.queue.make_batch_and_answer_others(self.ledger)
@@ -206,7 +206,7 @@ class DayWriter:
             await self.queue.wake.wait()
         if watching.done():
             watching.result()
-            raise await desk.wait_for_fault()
+            raise await desk.wait_and_return_fault()
 
     async def watch_desk(self, desk: Desk) -> None:
         """Wakes the writer once the desk has ended. After a batch wasn't entered, looks whether the disk has room again, unless a command
@@ -225,7 +225,7 @@ class DayWriter:
             await asyncio.to_thread(self.files.write_trial_or_raise)
             self.trouble = None
 
-    async def open_desk(self) -> tuple[Desk, asyncio.Task[None]]:
+    async def start_desk_and_watch(self) -> tuple[Desk, asyncio.Task[None]]:
         """Starts a desk, which has the day's journal, and a task that watches it."""
         began = time.monotonic()
         path = str(self.files.path_of(folder.DESK))

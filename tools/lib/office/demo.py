@@ -44,7 +44,7 @@ ORDERS = GUIDE + [
 PARTICIPANTS = ("GAS", "TOWN", "WIND", "RIVER", "OIL")
 
 
-def demo_terms(seconds: int) -> folder.Terms:
+def demo_terms_from_now(seconds: int) -> folder.Terms:
     now = datetime.datetime.now(datetime.timezone.utc)
     return folder.Terms(
         (now + DAY_AFTER).date().isoformat(),
@@ -73,7 +73,7 @@ async def serve_demo(args: argparse.Namespace, programs: Programs) -> None:
         setup.make_office(office)
         register = tokens.Register(office.path_of(folder.PARTICIPANTS))
         made = {who: register.write_and_return_new_token(who) for who in PARTICIPANTS}
-        day = demo_terms(args.seconds)
+        day = demo_terms_from_now(args.seconds)
         setup.make_day_or_stop(office, day)
         served = Office(office, programs, monitoring.Log())
 

@@ -104,14 +104,14 @@ class Desk:
             try:
                 data = await self.output.readuntil(ANSWER_TO_EMPTY_LINE)
             except (asyncio.IncompleteReadError, asyncio.LimitOverrunError):
-                raise await self.wait_for_fault() from None
+                raise await self.wait_and_return_fault() from None
         return data.removesuffix(ANSWER_TO_EMPTY_LINE).decode("ascii").splitlines()
 
     async def wait_for_end(self) -> None:
         """Waits until the desk has ended."""
         await self.process.wait()
 
-    async def wait_for_fault(self) -> DeskEnded:
+    async def wait_and_return_fault(self) -> DeskEnded:
         err = await self.errors.read(async_child.MOST_FAULT)
         status = await self.process.wait()
         kind = Locked if LOCKED_WORDS in err else DeskEnded
@@ -132,7 +132,7 @@ class Desk:
             for _ in records:
                 data = await self.output.readline()
                 if not data.endswith(b"\n"):
-                    raise await self.wait_for_fault()
+                    raise await self.wait_and_return_fault()
                 yield self.parse_and_count_reply(data[:-1].decode("ascii"))
 
     async def end_or_kill(self) -> None:

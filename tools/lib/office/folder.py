@@ -66,7 +66,7 @@ def parse_terms(data: bytes, day: str) -> Terms:
     for name in [*Terms._fields, *value]:
         if name not in value or name not in Terms._fields:
             raise OddFile(f"{text.quoted(name)} is {'missing' if name not in value else 'no member of it'}")
-    closes = parse_close(value["closes"])
+    closes = close_or_none(value["closes"])
     for name, is_right, should in (
         ("day", value["day"] == day, f"the name of its folder, {day}"),
         ("periods", type(value["periods"]) is int and value["periods"] in rules.DAYS, f"one of {', '.join(map(str, sorted(rules.DAYS)))}"),
@@ -86,7 +86,7 @@ def parse_whole_number(digits: str) -> float:
     return int(digits) if len(digits) <= MOST_DIGITS else float(digits)
 
 
-def parse_close(word: object) -> datetime.datetime | None:
+def close_or_none(word: object) -> datetime.datetime | None:
     """The time of a close; None for any other value."""
     with contextlib.suppress(ValueError):
         if isinstance(word, str) and (found := datetime.datetime.fromisoformat(word)).utcoffset() == datetime.timedelta(0):
@@ -96,7 +96,7 @@ def parse_close(word: object) -> datetime.datetime | None:
 
 def refuse_shares(shares: dict[str, Json]) -> None:
     for who, share in shares.items():
-        if text.parse_participant(who.encode(errors="replace")) is None:
+        if text.participant_or_none(who.encode(errors="replace")) is None:
             raise OddFile(f"shares: {text.quoted(who)} should be {text.A_PARTICIPANT}")
         if type(share) is not int or not 0 <= share <= MOST_COMMANDS:
             raise OddFile(f"shares: {who} should have a whole number from 0 to {MOST_COMMANDS:,}, and has {shown_value(share)}")
@@ -281,7 +281,7 @@ class Folder(NamedFiles):
         finally:
             os.close(number)
 
-    def is_served(self) -> bool:
+    def hold_and_see_if_served(self) -> bool:
         try:
             with self.holding():
                 return False

@@ -73,7 +73,7 @@ class ParticipantAnswers:
         self, writer: DayWriter, who: str, first: int, commands: list[Command], request: web.Request
     ) -> list[int]:
         """The numbers of the entries of commands, once they are on the disk. A token that was revoked by then enters nothing more."""
-        done = writer.submit_or_refuse(who, first, commands, lambda: self.admission.is_authorized(request))
+        done = writer.submit_or_refuse(who, first, commands, lambda: self.admission.read_and_see_authorization(request))
         await asyncio.wait((done,), timeout=ANSWER_SECONDS)
         if not done.done():
             raise Refused(RequestFault.UNAVAILABLE, "the desk hasn't answered yet: send the same command again", seconds=1)

@@ -111,7 +111,7 @@ class PublicAnswers:
         """The made-up participants of a demo, with their tokens: they guard nothing."""
         return web.json_response({"participants": self.demo})
 
-    async def close_demo_day(self, request: web.Request) -> web.Response:
+    async def begin_close_and_answer(self, request: web.Request) -> web.Response:
         writer = self.admission.require_writer(request)
         self.admission.refuse_stranger_to_demo(request)
         writer.begin_close()

@@ -72,7 +72,7 @@ class Web:
         post(f"{DAY}/tables{OWN}", own.answer_table)
         if public.demo:
             get("/demo", public.answer_demo_tokens)
-            post(f"{DAY}/close", public.close_demo_day)
+            post(f"{DAY}/close", public.begin_close_and_answer)
         return app
 
     async def add_headers(self, request: web.Request, response: web.StreamResponse) -> None:

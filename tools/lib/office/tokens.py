@@ -35,7 +35,7 @@ def parse_digests(data: bytes) -> dict[str, str | None]:
         raise ValueError
     for who, digest in value.items():
         is_digest = digest is None or DIGEST.fullmatch(digest) is not None
-        if not (is_digest and text.parse_participant(who.encode(errors="replace"))):
+        if not (is_digest and text.participant_or_none(who.encode(errors="replace"))):
             raise ValueError
     return value
 

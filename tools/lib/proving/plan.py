@@ -72,16 +72,16 @@ def read_probable_seconds(crates: Crates) -> dict[str, float]:
     seconds: dict[str, float] = {}
     dates: dict[str, float] = {}
 
-    def date(name: str) -> float:
+    def read_date(name: str) -> float:
         if name not in dates:
-            dates[name] = max([0, *map(os.path.getmtime, list_source_files(name)), *map(date, crates[name])])
+            dates[name] = max([0, *map(os.path.getmtime, list_source_files(name)), *map(read_date, crates[name])])
         return dates[name]
 
     for name in crates:
         size = sum(os.path.getsize(it) for it in list_source_files(name) if not it.startswith(f"{CRATES}/{name}/proofs/"))
         seconds[name] = SECONDS.get(name, 1 + SECONDS_EACH * size)
         built = f"{CRATES}/{name}/out/rlib"
-        if os.path.isdir(built) and os.path.getmtime(built) >= date(name):
+        if os.path.isdir(built) and os.path.getmtime(built) >= read_date(name):
             seconds[name] = min(seconds[name], SECONDS_BUILT)
         elif os.path.isdir(f"{CRATES}/{name}/out/incremental"):
             seconds[name] = min(seconds[name], SECONDS_KEPT)

@@ -88,12 +88,12 @@ class OperatorStatements:
         self.key, self.signed = key, Signed()
         later: dict[Head, set[Head]] = defaultdict(set)  # of each head, those that begin with it
         for path in paths:
-            extension = self.read_value(path, heads.parse_extension, "an extension", findings)
+            extension = self.read_value_or_add_finding(path, heads.parse_extension, "an extension", findings)
             if extension is not None and self.add_if_valid_and_see(path, extension, findings):
                 later[unsigned(extension.old)].add(unsigned(extension.new))
         self.earlier = longest_beginnings(later)
 
-    def read_value(self, path: str, read: Callable[[Json], AValue], name: str, findings: list[Finding]) -> AValue | None:
+    def read_value_or_add_finding(self, path: str, read: Callable[[Json], AValue], name: str, findings: list[Finding]) -> AValue | None:
         """The value in a file of one line. If there is none, `findings` gets that, and the other files are judged."""
         try:
             return read_value_and_note(path, read, name, findings)

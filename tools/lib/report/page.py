@@ -100,7 +100,7 @@ def capture_day_page(
     """The page of a day, or of a participant's part of it, with the curves of some periods, and the date of delivery if it is known; with
     the limits that rejected blocks needed, or without them."""
     found = decisions.decisions(day.problem, day.published.accepted, day.outcome)
-    needed = limits.capture_rejected_sentences(day, who, with_limits)  # before the curves, whose processes are copies of this one
+    needed = limits.capture_rejected_sentences_and_print_notes(day, who, with_limits)  # before the curves, whose processes are copies of this one
     with rendering_curves(day, curves) as drawn_curves:
         parts = list(render_own_sections(day, who, needed, drawn_curves) if who else render_sections(day, found, needed, drawn_curves))
     return read_and_render(

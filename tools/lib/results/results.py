@@ -47,8 +47,8 @@ def journal_and_results(data: bytes) -> tuple[bytes, bytes] | None:
 OTHER_NUMBER = re.compile(rb"[+-]?[0-9]{1,16}")
 
 
-def parse_number(field: bytes) -> int | None:
-    return text.parse_number(field, -LARGE, LARGE)
+def number_or_none(field: bytes) -> int | None:
+    return text.number_or_none(field, -LARGE, LARGE)
 
 
 def expected_lines(problem: Problem) -> Iterator[ExpectedLine]:
@@ -69,7 +69,7 @@ def line_values(line: bytes, known: list[str], forms: list[str]) -> list[int] | 
         return None
     values = []
     for field, form in zip(fields[len(known) :], forms):
-        value = {b"accepted": True, b"rejected": False}.get(field) if form == DECISION else parse_number(field)
+        value = {b"accepted": True, b"rejected": False}.get(field) if form == DECISION else number_or_none(field)
         if value is None:
             return None
         values.append(value)
@@ -162,7 +162,7 @@ def form_text(about: str, line: bytes, known: list[str], forms: list[str]) -> st
     fields = line.split(b",")
     if len(fields) == len(known) + len(forms):
         for field, form in zip(fields[len(known) :], forms):
-            if form == NUMBER and parse_number(field) is None and OTHER_NUMBER.fullmatch(field):
+            if form == NUMBER and number_or_none(field) is None and OTHER_NUMBER.fullmatch(field):
                 return f"{about}: {text.quoted(field)} isn't a number as dam writes it: no +, no leading zeros, no -0"
     return f"{about} should be '{','.join(known + forms)}' and is {text.quoted(line)}"
 

@@ -13,7 +13,7 @@ from . import file_io
 
 
 def parse_participant(word: str) -> str:
-    if text.parse_participant(word.encode(errors="surrogateescape")) is None:
+    if text.participant_or_none(word.encode(errors="surrogateescape")) is None:
         raise argparse.ArgumentTypeError(f"{text.quoted(word)} should be {text.A_PARTICIPANT}")
     return word
 

@@ -225,7 +225,7 @@ def capture_short_sentence(search: LimitSearch) -> str:
     return f"With a limit of {text.shown_price(limit)} EUR/MWh or {BETTER[search.order.side]} it would have been accepted."
 
 
-def capture_rejected_sentences(day: day_files.Day, who: str | None = None, is_asked: bool = True) -> dict[int, str]:
+def capture_rejected_sentences_and_print_notes(day: day_files.Day, who: str | None = None, is_asked: bool = True) -> dict[int, str]:
     """The same for each rejected block of a day, or of a participant, by place. If a limit isn't computed, the sentence says so, and why:
     never because of the time that it would take."""
     places = [place for place, block in enumerate(day.problem.blocks) if place not in day.published.accepted and who in (None, block.who)]
@@ -239,7 +239,7 @@ def capture_rejected_sentences(day: day_files.Day, who: str | None = None, is_as
     bar = StepBar("report", len(places), "limits of rejected blocks")
     with engine.running_team(engine.count_processors()) as (team, running):
         was = Cleared.of_day(day)  # which the program has too
-        waiting = [team.submit(capture_sentence, day.book, day.problem.blocks[place], own, was, running) for place in places]
+        waiting = [team.submit(capture_sentence_or_print_note, day.book, day.problem.blocks[place], own, was, running) for place in places]
         try:
             return {place: step_and_return(promise.result(), bar) for place, promise in zip(places, waiting)}
         finally:
@@ -270,7 +270,7 @@ def uncomputable_text(day: day_files.Day, own: bytes | Fault) -> tuple[str, str]
         return "the program couldn't clear the day", str(fault)
 
 
-def capture_sentence(held: Book, block: Row, own: bytes | Fault, was: Cleared, running: Running) -> str:
+def capture_sentence_or_print_note(held: Book, block: Row, own: bytes | Fault, was: Cleared, running: Running) -> str:
     """What a page says of a rejected block, whose day is printed as `own`, and was checked."""
     search = LimitSearch(held, (block.who, block.name), lambda given: engine.clear_and_return_output_or_fault(given, running=running))
     search.keep_output_or_raise(block.order.price, own)

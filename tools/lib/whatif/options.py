@@ -28,7 +28,7 @@ def parse_price(word: str) -> int:
 
 def order_name_and_advice(word: str) -> str:
     """An order's name on the command line."""
-    if text.parse_name(word.encode(errors="surrogateescape")) is None:
+    if text.name_or_none(word.encode(errors="surrogateescape")) is None:
         raise ArgumentTypeError(f"{text.quoted(word)} should be {text.A_NAME}")
     return word
 

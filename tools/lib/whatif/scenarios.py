@@ -152,7 +152,7 @@ class Table:
                 words = f"line {first[0]}: there is a scenario {text.quoted(scenario)} in line {seen[scenario]}"
                 raise Fault(f"{self.name}: {words}: the lines of a scenario stand together, and no two have one name")
             seen[scenario] = first[0]
-            self.try_out_or_raise(trial, itertools.chain([first], rows))
+            self.enter_and_take_back_or_raise(trial, itertools.chain([first], rows))
         if not seen:
             raise Fault(f"{self.name}: it has no scenarios")
         return len(seen)
@@ -165,7 +165,7 @@ class Table:
             self.enter_or_raise(after, line, command)
         return after
 
-    def try_out_or_raise(self, trial: Book, rows: Iterable[Line]) -> None:
+    def enter_and_take_back_or_raise(self, trial: Book, rows: Iterable[Line]) -> None:
         """Enters the commands of the lines of a scenario, and takes them back."""
         before: dict[Key, Order | None] = {}
         for line, command in self.commands_or_raise(rows):

@@ -29,9 +29,9 @@ def main(description: str, epilog: str) -> int:
     parser = command_line.Parser("whatif", description, epilog)
     commands = parser.add_subparsers(dest="command", metavar="COMMAND", required=True)
     for add, call in (
-        (options.add_limit_command, write_limit),
-        (options.add_change_command, write_change),
-        (options.add_scenarios_command, write_scenarios),
+        (options.add_limit_command, run_and_write_limit),
+        (options.add_change_command, run_and_write_change),
+        (options.add_scenarios_command, run_and_write_scenarios),
     ):
         add(commands, call, epilog[epilog.index("\nstatuses:") :])
     args = parser.parse_args()
@@ -74,7 +74,7 @@ def engine_function(program: str | None, running: Running | None = None) -> Call
     return lambda given: engine.clear_and_return_output_or_fault(given, program, running)
 
 
-def write_limit(args: Namespace) -> int:
+def run_and_write_limit(args: Namespace) -> int:
     """Prints the worst limit at which a block is accepted, to the cent, or why no limit is enough. It adds the prices, the block's surplus,
     the participant's gain and the welfare at that limit and one cent past it, and the other orders whose results differ. The answer is in
     words; with --decimal-comma, or a file whose name ends with .csv or .xlsx, it is a table of one row. For an hourly order it prints the
@@ -85,12 +85,12 @@ def write_limit(args: Namespace) -> int:
     require_and_set_program(args)
     held = read_closed_book(args)
     if args.all:
-        return write_all_limits(args, held)
+        return run_and_write_all_limits(args, held)
     key = args.participant, args.order
     if key not in held.rows:
         raise exits.Stop(unknown_order_text(held, *key))
     if held.rows[key].kind == "hour":
-        return write_samples(args, held, key)
+        return run_and_write_samples(args, held, key)
     if (args.least, args.greatest, args.step) != (None,) * 3:
         raise exits.Stop("--from, --to and --step can't be used with a block, whose limit is found exactly", exits.COMMAND_LINE)
     search = limits.LimitSearch(held, key, engine_function(args.program))
@@ -115,7 +115,7 @@ def unknown_order_text(held: Book, who: str, name: str | None) -> str:
     return f"{who} has no order {name} in the book: {shown}"
 
 
-def write_all_limits(args: Namespace, held: Book) -> int:
+def run_and_write_all_limits(args: Namespace, held: Book) -> int:
     keys = [key for key, order in held.rows.items() if key[0] == args.participant and order.kind == "block"]
     if not keys:
         raise exits.Stop(f"{args.participant} has no block in the book")
@@ -132,7 +132,7 @@ def write_all_limits(args: Namespace, held: Book) -> int:
     return exits.DONE
 
 
-def write_samples(args: Namespace, held: Book, key: Key) -> int:
+def run_and_write_samples(args: Namespace, held: Book, key: Key) -> int:
     """An hourly order under a grid of limits, as a table."""
     search = limits.LimitSearch(held, key, engine_function(args.program))
     period = held.rows[key].volumes[0][0]
@@ -163,7 +163,7 @@ def write_samples(args: Namespace, held: Book, key: Key) -> int:
     return exits.DONE
 
 
-def write_change(args: Namespace) -> int:
+def run_and_write_change(args: Namespace) -> int:
     """Prints the differences if further commands are put before the close: the welfare, prices and volumes, and each order's executed
     energy and amount, in the table of tools/compare."""
     output.exec_or_refuse_wrong_options(args, args.journal, args.changes)
@@ -232,7 +232,7 @@ def connecting_executor(args: Namespace) -> Iterator[tuple[cluster.Cluster | Non
         yield executor, dam_tools.engine.clear_and_return_answer  # by the name that it has in the package
 
 
-def write_scenarios(args: Namespace) -> int:
+def run_and_write_scenarios(args: Namespace) -> int:
     """Prints the results of many scenarios. In a table, each scenario has a name, with the orders or commands that it adds to the journal.
     With --sample the scenarios are random: the orders of all but one participant have other limits and volumes. An output that ends with
     .svg or .png is a picture of these."""

@@ -37,7 +37,7 @@ class Package:
     def has(self, name: str) -> bool:
         return part_key(name) in self.parts
 
-    def has_match(self, name: str, pattern: re.Pattern[bytes]) -> bool:
+    def read_and_see_match(self, name: str, pattern: re.Pattern[bytes]) -> bool:
         """Whether a part has a match, of no more bytes than a name, as it is stored."""
         end = b""
         for chunk in self.read_chunks(self.parts[part_key(name)]) if self.has(name) else ():

@@ -91,5 +91,5 @@ def volatile_place(book: Workbook, name: str, sheet: Sheet) -> str | None:
     if sheet.first_volatile:
         return f"cell {sheet.first_volatile}"
     others = book.sheet_parts_or_refuse().items() if sheet.names_others or book.defined else ()
-    found = (other for other, part in others if part and other != name and book.package.has_match(part, IN_BYTES))
+    found = (other for other, part in others if part and other != name and book.package.read_and_see_match(part, IN_BYTES))
     return next((f"the sheet {text.quoted(other)}" for other in found), None)

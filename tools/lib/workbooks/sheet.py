@@ -85,7 +85,7 @@ class Sheet(CellContent):
         number = int(number_text) if PLACE.fullmatch(number_text) else 0
         if not 1 <= number <= LAST_ROW:
             raise self.error_of(f"a row has the number {text.quoted(number_text)}: they go from 1 to {LAST_ROW}")
-        self.refuse_unfilled(number)
+        self.refuse_unfilled_and_forget(number)
         last, self.row, self.column, self.cells, self.is_in_row = self.row, number, 0, [], True
         if number <= last:
             raise self.error_of("it occurs twice" if number == last else f"it stands after row {last}, but the rows should increase")
@@ -136,7 +136,7 @@ class Sheet(CellContent):
                 raise self.error_of("two formulas have it in their ranges")
             self.unfilled[column] = [self.row, bottom]
 
-    def refuse_unfilled(self, end: int) -> None:
+    def refuse_unfilled_and_forget(self, end: int) -> None:
         """Refuses the rows before this one if a cell in the range of a formula has no value there."""
         for column, (row, bottom) in list(self.unfilled.items()):
             if row < min(end, bottom + 1):
@@ -146,7 +146,7 @@ class Sheet(CellContent):
                 del self.unfilled[column]
 
     def close_sheetData(self) -> None:
-        self.refuse_unfilled(LAST_ROW + 1)
+        self.refuse_unfilled_and_forget(LAST_ROW + 1)
 
     def close_f(self) -> None:
         self.allow_no_text()
