@@ -76,7 +76,7 @@ def title_of_other_page(page: str) -> str:
     return folders[-1] if word == "readme" else f"{folders[-1]}: {word}"
 
 
-def navigation_of(pages: Iterable[str], crates_defined: Iterable[str]) -> list[dict[str, Any]]:
+def navigation_entries(pages: Iterable[str], crates_defined: Iterable[str]) -> list[dict[str, Any]]:
     """The navigation in the form of mkdocs. The second list has the crates that have a page of definitions."""
     found = []
     for reader, own in NAVIGATION.items():

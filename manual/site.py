@@ -34,7 +34,7 @@ def find_missing_packages() -> list[str]:
     return [package for name, package in NEEDED.items() if not (name.is_dir() if isinstance(name, Path) else shutil.which(name))]
 
 
-def require_packages() -> None:
+def refuse_missing_packages() -> None:
     """Ends the tool if a package is missing."""
     if lacking := find_missing_packages():
         words = f"it needs {' and '.join(lacking)}, which Debian has: apt-get install {' '.join(lacking)}"
@@ -77,7 +77,7 @@ def write_pages_and_return_navigation(own: Mapping[str, str], drawn: Mapping[str
         write_text(folder / navigation.DEFINITIONS / f"{crate}.md", known.read_page_text(crate, naming))
     for name, path in drawn.items():
         shutil.copy(path, folder / name)
-    return navigation.navigation_of(own, known.modules)
+    return navigation.navigation_entries(own, known.modules)
 
 
 def run_mkdocs_and_return_site(own: Mapping[str, str], drawn: Mapping[str, Path], room: Path) -> Path:

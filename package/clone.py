@@ -55,16 +55,16 @@ class Clone:
     """A clone without changes, whose programs and libraries were built of its sources."""
 
     def __init__(self) -> None:
-        require_commands()
+        refuse_missing_commands()
         self.version, self.commit = VERSION, run_git("rev-parse", "HEAD").strip()
         self.seconds = int(run_git("log", "-1", "--format=%ct"))
         self.date = datetime.datetime.fromtimestamp(self.seconds, datetime.timezone.utc).strftime("%Y-%m-%dT%H:%M:%SZ")
         self.tracked = [name for name in run_git("ls-files", "-z").split("\0") if name]
         refuse_changes()
-        require_present_builds()
+        refuse_stale_builds()
         self.records = {name: record for name in BUILT if (record := sources.read_record(TOP / name))}
 
-    def tracked_below(self, folder: str, *endings: str) -> list[str]:
+    def tracked_paths_below(self, folder: str, *endings: str) -> list[str]:
         """The tracked files of a folder, and of those below it, with one of these endings."""
         return [name for name in self.tracked if name.startswith(f"{folder}/") and name.endswith(endings or ("",))]
 
@@ -78,7 +78,7 @@ def refuse_changes() -> None:
         raise exits.Stop(f"the clone has changes: commit or remove {', '.join(changed[:SHOWN])}{more}")
 
 
-def require_present_builds() -> None:
+def refuse_stale_builds() -> None:
     """Ends the tool if something that was built is missing, or not of the present sources."""
     for name, crate in BUILT.items():
         fault = sources.read_stale_text(TOP / name, crate)
@@ -112,13 +112,13 @@ def read_totals_or_stop(path: str | Path, commit: str) -> JsonObject:
     return totals
 
 
-def require_commands() -> None:
+def refuse_missing_commands() -> None:
     """Ends the tool if a command that it needs is missing."""
     for name, debian in NEEDED.items():
         if not shutil.which(name):
             words = f"it needs {name}, which Debian has in the package {debian}: apt-get install {debian}"
             raise exits.Stop(words, exits.FAILED)
-    site.require_packages()
+    site.refuse_missing_packages()
 
 
 def capture_versions() -> dict[str, str]:

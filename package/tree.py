@@ -60,7 +60,7 @@ def sources_by_target(clone: made_of.Clone) -> dict[str, str]:
         ("bench/measured", f"{DOC}/bench/measured", ".csv"),
         ("crates", f"{DOC}/crates", "/README.md", "/NOTES.md", "/PROOFS.md", "/TRACEABILITY.md", "/WORDS.md"),
     ):
-        found.update({f"{target}/{os.path.relpath(name, folder)}": name for name in clone.tracked_below(folder, *endings)})
+        found.update({f"{target}/{os.path.relpath(name, folder)}": name for name in clone.tracked_paths_below(folder, *endings)})
     return found
 
 

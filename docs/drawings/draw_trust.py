@@ -71,7 +71,7 @@ class Effect(NamedTuple):
 def counted(day):
     """The counts, and the best selection."""
     search = Counting(day)
-    search.try_all()
+    search.search_all()
     welfare, accepted = max(search.eligible, key=lambda found: found[0])
     greatest = sum(other == welfare for other, _ in search.eligible)
     above = sorted((found for found in search.losing if found[0] > welfare), reverse=True, key=lambda found: found[0])

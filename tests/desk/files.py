@@ -358,7 +358,7 @@ class FileTests:
         text = DAY + b"submit,A,S1,hour,sell,3000,1:10,,\r\n" + b"cancel,A,S1,,,,,,\n"
         for length in range(len(text) + 1):
             file = self.desk.make_path()
-            reader = streams.expected_of(text[:length])
+            reader = streams.expected_desk_of(text[:length])
             right = b"".join(reader.capture_output_of_dam(self.dam))
             self.check_run(f"an input of {length} bytes", self.run_on_text([file], text[:length]), 0, right, b"")
             marked = b"".join(b"+" + record for record in reader.records)
@@ -369,13 +369,13 @@ class FileTests:
         for length in sorted({*LENGTHS, *(1 << power for power in range(17)), streams.LONGEST_LINE - 1, streams.LONGEST_LINE + 1}):
             lines = [record.rjust(length + 1, b"\r") for record in (DAY, b"cancel,A,S1,,,,,,\n", CLOSE)]
             text = b"".join([*lines, b"\xff\n".rjust(length + 1, b"A"), b"A" * length])
-            reader = streams.expected_of(DAY + text)
+            reader = streams.expected_desk_of(DAY + text)
             file = self.desk.make_path()
             right = b"".join(reader.capture_output_of_dam(self.dam))
             self.check_run(f"lines of {length:,} bytes", self.run_on_text([file], DAY + text), 0, right, b"")
             marked = b"".join(b"+" + record for record in reader.records)
             self.counts.check(f"the file after lines of {length:,} bytes", parse_marked_lines_or_none(file.read_bytes()) == marked)
-            reader, file = streams.expected_of(text), self.desk.make_path()
+            reader, file = streams.expected_desk_of(text), self.desk.make_path()
             right = b"".join(reader.capture_output_of_dam(self.dam))
             self.check_run(f"a day of {length:,} bytes", self.run_on_text([file], text), 0, right, b"")
 
@@ -399,7 +399,7 @@ class FileTests:
         lines += [b"\r".join([record[:-1]] * count) for record in (CLOSE, DAY) for count in (2, 3, 100, streams.LONGEST_LINE // len(DAY))]
         for periods in rules.DAYS:
             text = b"".join(line + b"\n" for line in [*lines, b"day,%d,,,,,,," % periods, *lines])
-            reader, file = streams.expected_of(text), self.desk.make_path()
+            reader, file = streams.expected_desk_of(text), self.desk.make_path()
             right = b"".join(reader.capture_output_of_dam(self.dam))
             self.check_run(f"lines with faults on {periods} periods", self.run_on_text([file], text), 0, right, b"")
             is_right = right.count(b"fault,") == 2 * len(lines) and file.read_bytes() == file_of_records(*reader.records)

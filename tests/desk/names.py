@@ -60,7 +60,7 @@ def check_names(counts: Counts, desk: DeskProgram, dam: DamProgram, whole: bool)
         for about, taken, by_others in zip(ABOUT, each, usual):
             took = f"{SOME:,} names that collide {about}, on {periods} periods, take {taken / by_others:.1f} times the instructions of"
             counts.check(f"{took} {records.ORDERS:,} others", taken < by_others)
-    full = measure_instructions(program, [desk.make_path()], journal_text(records.full_journal()), DRAWN)
+    full = measure_instructions(program, [desk.make_path()], journal_text(records.records_of_full_journal()), DRAWN)
     check_and_print_millions(counts, "a full journal takes", full, MILLIONS_OF_FULL_JOURNAL)
     took = f"with the fixed seed, they take {fixed.result() / usual[0]:.1f} times those"
     print(took, flush=True)

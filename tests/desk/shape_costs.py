@@ -22,7 +22,7 @@ from shared.crash_files import HEAD
 from shared.instructions import DRAWN, FIXED, measure_counts, measure_instructions
 from shared.place import TOP
 from shared.preload import HostileProgram, RefusedCalls, Words
-from shared.records import DAY, full_journal, journal_text
+from shared.records import DAY, records_of_full_journal, journal_text
 
 Measure = Callable[..., Iterator[tuple[str, Cost]]]  # of the program, the desk, and a row of arguments
 HERE = TOP / "tests/desk"  # the folder of the tables
@@ -50,7 +50,7 @@ def named_longer_journals() -> Iterator[tuple[str, bytes]]:
         *_, (_, records) = shapes.named_commands(shape)
         first = list(shape.submits_of_book())
         yield f"{periods}: {count:,} commands", journal_text([*first, *itertools.islice(records, count - len(first))], False, periods)
-    yield "24: all commands of a full journal", journal_text(full_journal())
+    yield "24: all commands of a full journal", journal_text(records_of_full_journal())
 
 
 def measure_count(program: HostileProgram, words: Words, data: bytes, refusal: RefusedCalls) -> int:

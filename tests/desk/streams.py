@@ -115,7 +115,7 @@ class ExpectedDesk:
         return [answer if isinstance(answer, bytes) else replies[answer] for answer in self.answers]
 
 
-def expected_of(text: bytes) -> ExpectedDesk:
+def expected_desk_of(text: bytes) -> ExpectedDesk:
     reader = ExpectedDesk()
     *lines, rest = text.split(b"\n")
     for line in lines:
@@ -170,7 +170,7 @@ class RandomStreams:
         """The faults of one random input."""
         rng = random.Random(f"stream {seed}")
         text = draw_stream(rng)
-        reader = expected_of(text)
+        reader = expected_desk_of(text)
         expected = reader.capture_output_of_dam(self.dam)
         self.lines, self.entries = self.lines + len(expected), self.entries + reader.entries
         self.faults += sum(line.startswith(b"fault,") for line in expected)
@@ -201,7 +201,7 @@ class RandomStreams:
         lines = text.split(b"\n")
         half = rng.randrange(len(lines))
         front = b"".join(line + b"\n" for line in lines[:half])
-        first = expected_of(front)
+        first = expected_desk_of(front)
         file = self.desk.make_path()
         begun = self.desk.run(file, draw_cuts(rng, front))
         ended = self.desk.run(file, draw_cuts(rng, text[len(front) :]))

@@ -16,7 +16,7 @@ from collections.abc import Iterable, Iterator, Sequence
 from pathlib import Path
 from typing import NamedTuple
 
-from hostile.instruction_costs import crowded_book
+from hostile.instruction_costs import records_of_crowded_book
 from hostile.retried_calls import REFUSALS
 from hostile.right_answers import UNFINISHED
 from hostile.runs_of_rows import RunsOfRows
@@ -195,7 +195,7 @@ def generate_runs_of_blocks() -> Runs:
     for periods in rules.DAYS:
         drawn = FullDay(random.Random(f"whole {periods}"), periods, "large", WHOLE, True, "free")
         yield f"clear: a full book of large blocks, {periods} periods", Run(CLEAR, drawn.draw_text())
-    yield "clear of a crowded period up to a node", Run([*CLEAR, "--nodes", "1"], journal_text(crowded_book()), (UNFINISHED,))
+    yield "clear of a crowded period up to a node", Run([*CLEAR, "--nodes", "1"], journal_text(records_of_crowded_book()), (UNFINISHED,))
 
 
 def generate_runs_of_one_sided_books() -> Runs:

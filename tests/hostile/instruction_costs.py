@@ -29,7 +29,7 @@ from shared.preload import HostileProgram, RefusedCalls
 from shared.records import (
     ORDERS,
     capture_colliding_names,
-    full_journal,
+    records_of_full_journal,
     journal_text,
     ordinary_names,
     participant_codes,
@@ -205,7 +205,7 @@ def refused_commands() -> list[str]:
     return begin + in_alternation(amends, begin)
 
 
-def crowded_book() -> list[str]:
+def records_of_crowded_book() -> list[str]:
     """A full book whose hourly orders are all in one period."""
     return [*submits_of_book(1, blocks=0), *submits_of_book(24, orders=0)]
 
@@ -235,13 +235,13 @@ def runs_by_name() -> dict[str, WorkOfRun]:
     clear, day = ["clear", "--workers", "1"], ["day", "--workers", "1"]
     limited = [*clear, "--cut", "0", "--nodes"]
     return {
-        "replay of a full journal": WorkOfRun(24, full_journal(), ["replay"], 30.1),
+        "replay of a full journal": WorkOfRun(24, records_of_full_journal(), ["replay"], 30.1),
         "clear of a full book": WorkOfRun(24, submits_of_book(24), clear, 18.5),
         "clear of a full book of quarter-hours": WorkOfRun(96, submits_of_book(96), clear, 24.2),
         "clear of 12 blocks within 8,000 nodes": WorkOfRun(24, submits_of_book(24, orders=480, blocks=12), [*limited, "8000"], 60.9),
         "clear of 24 blocks by 4 workers": WorkOfRun(24, submits_of_book(24, orders=480), ["clear", "--workers", "4"], 3.94, SEARCH_TIMES),
-        "clear of a crowded period up to 2,000 nodes": WorkOfRun(24, crowded_book(), [*limited, "2000"], 83.1, SEARCH_TIMES, UNFINISHED),
-        "day of a full journal": WorkOfRun(24, full_journal(), day, 96.5),
+        "clear of a crowded period up to 2,000 nodes": WorkOfRun(24, records_of_crowded_book(), [*limited, "2000"], 83.1, SEARCH_TIMES, UNFINISHED),
+        "day of a full journal": WorkOfRun(24, records_of_full_journal(), day, 96.5),
         "day of a full book and refused commands": WorkOfRun(24, refused_commands(), day, 54.3),
         "day of amends of 100 volumes": WorkOfRun(rules.GREATEST_PERIOD, submits_with_long_amends(), day, 60.8),
     }

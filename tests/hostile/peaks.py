@@ -120,7 +120,7 @@ def texts_with_engines() -> Iterator[tuple[str, bytes, list[list[str]], bytes]]:
         yield about, text, engines, b""
 
 
-def most_bytes_of(engine: str, size: int) -> float:
+def most_bytes_allowed(engine: str, size: int) -> float:
     """The most bytes that an engine may hold at once, of a text of this size."""
     if size < SOME:
         return LITTLE + EACH * size * (size >= FEW)
@@ -135,7 +135,7 @@ def check_peaks(runs: RunsOfRows) -> None:
         for word, got, peak in found:
             is_right = got == Printed(1, b"", line) if line else got.status == 0 and got.stdout != b""
             runs.check(f"{word} of {about}: status {got.status}, {got.stderr[:80]!r}", is_right)
-            fits = 0 < peak <= most_bytes_of(word, len(text))
+            fits = 0 < peak <= most_bytes_allowed(word, len(text))
             runs.check(f"{word} of {about}: {peak:,} bytes were held, and the text has {len(text):,}", fits)
             most = max(most, peak)
         runs.program.write_input(text).unlink()
@@ -154,5 +154,5 @@ def check_journals_read(runs: RunsOfRows) -> None:
     for about, text, _ in long_journals() if REFUSALS.exists() else ():
         if len(text) < SOME:
             got, peak = reader.run(["read"], text, RefusedCalls("peak"))
-            is_right = got.stdout.endswith(b" commands, 0 calls refused\n") and 0 < peak <= 2 * most_bytes_of("read", len(text))
+            is_right = got.stdout.endswith(b" commands, 0 calls refused\n") and 0 < peak <= 2 * most_bytes_allowed("read", len(text))
             runs.check(f"read_journal of {about}: {got.stdout[:80]!r}, {peak:,} bytes were held, and the text has {len(text):,}", is_right)

@@ -269,7 +269,7 @@ class ProveTests(RepositoryCase):
     def test_the_bar_of_a_proof(self) -> None:
         self.at.write("crates/left/src/lib.rt", "SECONDS 2")
         terminal = TerminalRun(self.at, f"{self.at.top}/dam", "prove")
-        self.assertEqual(terminal.close(), (0, ""))
+        self.assertEqual(terminal.close_and_return_status_and_output(), (0, ""))
         self.assertRegex(terminal.shown, r"\r\x1b\[Kdam: proving \[#*\.*\] \d+% \d s, (some \d+ min|less than a minute) left: left")
         self.assertRegex(terminal.shown, r"\r\x1b\[Kproved low in \d+ s")
         self.assertRegex(terminal.shown, r"left: dam_cli")

@@ -138,13 +138,13 @@ def try_that_nobody_loses(market: Market, book: MarketBook, _: random.Random) ->
 
 def family_surplus(book: MarketBook, row: OrderRow, printed: Results) -> int:
     """The gain of a block with its accepted descendants; a rejected block has none."""
-    return surplus(row, printed) + sum(family_surplus(book, child, printed) for child in book.children(row))
+    return surplus(row, printed) + sum(family_surplus(book, child, printed) for child in book.child_rows(row))
 
 
 def try_that_a_period_is_fair(market: Market, book: MarketBook, _: random.Random) -> Iterator[str]:
     printed = market.capture_results(book)
     seen: dict[tuple[int, str, int], bool] = {}  # of a period, a side and a price: whether the last order is executed in full
-    for row in book.hourly:
+    for row in book.hourly_rows:
         ((period, volume),) = row.order.volumes
         margin = signed_by_side(row.order, row.order.price - printed.prices[period - 1])
         executed = printed.orders[row.key]
@@ -198,7 +198,7 @@ def try_the_better_of_two_blocks(market: Market, book: MarketBook, rng: random.R
     more = [book.draw_with_one_more(rng)] if book.blocks and len(book.blocks) < rules.MOST_BLOCKS else []
     for other in (book, *more):
         printed = market.capture_results(other)
-        alone = [row for row in other.blocks if not (row.order.parent or row.order.group or other.children(row))]
+        alone = [row for row in other.blocks if not (row.order.parent or row.order.group or other.child_rows(row))]
         for better, worse in itertools.permutations(alone, 2):
             alike = (better.order.side, better.order.volumes) == (worse.order.side, worse.order.volumes)
             if alike and signed_by_side(better.order, better.order.price) > signed_by_side(worse.order, worse.order.price):
@@ -209,7 +209,7 @@ def try_the_better_of_two_blocks(market: Market, book: MarketBook, rng: random.R
 def try_a_rejected_block_withdrawn(market: Market, book: MarketBook, _: random.Random) -> Iterator[str]:
     printed = market.capture_results(book)
     for row in book.blocks:
-        if not printed.accepts(row) and not book.children(row):
+        if not printed.accepts(row) and not book.child_rows(row):
             if market.capture_results(book.without(row)) != printed.without_order(row.key):
                 yield f"block {row.name} is rejected, and without it the results are others"
 
@@ -218,7 +218,7 @@ def try_a_block_more(market: Market, book: MarketBook, rng: random.Random) -> It
     """Each block without children is one more than the others; and one like another, with another limit, comes at the end."""
     printed = market.capture_results(book)
     for row in book.blocks:
-        if not book.children(row) and market.capture_results(book.without(row)).welfare > printed.welfare:
+        if not book.child_rows(row) and market.capture_results(book.without(row)).welfare > printed.welfare:
             yield f"without block {row.name} the welfare is greater"
     if book.blocks and len(book.blocks) < rules.MOST_BLOCKS:
         if market.capture_results(book.draw_with_one_more(rng)).welfare < printed.welfare:

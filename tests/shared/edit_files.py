@@ -4,13 +4,13 @@ A file of must-fail/ is one edit. A file of wrong-bodies/ has several, each belo
 source files and their names, or is one, too. The file tests/rattle/wrong-bodies.edit has those that contracts allow and a test finds. There
 a line 'test: CRATE TEST' names the test, which stands in the folder CRATE/src next to that file, and the paths begin with crates/CRATE/."""
 
+import functools
 import os
 import re
 from collections.abc import Iterable, Iterator, Mapping
-from functools import cached_property
 from pathlib import Path
 
-from shared.rattle_source import functions_of, parts_outside
+from shared.rattle_source import functions_of, parts_outside_functions
 
 FOLDERS = ("must-fail", "wrong-bodies")
 NAMED = re.compile(r"^name:[ \t]*(.*?)[ \t]*$", re.MULTILINE)
@@ -37,8 +37,8 @@ class WrongBody:
         except UnfitEdit as why:
             self.fault = str(why)
 
-    @cached_property
-    def bodies(self) -> dict[tuple[str, int], str]:
+    @functools.cache
+    def read_bodies(self) -> dict[tuple[str, int], str]:
         """The new body of each function whose body changes, by path and number in the file; none if anything else changes too."""
         return read_changed_bodies(self.texts, self.folder)
 
@@ -156,7 +156,7 @@ def read_changed_bodies(texts: Mapping[str, str], folder: str) -> dict[tuple[str
     for path, text in texts.items():
         right = read_right_text(folder, path)
         before, after = functions_of(right), functions_of(text)
-        if not path.startswith("src/") or parts_outside(right, before) != parts_outside(text, after):
+        if not path.startswith("src/") or parts_outside_functions(right, before) != parts_outside_functions(text, after):
             return {}
         for number, (old, new) in enumerate(zip(before, after)):
             if right[old.begins : old.ends] != text[new.begins : new.ends]:
@@ -168,7 +168,7 @@ def batches_of(edits: Iterable[WrongBody]) -> list[list[WrongBody]]:
     """Returns lists of the edits, of which no two in a list change the same function."""
     found: list[list[WrongBody]] = []
     for it in edits:
-        free = [batch for batch in found if not any(set(it.bodies) & set(other.bodies) for other in batch)]
+        free = [batch for batch in found if not any(set(it.read_bodies()) & set(other.read_bodies()) for other in batch)]
         if free:
             free[0].append(it)
         else:

@@ -34,7 +34,7 @@ class MarketBook(NamedTuple):
     rows: tuple[OrderRow, ...]  # in book order
 
     @property
-    def hourly(self) -> list[OrderRow]:
+    def hourly_rows(self) -> list[OrderRow]:
         return [row for row in self.rows if not row.is_block]
 
     @property
@@ -46,7 +46,7 @@ class MarketBook(NamedTuple):
         submits = [Submit(row.who, row.name, row.order) for row in self.rows]
         return journal.journal_text(Journal(self.periods, [*submits, Close()])).encode()
 
-    def children(self, row: OrderRow) -> list[OrderRow]:
+    def child_rows(self, row: OrderRow) -> list[OrderRow]:
         return [other for other in self.blocks if (other.who, other.order.parent) == row.key]
 
     def with_limit(self, row: OrderRow, limit: int) -> MarketBook:
@@ -68,7 +68,7 @@ class MarketBook(NamedTuple):
 
     def draw_hourly_shuffled(self, rng: random.Random) -> MarketBook:
         """The book with its hourly orders in another order, at the places of hourly orders."""
-        others = iter(rng.sample(self.hourly, len(self.hourly)))
+        others = iter(rng.sample(self.hourly_rows, len(self.hourly_rows)))
         return self.changed(lambda row: row if row.is_block else next(others))
 
     def draw_blocks_shuffled(self, rng: random.Random) -> MarketBook:

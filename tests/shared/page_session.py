@@ -106,7 +106,7 @@ def is_continued(line: str) -> bool:
     return line.rstrip("\n").endswith("\\")
 
 
-def edited_commands(commands: str, edits: Mapping[str, str]) -> str:
+def text_with_edits(commands: str, edits: Mapping[str, str]) -> str:
     for old, new in edits.items():
         commands = commands.replace(old, new)
     return commands
@@ -133,7 +133,7 @@ def steps_or_raise(name: str, text: str, form: str) -> Iterator[PageStep]:
             continue
         if at in given:
             yield PageStep(f"{about}: what it takes as given", given[at])
-        made = edited_commands(shell_text(block.kind, commands), scene.edits)
+        made = text_with_edits(shell_text(block.kind, commands), scene.edits)
         yield PageStep(about, made, block.quoted, says.get(at, ""), commands == block.commands)
         if at in then:
             yield PageStep(f"{about}: what came of it", then[at])
@@ -141,7 +141,7 @@ def steps_or_raise(name: str, text: str, form: str) -> Iterator[PageStep]:
         yield PageStep(f"{form}: {name}: what its sentences and tables take as given", scene.for_spans)
     for command, span in scene.spans.items():
         if text_of_kept_lines(command, left_out):
-            made = with_status_test(edited_commands(command_in_form(form, command), scene.edits), span.status)
+            made = with_status_test(text_with_edits(command_in_form(form, command), scene.edits), span.status)
             yield PageStep(f"{form}: {name}: {command}", made, says=span.says)
 
 

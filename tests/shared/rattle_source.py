@@ -120,7 +120,7 @@ def words_of(text: str) -> list[str]:
     return [it[0].upper() + it[1:] for it in re.findall(r"\w+", text)]
 
 
-def parts_outside(text: str, functions: Sequence[Function]) -> list[str]:
+def parts_outside_functions(text: str, functions: Sequence[Function]) -> list[str]:
     """Returns the parts of a text before, between and after the bodies of its functions."""
     ends = [0, *(it.ends for it in functions)]
     begins = [*(it.begins for it in functions), len(text)]
@@ -131,7 +131,7 @@ def leaders_of(text: str, functions: Sequence[Function]) -> list[Function]:
     """Returns for each function the one with whose proofs its own stand: of functions that call each other, the one that
     `#[cycle(NAME)]` names."""
     found = []
-    for it, head in zip(functions, parts_outside(text, functions)):
+    for it, head in zip(functions, parts_outside_functions(text, functions)):
         owner, colons, _ = it.name.rpartition("::")
         led = CYCLE.search(head)
         found.append(it._replace(name=owner + colons + led[1]) if led else it)

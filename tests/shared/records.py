@@ -47,7 +47,7 @@ def submits_of_book(periods: int, orders: int = ORDERS, blocks: int = rules.MOST
         yield f"submit,{code},K-{at},block,{side},{cents},{volumes_text(periods, lambda period: 5 + (at + 1) * period * 37 % 56)},,\n"
 
 
-def full_journal() -> list[str]:
+def records_of_full_journal() -> list[str]:
     """A full book, an amend of each hourly order, and as many cancels as there may be before the close of a day."""
     owners = list(zip(range(ORDERS), participant_codes()))
     records = [*submits_of_book(24), *(f"amend,{code},N-{at},,,{4_000 + at},{1 + at % 24}:7,,\n" for at, code in owners)]

@@ -2,7 +2,7 @@
 
 import unittest
 
-from shared.rattle_source import functions_of, homes_of, leaders_of, listed_name, parts_outside
+from shared.rattle_source import functions_of, homes_of, leaders_of, listed_name, parts_outside_functions
 
 STEP = """\
 use crate::hour::Hour;
@@ -64,7 +64,7 @@ class Bodies(unittest.TestCase):
         self.assertTrue(bodies["Step::of"].endswith(".map(Step::new)\n    }"))
 
     def test_clauses_are_outside_the_bodies(self):
-        parts = parts_outside(STEP, functions_of(STEP))
+        parts = parts_outside_functions(STEP, functions_of(STEP))
         self.assertEqual(len(parts), 7)
         self.assertTrue(parts[0].endswith("measure { hour.len }\n    "))
         self.assertEqual(parts[6], "\n")

@@ -205,7 +205,7 @@ def iterate_days(journals: Iterable[JournalSource], quiet: bool, answers: Any) -
     whole = len(journals) if isinstance(journals, collections.abc.Sized) else None
     kept: collections.deque[Any] = collections.deque()  # the journals whose results are still to come
 
-    def texts() -> Iterator[bytes | Fault]:
+    def iterate_texts() -> Iterator[bytes | Fault]:
         for source in journals:
             text: bytes | Fault
             try:
@@ -215,7 +215,7 @@ def iterate_days(journals: Iterable[JournalSource], quiet: bool, answers: Any) -
             kept.append(source if isinstance(source, Journal) else text)
             yield text
 
-    for found in engine.iterate_with_bar(answers(texts()), whole, quiet=quiet):
+    for found in engine.iterate_with_bar(answers(iterate_texts()), whole, quiet=quiet):
         source = kept.popleft()
         yield found if isinstance(found, Fault) else LateDay(source, found)
 

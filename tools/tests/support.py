@@ -70,7 +70,7 @@ def make_recorded_library(top):
         path.touch()
     Path(top, "crates.txt").write_text("low:\ndam_c staticlib: low\n")
     with unittest.mock.patch.object(sources, "TOP", str(top)):
-        sources.write_or_remove_records(sources.LIBRARY, sources.read_source_sums(sources.LIBRARY), str(library))
+        sources.write_or_remove_records_and_see(sources.LIBRARY, sources.read_source_sums(sources.LIBRARY), str(library))
     return library
 
 
@@ -189,7 +189,7 @@ def run_in_fork(path, words, data=b""):
         child = os.fork()
         if child == 0:
             run_and_exit(path, words, [stdin, stdout, stderr])
-        is_late = not timed_program.wait_for_end(child, SECONDS)
+        is_late = not timed_program.wait_and_see_end(child, SECONDS)
         if is_late:
             os.kill(child, signal.SIGKILL)
         status = os.waitstatus_to_exitcode(os.waitpid(child, 0)[1])

@@ -150,7 +150,7 @@ class Closing(Office):
             await asyncio.to_thread(begins.wait)
             self.assertEqual((again.is_known.is_set(), again.ledger.size), (False, 0))  # no part of the journal is seen
             with self.assertRaises(refusals.Refused) as caught:
-                admission.require_known(again)
+                admission.refuse_unknown(again)
             self.assertEqual(caught.exception.fault, refusals.RequestFault.UNAVAILABLE)
             ends.set()
             await task

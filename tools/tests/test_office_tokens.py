@@ -102,7 +102,7 @@ class Tokens(Office):
             self.assertEqual(stat.S_IMODE(path.stat().st_mode) & 0o077, 0, path)
         self.office.path_of(folder.KEY).chmod(0o644)
         with self.assertRaisesRegex(exits.Stop, "can be read by others"):
-            self.office.require_office()
+            self.office.refuse_if_no_office()
 
     def test_defects_in_a_library_are_logged_once_a_minute(self):
         stream, now = io.StringIO(), [0.0]

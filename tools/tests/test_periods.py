@@ -30,7 +30,7 @@ class Spans(unittest.TestCase):
         for numbers in ([1], [1, 2], [1, 3], [1, 2, 3, 7, 9, 10]):
             self.assertEqual(spans.parse_periods(spans.spans_text(numbers), 24), numbers)
         self.assertEqual(spans.spans_text([1, 3, 4, 5, 9]), "1;3-5;9")
-        self.assertEqual(spans.spans_in_prose([1, 3, 4, 5]), "1, 3 to 5")
+        self.assertEqual(spans.spans_text_in_prose([1, 3, 4, 5]), "1, 3 to 5")
 
 
 class Clock(unittest.TestCase):

@@ -65,7 +65,7 @@ def search_by_highs_in_child(problem: selection.Problem, published: Results, pro
     return child_call.run_in_child(ask, progress, "HiGHS is still searching")
 
 
-def block_names(problem: selection.Problem, places: Iterable[int]) -> str:
+def block_names_text(problem: selection.Problem, places: Iterable[int]) -> str:
     return " ".join(str(problem.blocks[place]) for place in sorted(places)) or "no block"
 
 
@@ -74,12 +74,12 @@ def better_lines(problem: selection.Problem, published: Results, better_selectio
     more = better_selection.welfare - published.welfare
     if more:
         kind = f"it has a greater welfare, {problem.euros_text(better_selection.welfare)} EUR, which is {problem.euros_text(more)} EUR more"
-        yield f"a better selection accepts {block_names(problem, better_selection.accepted)}: {kind}"
+        yield f"a better selection accepts {block_names_text(problem, better_selection.accepted)}: {kind}"
     else:
         first = problem.blocks[min(better_selection.accepted ^ published.accepted)]
         yield f"an equally good selection takes precedence: it accepts {first}, which is earlier in the book"
     turned = [("accepts", better_selection.accepted - published.accepted), ("rejects", published.accepted - better_selection.accepted)]
-    yield "unlike the results it " + " and ".join(f"{does} {block_names(problem, places)}" for does, places in turned if places)
+    yield "unlike the results it " + " and ".join(f"{does} {block_names_text(problem, places)}" for does, places in turned if places)
     prices = [cleared.price for cleared in selection.outcome(problem, better_selection.accepted).cleared.values() if cleared]
     changed = [(number, *pair) for number, pair in enumerate(zip(prices, published.prices), 1) if pair[0] != pair[1]]
     for number, price, published_price in changed:

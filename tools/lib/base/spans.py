@@ -44,6 +44,6 @@ def spans_text(numbers: Iterable[int], to: str = "-", between: str = ";") -> str
     return between.join(str(first) if first == last else f"{first}{to}{last}" for first, last in runs_of(numbers))
 
 
-def spans_in_prose(numbers: Iterable[int]) -> str:
+def spans_text_in_prose(numbers: Iterable[int]) -> str:
     """As `8 to 20` or `1, 3 to 5`."""
     return spans_text(numbers, " to ", ", ")

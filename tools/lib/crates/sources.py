@@ -111,7 +111,7 @@ def record_path(path: str | Path) -> str:
     return f"{path}.json"
 
 
-def write_or_remove_records(crate: str, before: dict[str, str], *paths: str | Path) -> bool:
+def write_or_remove_records_and_see(crate: str, before: dict[str, str], *paths: str | Path) -> bool:
     """Records that files were built of a crate, if its sources are still those whose sums were taken before. Otherwise removes the records
     of these files. Returns whether they have records."""
     is_same = read_source_sums(crate) == before
@@ -156,7 +156,7 @@ def read_stale_text(path: str | Path, crate: str) -> str | None:
     return f"{name} was built of other sources: {', '.join(others)} changed since" if others else None
 
 
-def print_or_touch(path: str, crate: str) -> int:
+def print_or_touch_and_return_status(path: str, crate: str) -> int:
     """Prints why a file was not built of the present sources, and returns 1. Otherwise gives the file the date before they were read, so
     that it is newer than its sources, and returns 0."""
     began = time.time_ns()
@@ -178,9 +178,9 @@ def main(words: list[str]) -> int:
         return 0
     crate, before, *paths = words
     if before == "--fault":
-        return print_or_touch(paths[0], crate)
+        return print_or_touch_and_return_status(paths[0], crate)
     with open(before, encoding="utf-8") as file:
-        return 0 if write_or_remove_records(crate, json.load(file), *paths) else 1
+        return 0 if write_or_remove_records_and_see(crate, json.load(file), *paths) else 1
 
 
 if __name__ == "__main__":

@@ -57,7 +57,7 @@ class Admission:
         who = self.require_authorized_participant(request)
         budgets.charge_or_refuse(buckets or self.budgets.reads, who, count)
         writer = self.require_unstopped_writer(request)
-        require_known(writer)
+        refuse_unknown(writer)
         return writer, who
 
     def require_unstopped_writer(self, request: web.Request) -> DayWriter:
@@ -74,7 +74,7 @@ class Admission:
             raise Refused(RequestFault.TOKEN, "the token isn't of a participant")
 
 
-def require_known(writer: DayWriter) -> None:
+def refuse_unknown(writer: DayWriter) -> None:
     if not writer.is_known.is_set():
         raise Refused(RequestFault.UNAVAILABLE, "the office is still reading the day's journal", seconds=1)
 

@@ -89,7 +89,7 @@ class Handler(web_protocol.RequestHandler):
             piece = self.note_tail_and_cut_first_piece(data[at : at + PIECE])
             at += len(piece)
             try:
-                self.parse_piece(piece)
+                self.parse_piece_and_note_state(piece)
             except Exception:  # a stranger's bytes at which aiohttp fails
                 if self._manager is not None:
                     self._manager.counts.add("connections_malformed_total")
@@ -105,7 +105,7 @@ class Handler(web_protocol.RequestHandler):
         self.head_tail = b"" if end else head[-2:]
         return data[: len(data) - len(head) + end.end()] if end else data
 
-    def parse_piece(self, piece: bytes) -> None:
+    def parse_piece_and_note_state(self, piece: bytes) -> None:
         self.head_bytes += 0 if self.body_left else len(piece)
         if self.head_bytes > MOST_HEAD:  # it isn't parsed: a head that is whole would be answered
             self.abort()

@@ -142,7 +142,7 @@ class DayWriter:
                 self.files.remove(folder.STOPPED_DAY)
             if self.published.is_whole:
                 self.ledger = await asyncio.to_thread(published.read_published_ledger, self.files, self.make_ledger)
-                self.read_heads_and_require_their_entries()
+                self.read_heads_and_refuse_missing_entries()
                 self.is_known.set()
             else:
                 await self.run_desk_until_closed()
@@ -217,10 +217,10 @@ class DayWriter:
                 break
             except asyncio.TimeoutError:
                 if not (self.queue.waiting or self.queue.batch):
-                    await self.clear_trouble_if_room()
+                    await self.write_trial_and_clear_trouble()
         self.queue.wake.set()
 
-    async def clear_trouble_if_room(self) -> None:
+    async def write_trial_and_clear_trouble(self) -> None:
         with contextlib.suppress(OSError):
             await asyncio.to_thread(self.files.write_trial_or_raise)
             self.trouble = None
@@ -232,7 +232,7 @@ class DayWriter:
         self.desk, records, replies = await Desk.start(self.programs.desk, path, self.terms.periods)
         self.watching = asyncio.create_task(self.watch_desk(self.desk))
         self.ledger.enter_rest_of_journal_or_raise(records, replies)
-        self.read_heads_and_require_their_entries()
+        self.read_heads_and_refuse_missing_entries()
         self.is_known.set()
         if self.ledger.size:
             self.newest.note_head(self.ledger.signed_head())
@@ -240,12 +240,12 @@ class DayWriter:
         self.log_event("desk opened", entries=self.ledger.size, seconds=round(time.monotonic() - began, 3))
         return self.desk, self.watching
 
-    def read_heads_and_require_their_entries(self) -> None:
+    def read_heads_and_refuse_missing_entries(self) -> None:
         """Ends with a contradiction unless the journal has the entries of the heads that the folder has: one that was cut or replaced while
         no office had it in memory is seen here."""
         for name in (folder.SIGNED, folder.HEAD):
             if head := newest_head.read_signed_head(self.files.path_of(name), self.ledger.seal.key):
-                self.ledger.require_beginning(head, name)
+                self.ledger.refuse_other_beginning(head, name)
             elif self.files.has_file(name):
                 self.log_event("signed head not whole", file=name)
 

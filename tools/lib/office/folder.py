@@ -224,7 +224,7 @@ class DayFolder(NamedFiles):
 class Folder(NamedFiles):
     """The files of an office."""
 
-    def require_office(self) -> None:
+    def refuse_if_no_office(self) -> None:
         """Ends the tool if this isn't the folder of an office, or others may read its secrets."""
         if self.path_of(KEY).is_file() and not self.path_of(PARTICIPANTS).is_file():
             raise exits.Stop(f"{exits.shown(self.path_of(PARTICIPANTS))} is missing: put it back")

@@ -70,7 +70,7 @@ class Ledger:
         for entry in list(zip(commands, records, replies))[len(held) :]:
             self.enter_or_raise(*entry)
 
-    def require_beginning(self, head: heads.Head, where: str) -> None:
+    def refuse_other_beginning(self, head: heads.Head, where: str) -> None:
         """Ends with a contradiction unless the journal begins with the entries of a head that was signed, which a file has."""
         if head.size > self.size:
             raise Contradiction(f"LostEntries: the desk's journal has {self.size} entries, and the signed head in {where} {head.size}")

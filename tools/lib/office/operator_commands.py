@@ -20,14 +20,14 @@ Changed = TypeVar("Changed")
 CLOSE_SECONDS, TELL_SECONDS, STEP = 60, 2, 0.05  # to wait for the results of a close, and until it says why it waits
 
 
-def capture_day_record_or_stop(files: DayFolder, desk: str, hold_and_see_if_served: bool = False) -> JsonObject:
+def capture_day_record_or_stop(files: DayFolder, desk: str, is_served: bool = False) -> JsonObject:
     """A day in a record, by its files, and by whether the office is served."""
     terms = files.read_terms()
     has = files.has_file
     commands = capture_commands_or_stop(files, desk) if has(folder.DESK) else []
     is_closed = bool(commands) and isinstance(commands[-1], journal.Close)
     is_open = not is_closed and not has(folder.CLOSE_NOW) and datetime.datetime.now(datetime.timezone.utc) < terms.closes
-    stopped = read_stop_reason(files) if hold_and_see_if_served and has(folder.STOPPED_DAY) else None
+    stopped = read_stop_reason(files) if is_served and has(folder.STOPPED_DAY) else None
     counts = dict.fromkeys(terms.shares, 0)
     for one in commands:
         if not isinstance(one, journal.Close):
@@ -59,10 +59,10 @@ def read_stop_reason(files: DayFolder) -> str:
     return files.read_file(folder.STOPPED_DAY).decode(errors="replace").strip() or "the log says why"
 
 
-def capture_day_record_or_fault(files: DayFolder, desk: str, hold_and_see_if_served: bool) -> JsonObject:
+def capture_day_record_or_fault(files: DayFolder, desk: str, is_served: bool) -> JsonObject:
     """A day in a record; the fault alone, if its files can't be read."""
     try:
-        return capture_day_record_or_stop(files, desk, hold_and_see_if_served)
+        return capture_day_record_or_stop(files, desk, is_served)
     except (OSError, exits.Stop) as fault:
         return {"day": files.day, "fault": exits.status_and_message(fault)[1]}
 
@@ -70,9 +70,9 @@ def capture_day_record_or_fault(files: DayFolder, desk: str, hold_and_see_if_ser
 def capture_status_record(office: Folder, desk: str) -> JsonObject:
     """The days of an office, and whether it is served."""
     register = tokens.Register(office.path_of(folder.PARTICIPANTS))
-    hold_and_see_if_served = office.hold_and_see_if_served()
-    days = [capture_day_record_or_fault(files, desk, hold_and_see_if_served) for files in office.list_folders_by_day().values()]
-    return {"served": hold_and_see_if_served, "participants": len(register.read_names()), "revoked": register.read_revoked(), "days": days}
+    is_served = office.hold_and_see_if_served()
+    days = [capture_day_record_or_fault(files, desk, is_served) for files in office.list_folders_by_day().values()]
+    return {"served": is_served, "participants": len(register.read_names()), "revoked": register.read_revoked(), "days": days}
 
 
 def status_lines(office_status: JsonObject) -> Iterator[str]:
@@ -99,11 +99,11 @@ def write_request(files: DayFolder, name: str) -> None:
 def close_and_wait_or_stop(office: Folder, files: DayFolder) -> bool:
     """Closes a day now. If the office runs, waits for the results. Returns whether there are results. A stopped day isn't closed: its
     journal may lack entries."""
-    hold_and_see_if_served = office.hold_and_see_if_served()
-    if hold_and_see_if_served and files.has_file(folder.STOPPED_DAY):
+    is_served = office.hold_and_see_if_served()
+    if is_served and files.has_file(folder.STOPPED_DAY):
         raise exits.Stop(f"{files.day} is stopped, and wasn't closed: {read_stop_reason(files)}")
     write_request(files, folder.CLOSE_NOW)
-    if not hold_and_see_if_served and not files.has_file(folder.RESULTS):
+    if not is_served and not files.has_file(folder.RESULTS):
         return False
     began, told, tell_at = time.monotonic(), None, TELL_SECONDS
     while not files.has_file(folder.RESULTS):

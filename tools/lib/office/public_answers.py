@@ -10,7 +10,7 @@ from ..base import clock
 from ..base.json_value import JsonObject
 from ..seal import heads
 from . import fixed_files, folder
-from .admission import Admission, require_known, require_query_number
+from .admission import Admission, refuse_unknown, require_query_number
 from .day_writer import DayWriter
 from .refusals import RequestFault, Refused
 from .responses import jsonl_response, send_file
@@ -65,7 +65,7 @@ class PublicAnswers:
     async def answer_head(self, request: web.Request) -> web.Response:
         """The newest head; with `since` the proof that it goes on from the head of this number of entries."""
         writer = self.admission.require_unstopped_writer(request)
-        require_known(writer)
+        refuse_unknown(writer)
         ledger = writer.ledger
         if "since" not in request.query:
             return jsonl_response(heads.line_bytes_of(ledger.signed_head()))

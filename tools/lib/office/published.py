@@ -121,7 +121,7 @@ def read_published_ledger(files: folder.DayFolder, make_ledger: Callable[[], Led
         raise Contradiction(f"{folder.JOURNAL}, {folder.REPLIES} or {folder.HEAD} is missing or damaged") from None
     if heads.line_bytes_of(ledger.signed_head()) != head:
         raise Contradiction("the published head isn't of the journal next to it, or isn't of this key")
-    read_results_and_require_unchanged(files)
+    read_results_and_refuse_changed(files)
     return ledger
 
 
@@ -129,7 +129,7 @@ def sha256_hex(data: bytes) -> str:
     return hashlib.sha256(data).hexdigest()
 
 
-def read_results_and_require_unchanged(files: folder.DayFolder) -> None:
+def read_results_and_refuse_changed(files: folder.DayFolder) -> None:
     """Ends with a contradiction if the results or the statement were changed since they were made."""
     try:
         sums = json.loads(files.read_file(folder.SUMS))

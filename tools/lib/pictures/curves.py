@@ -174,7 +174,7 @@ def draw_without_orders(axes: Axes) -> None:
 
 def draw_clearing(axes: Axes, day: PublishedDay, number: int, net: int) -> None:
     """The price, and the point on the curves at which the hourly buys end that are executed."""
-    price, buys = day.published.prices[number - 1], executed_buys(day, number)
+    price, buys = day.published.prices[number - 1], volume_of_executed_buys(day, number)
     axes.axhline(eur(price), color=COLOURS["soft"], linewidth=1, linestyle=":")
     axes.text(1.006, eur(price), f"{text.shown_price(price)}\nEUR/MWh", transform=axes.get_yaxis_transform(), va="center")
     words = f"{text.shown_volume(buys)} MW of hourly buys are executed"
@@ -198,7 +198,7 @@ def draw_curve(axes: Axes, points: Curve, begin: float, first: float, last: floa
         axes.plot([*xs, *points.xs, mw(points.end)], [*ys, *points.ys, last], linewidth=1.8, solid_joinstyle="miter", **look)
 
 
-def executed_buys(day: PublishedDay, number: int) -> int:
+def volume_of_executed_buys(day: PublishedDay, number: int) -> int:
     rows = [row for row in day.problem.rows if row.order.kind == "hour"]
     return sum(
         executed

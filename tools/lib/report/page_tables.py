@@ -75,7 +75,7 @@ def period_table(day: Day) -> Table:
 
 
 def periods_text(order: Order) -> str:
-    return spans.spans_in_prose(number for number, _ in order.volumes)
+    return spans.spans_text_in_prose(number for number, _ in order.volumes)
 
 
 def block_table(day: Day, block_decisions: Sequence[Decision], needed: Mapping[int, str]) -> Table:

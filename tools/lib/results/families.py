@@ -45,7 +45,7 @@ def group_key(problem: Problem, place: int) -> tuple[str, str] | None:
     return (block.who, block.order.group) if block.order.group else None
 
 
-def never_together(problem: Problem, place: int) -> list[int] | None:
+def members_never_together(problem: Problem, place: int) -> list[int] | None:
     """Blocks of one group, too many to be accepted together, from which a block descends or of which it is one, the topmost first. So it
     can never be accepted."""
     seen: dict[GroupKey, list[int]] = {}
@@ -62,7 +62,7 @@ def needed_blocks(problem: Problem, accepted: Places, place: int) -> tuple[int, 
     return tuple(reversed([place, *(above for above in ancestors(problem, place) if above not in accepted)]))
 
 
-def rejected_below(problem: Problem, accepted: Places, root: int) -> list[int]:
+def rejected_places_below(problem: Problem, accepted: Places, root: int) -> list[int]:
     """A rejected block and the rejected ones that descend from it by rejected ones, each after its parent."""
     found = {root}
     for place in problem.rescuers[root]:
@@ -127,7 +127,7 @@ def best_family(problem: Problem, accepted: Places, surpluses: Surpluses, place:
         return None
     out = rivals(problem, accepted, path, surpluses)
     removed = {other for rival in out for other in [rival, *problem.rescuers[rival]] if other in accepted}
-    tree = [member for member in rejected_below(problem, accepted, path[0]) if member in known]
+    tree = [member for member in rejected_places_below(problem, accepted, path[0]) if member in known]
     sets = admitted_sets(problem, tree, path, accepted - removed)
     found = (grown_members_and_gains(problem, known, tree, path, allowed) for allowed in sets)
 

@@ -41,7 +41,7 @@ class Judge:
     def judgement(self, place: int) -> Judgement:
         if place in self.accepted:
             return Judgement(ACCEPTED, self.accepted_code(place))
-        if conflict := families.never_together(self.problem, place):
+        if conflict := families.members_never_together(self.problem, place):
             return Judgement(REJECTED, NEVER, conflict=conflict)
         family = families.best_family(self.problem, self.accepted, self.outcome.surpluses, place)
         if family is None:

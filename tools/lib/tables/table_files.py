@@ -222,11 +222,11 @@ def csv_text(rows: Iterable[Row], decimal_comma: bool = False) -> str:
     writer = csv.writer(out, lineterminator="\n", delimiter=";" if decimal_comma else ",")
     writer.writerow(heads)
     for row in rows:
-        writer.writerow([cell_text(kind, value, decimal_comma) for kind, value in zip(kinds, row)])
+        writer.writerow([cell_value(kind, value, decimal_comma) for kind, value in zip(kinds, row)])
     return out.getvalue()
 
 
-def cell_text(kind: str, value: Value, decimal_comma: bool) -> Value:
+def cell_value(kind: str, value: Value, decimal_comma: bool) -> Value:
     if kind == "string":
         return UNESCAPED.sub(r"\1'", str(value))
     return str(value).replace(".", ",") if decimal_comma and kind in ("number", "array") else value

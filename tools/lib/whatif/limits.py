@@ -232,7 +232,7 @@ def capture_rejected_sentences_and_print_notes(day: day_files.Day, who: str | No
     if not places or day.wrong or not is_asked:
         return dict.fromkeys(places, not_computed_text("the results break the rules" if day.wrong else "the page was made without limits"))
     own = engine.clear_and_return_output_or_fault(journal_bytes(day.book.rows, day.problem.periods))
-    if words := uncomputable_text(day, own):
+    if words := uncomputable_texts(day, own):
         why, more = words
         exits.print_note("report", f"the limits that rejected blocks needed weren't computed: {why}: {more}")
         return dict.fromkeys(places, not_computed_text(why))
@@ -255,7 +255,7 @@ def not_computed_text(why: str) -> str:
     return f"Its limit wasn't computed: {why}."
 
 
-def uncomputable_text(day: day_files.Day, own: bytes | Fault) -> tuple[str, str] | None:
+def uncomputable_texts(day: day_files.Day, own: bytes | Fault) -> tuple[str, str] | None:
     """Why no limit can be computed, in few words and in more, if the program failed on a day or printed other results than its own; None if
     it printed the same."""
     try:

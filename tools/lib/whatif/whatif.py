@@ -122,11 +122,11 @@ def run_and_write_all_limits(args: Namespace, held: Book) -> int:
 
     with engine.running_team(args.jobs or engine.count_processors()) as (team, running):
 
-        def row(key: Key) -> Cells:
+        def search_and_return_row(key: Key) -> Cells:
             search = limits.LimitSearch(held, key, engine_function(args.program, running))
             return limits.limit_cells(search, search.search_for_worst())
 
-        promises = [team.submit(row, key) for key in keys]
+        promises = [team.submit(search_and_return_row, key) for key in keys]
         rows = list(engine.iterate_with_bar((promise.result() for promise in promises), len(keys), "block"))
     output.write_table("whatif", args, "limits", [limits.HEADS, *rows], held.periods)
     return exits.DONE
@@ -199,7 +199,7 @@ def capture_difference_rows(books: Sequence[Book], who: str | None, program: str
     return changes.difference_rows(before, after, who)
 
 
-def require_asked_order(args: Namespace, books: Iterable[Iterable[Key]]) -> None:
+def refuse_without_asked_order(args: Namespace, books: Iterable[Iterable[Key]]) -> None:
     """Ends the tool if no book has an order that is asked for."""
     is_asked = key_test(args)
     if not any(map(is_asked, itertools.chain.from_iterable(books))):
@@ -267,7 +267,7 @@ def read_scenarios_and_print_notes(args: Namespace, held: Book) -> scenarios.Tab
     for note in [] if args.quiet else notes:
         exits.print_note("whatif", f"{exits.shown(args.scenarios)}: {note}")
     if args.participant:
-        require_asked_order(args, itertools.chain([held.rows], (scenario.rows() for scenario in given)))
+        refuse_without_asked_order(args, itertools.chain([held.rows], (scenario.rows() for scenario in given)))
     return given
 
 
@@ -306,7 +306,7 @@ def clearing_scenarios(
     """The cleared day as it was; and each scenario with the output of `dam clear` for it, or its fault, in their order."""
     waiting: collections.deque[Given] = collections.deque()
 
-    def texts() -> Iterator[bytes]:
+    def iterate_texts() -> Iterator[bytes]:
         yield cleared.journal_bytes(held.rows, held.periods)
         for scenario in given:
             waiting.append(scenario)
@@ -315,7 +315,7 @@ def clearing_scenarios(
     with contextlib.ExitStack() as ends:
         executor, call = ends.enter_context(connecting_executor(args))
         program = args.program if args.cluster is None else None
-        answers = ends.enter_context(contextlib.closing(engine.iterate_outputs_or_faults(texts(), args.jobs, executor, program, call)))
+        answers = ends.enter_context(contextlib.closing(engine.iterate_outputs_or_faults(iterate_texts(), args.jobs, executor, program, call)))
         before = require_day("the day as it was", held.rows, held.periods, next(answers))
         shown = engine.iterate_with_bar(answers, count, "scenario", args.quiet)
         yield before, ((waiting.popleft(), printed) for printed in shown)

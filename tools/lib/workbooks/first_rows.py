@@ -121,7 +121,7 @@ class FirstRows(Sheet):
     def parse_and_note_first_rows(self) -> None:
         """Parses the sheet until they were read."""
         try:
-            self.parse_or_refuse(self.book.package, self.part)
+            self.feed_or_refuse(self.book.package, self.part)
         except Enough:
             self.is_whole = False
         except BadWorkbook as fault:

@@ -217,7 +217,7 @@ class Fractions:
     def __init__(self) -> None:
         self.left = MOST_FRACTIONS
 
-    def take(self) -> bool:
+    def take_and_see(self) -> bool:
         """Takes one, and returns whether there was one left."""
         self.left -= 1
         return self.left >= 0
@@ -260,7 +260,7 @@ def rounding_function(pieces: Pieces, fractions: Fractions) -> Rounding:
                 return 0
             if number.as_integer_ratio()[1] <= most:
                 return number
-            return Fraction(number).limit_denominator(most) if below <= FEW_BELOW or fractions.take() else None
+            return Fraction(number).limit_denominator(most) if below <= FEW_BELOW or fractions.take_and_see() else None
         first = 0 if not power else number.adjusted() // whole * whole if whole else number.adjusted() + 1
         last = decimal.Decimal(1).scaleb(first - places)
         exponent = int(number.normalize().as_tuple().exponent)  # the number is finite

@@ -65,15 +65,15 @@ class Part:
         self.taken: list[str] = []
         self.length = self.namespaces = 0
 
-    def parse_or_refuse(self, package: Package, name: str) -> None:
+    def feed_or_refuse(self, package: Package, name: str) -> None:
         self.package = package
         chunks = package.require_chunks(name)
         try:
-            self.parse_chunks_or_refuse(chunks)
+            self.feed_chunks_or_refuse(chunks)
         except expat.ExpatError as fault:
             raise broken_error(f"{text.quoted(name)}: {fault}") from None
 
-    def parse_chunks_or_refuse(self, chunks: Iterable[bytes]) -> None:
+    def feed_chunks_or_refuse(self, chunks: Iterable[bytes]) -> None:
         names: dict[str, str] = {}
         self.parser = parser = expat.ParserCreate(None, " ", names)
         parser.buffer_text = True
@@ -149,9 +149,9 @@ class Part:
             raise broken_error(f"more than {DEEPEST} elements stand in one another")
         if name in self.kept:
             raise self.error_of(f"an element {text.quoted(name.rpartition(' ')[2])} stands in {text.quoted(self.outside)}")
-        self.refuse_in_left_out(name.rpartition(" ")[2], attributes)
+        self.refuse_in_left_out_and_note_font(name.rpartition(" ")[2], attributes)
 
-    def refuse_in_left_out(self, name: str, attributes: Attributes) -> None:
+    def refuse_in_left_out_and_note_font(self, name: str, attributes: Attributes) -> None:
         """Refuses an element of any namespace, in one that is left out, that changes what the part shows."""
 
     def refuse_stranger(self, within: str, name: str) -> None:

@@ -21,7 +21,7 @@ def parse_rows_and_notes(data: bytes, preferred: str, needed: Sequence[str] = ()
     book = Workbook(Package(data))
     chosen = choose_sheet_or_refuse(book, preferred, needed)
     sheet = Sheet(chosen.name, chosen.part, book, most)
-    sheet.parse_or_refuse(book.package, sheet.part)
+    sheet.feed_or_refuse(book.package, sheet.part)
     notes = [chosen.note] if chosen.note else []
     if sheet.first_formula and book.is_computed and not book.is_current:
         words = f"the values of formulas, such as that of cell {sheet.first_formula}, are as saved by another program or an older"

@@ -248,7 +248,7 @@ class Sheet(CellContent):
     def conditional_format_error(self, kind: str) -> BadWorkbook:
         return self.error_of(f"the cells {text.quoted(self.ranges)} have a conditional format {kind}: delete it")
 
-    def refuse_in_left_out(self, name: str, attributes: Attributes) -> None:
+    def refuse_in_left_out_and_note_font(self, name: str, attributes: Attributes) -> None:
         """An extension has the conditional formats that Excel 2007 didn't have, each with its own number format and font."""
         kind = None
         if name == "numFmt":

@@ -86,15 +86,15 @@ class Workbook(Part):
         if part is None:
             raise broken_error("it has no sheets")
         self.relations = self.parse_relations(part)
-        self.parse_or_refuse(package, part)
+        self.feed_or_refuse(package, part)
         self.volatile_names = volatile_names(self.defined)
         self.styles = Styles()
         if part := self.relations.only_part(STYLES):
-            self.styles.parse_or_refuse(package, part)
+            self.styles.feed_or_refuse(package, part)
 
     def parse_relations(self, owner: str) -> Relations:
         relations = Relations(owner)
-        relations.parse_or_refuse(self.package, relations.part)
+        relations.feed_or_refuse(self.package, relations.part)
         return relations
 
     def open_workbookPr(self, attributes: Attributes) -> None:
@@ -154,5 +154,5 @@ class Workbook(Part):
         strings = Strings(needed, self.styles.palette)
         part = self.relations.only_part(STRINGS)
         if needed and part:
-            strings.parse_or_refuse(self.package, part)
+            strings.feed_or_refuse(self.package, part)
         return strings
