@@ -201,7 +201,7 @@ def parse_entries(path: Path, data: bytes, top: str | None = None, prefix: str =
     return found
 
 
-def read_package_or_stop(path: Path) -> dict[str, Entry]:
+def read_and_unpack_package_or_stop(path: Path) -> dict[str, Entry]:
     """The files of a package by name: of the Debian package those of /usr and of its control, of the other archive those of its folder."""
     data = file_io.read_bytes(path)
     try:
@@ -266,7 +266,7 @@ def read_and_compare(path: Path, made: Path) -> tuple[list[str], bool]:
     name = text.safe(path.name, exits.LONGEST_PATH)
     if file_io.read_bytes(path) == made.read_bytes():
         return [f"{name}: the same, byte for byte"], True
-    found = list(differences(read_package_or_stop(path), read_package_or_stop(made)))
+    found = list(differences(read_and_unpack_package_or_stop(path), read_and_unpack_package_or_stop(made)))
     if not found:
         return [f"{name}: each file is the same, byte for byte; only the packing differs"], True
     more = [f"and {len(found) - FEW} more"] if len(found) > FEW else []

@@ -22,7 +22,7 @@ from shared.crash_files import HEAD
 from shared.instructions import DRAWN, FIXED, measure_counts, measure_instructions
 from shared.place import TOP
 from shared.preload import HostileProgram, RefusedCalls, Words
-from shared.records import DAY, records_of_full_journal, journal_text
+from shared.records import DAY, journal_text, records_of_full_journal
 
 Measure = Callable[..., Iterator[tuple[str, Cost]]]  # of the program, the desk, and a row of arguments
 HERE = TOP / "tests/desk"  # the folder of the tables

@@ -180,7 +180,7 @@ def require_program_or_exit(path: str, seconds: float) -> timed_program.TimedPro
     return timed_program.TimedProgram(path, seconds)
 
 
-def find_programs_or_exit(args: argparse.Namespace) -> Programs:
+def find_programs_and_run_commands_or_exit(args: argparse.Namespace) -> Programs:
     """The programs that the command line names, and the commands that it or else the program has."""
     program = require_program_or_exit(args.program, args.wait)
     like = require_program_or_exit(args.like, args.wait) if args.like else None
@@ -196,7 +196,7 @@ def main() -> int:
     signal.signal(signal.SIGTERM, signal.default_int_handler)
     if args.nodes and not args.like:
         sys.exit("fuzz: --nodes compares with the program of --like")
-    programs = find_programs_or_exit(args)
+    programs = find_programs_and_run_commands_or_exit(args)
     counts = Counts()
     begun, number = time.monotonic(), args.first
     try:

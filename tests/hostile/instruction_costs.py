@@ -29,10 +29,10 @@ from shared.preload import HostileProgram, RefusedCalls
 from shared.records import (
     ORDERS,
     capture_colliding_names,
-    records_of_full_journal,
     journal_text,
     ordinary_names,
     participant_codes,
+    records_of_full_journal,
     submits_of,
     submits_of_book,
     volumes_text,

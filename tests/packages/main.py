@@ -29,10 +29,10 @@ from packages.making import (
     PLAIN,
     PROGRAM,
     capture_command_names,
-    make_stand_ins,
+    capture_contents,
     copy_and_commit_clone,
     make_and_check_packages,
-    capture_contents,
+    make_stand_ins,
     run_command,
 )
 from packages.packaged import (
