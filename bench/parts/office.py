@@ -25,7 +25,7 @@ TARGETS |= {"day": at_least(1_000), "start": at_most(1), "close": at_most(0.5)} 
 class ServedPlain(ServedOffice):
     """The plain office, next to which a folder and tokens are made as for the office."""
 
-    is_ready = ServedOffice.is_listening
+    probe_and_see_readiness = ServedOffice.probe_and_see_listening
 
     def start_process(self) -> None:
         words = [sys.executable, "-B", f"{BENCH}/plain/office.py", f"{self.room.name}/rows", str(self.port)]
