@@ -6,10 +6,13 @@ import contextlib
 import datetime
 import errno
 import io
+import itertools
 import json
 import os
 import re
+import shutil
 import subprocess
+import sys
 import threading
 import tracemalloc
 import unittest
@@ -87,6 +90,75 @@ class Setup(Office):
         self.assertEqual((status, [line[:5] for line in out.splitlines()[-1:]]), (exits.DONE, [b"WIND."]))
         self.assertEqual(sorted(self.office.list_folders_by_day()), ["2099-11-29", "2099-11-30"])
 
+    def test_an_office_that_is_ended_while_it_is_made_is_made_by_a_further_init(self):
+        """Ended at each of its calls that change the file system, as by SIGKILL: no file of it stays, and no token is lost without a word."""
+        words = self.args(day="2099-11-29", participants=str(self.table))
+        again = ["init", self.office.path, "--day", words.day, "--close", "12:00", "--participants", self.table]
+        self.write_and_read_participants("participant\nGAS\n")
+        seen = set()
+        for at in range(200):
+            shutil.rmtree(self.office.path, ignore_errors=True)
+            is_whole = self.run_ended_at(at, words)
+            if self.office.path.is_dir():  # `status` knows whether the next command is `init`
+                status, out, err = run_tool("office", "status", self.office.path)
+                self.assertNotIn("put it back", err, at)
+            status, out, err = run_tool("office", *again)
+            left = sorted(path.name for path in self.office.path.rglob(".*"))
+            self.assertEqual((left, err.count("\n")), ([], int(b"\nGAS." not in out)), (at, err))
+            if status == exits.DONE and b"\nGAS." not in out:
+                self.assertEqual(err, f"office: note: GAS had tokens already, but no day: {setup.RENEW}\n")
+            elif status != exits.DONE:
+                self.assertEqual((status, err), (exits.NO_INPUT, f"office: there is a day {words.day} already: {setup.RENEW}\n"))
+            seen.add((status, bool(err)))
+            if is_whole:
+                break
+        self.assertTrue(is_whole)
+        self.assertEqual(seen, {(exits.DONE, False), (exits.DONE, True), (exits.NO_INPUT, True)})
+
+    def run_ended_at(self, number, words):
+        """Makes the office in a copy of this process, which is ended before one of its calls that change the file system. Returns whether it
+        made fewer."""
+        counted = itertools.count()
+
+        def end(event, details):
+            writes = event == "open" and isinstance(details[2], int) and details[2] & (os.O_WRONLY | os.O_RDWR)
+            if (writes or event in ("os.mkdir", "os.rename", "os.remove", "os.rmdir")) and next(counted) == number:
+                os._exit(1)
+
+        child = os.fork()
+        if child == 0:
+            with contextlib.suppress(BaseException):
+                os.umask(0o077)
+                sys.addaudithook(end)
+                setup.make_or_extend_office(self.office, words)
+                os._exit(0)
+            os._exit(2)
+        status = os.waitstatus_to_exitcode(os.waitpid(child, 0)[1])
+        self.assertIn(status, (0, 1))
+        return status == 0
+
+    def test_a_leftover_of_a_change_of_tokens_is_removed(self):
+        self.write_office()
+        register = tokens.Register(self.office.path_of(folder.PARTICIPANTS))
+        left, other = self.office.path_of(".dam-0123456789abcdef"), self.office.path_of(".dam-notes")
+        for path in (left, other):
+            path.touch()
+        register.write_and_return_new_tokens(["GAS"])
+        self.assertEqual((left.exists(), other.exists()), (False, True))
+
+    def test_tokens_of_an_office_without_days_are_noted(self):
+        """Those of a participant who is in a day were printed, as those of one without a token will be by renew."""
+        self.write_and_read_participants("participant\nGAS\nOIL\nWIND\n")
+        words = ["init", self.office.path, "--close", "12:00", "--participants", self.table, "--day"]
+        self.assertEqual(run_tool("office", *words, "2099-11-28")[::2], (exits.DONE, ""))
+        self.assertEqual(run_tool("office", *words, "2099-11-29")[::2], (exits.DONE, ""))
+        tokens.Register(self.office.path_of(folder.PARTICIPANTS)).write_and_return_new_tokens(["COAL"])
+        tokens.Register(self.office.path_of(folder.PARTICIPANTS)).write_revoked("SUN")
+        self.write_and_read_participants("participant\nCOAL\nGAS\nSUN\n")
+        said = f"office: note: COAL had tokens already, but no day: {setup.RENEW}\n"
+        self.assertEqual(run_tool("office", *words, "2099-11-30")[::2], (exits.DONE, said))
+        self.assertEqual(run_tool("office", *words, "2099-12-01")[::2], (exits.DONE, ""))
+
     def test_two_at_once_make_one_office(self):
         """The key that each prints is the stored one."""
         made, printed = signing.draw_key, []
@@ -124,7 +196,7 @@ class Setup(Office):
             other.start()
             other.join(PAUSE)
         other.join()
-        self.assertEqual(seen, ["there is a day 2026-11-30 already"])
+        self.assertEqual(seen, [f"there is a day 2026-11-30 already: {setup.RENEW}"])
         self.assertEqual(sorted(os.listdir(self.office.path_of(folder.DAYS))), [DAY, "2026-11-30"])
 
     @property

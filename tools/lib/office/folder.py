@@ -226,7 +226,7 @@ class Folder(NamedFiles):
 
     def refuse_if_no_office(self) -> None:
         """Ends the tool if this isn't the folder of an office, or others may read its secrets."""
-        if self.path_of(KEY).is_file() and not self.path_of(PARTICIPANTS).is_file():
+        if self.path_of(KEY).is_file() and self.path_of(DAYS).is_dir() and not self.path_of(PARTICIPANTS).is_file():
             raise exits.Stop(f"{exits.shown(self.path_of(PARTICIPANTS))} is missing: put it back")
         if not self.path_of(PARTICIPANTS).is_file():
             init = place.with_commands_of_here("tools/office init")

@@ -8,10 +8,11 @@ import re
 import shutil
 import tempfile
 import zoneinfo
-from collections.abc import Iterator
+from collections.abc import Container, Iterator
 from pathlib import Path
 
 from ..base import rules, text
+from ..process import replacing
 from ..seal import heads, sealing, signing
 from ..tables import cell_values, kinds, order_table, table_files, table_operations
 from ..tool import exits, file_io, modules
@@ -19,6 +20,8 @@ from . import folder, tokens
 
 CLOCK = re.compile(r"([01][0-9]|2[0-3]):[0-5][0-9]")
 DAY_BEFORE = datetime.timedelta(days=1)
+UNFINISHED = ".new-"  # begins the name of the folder of a day that is being made
+RENEW = "renew prints a new token for each participant whose token wasn't printed"
 WHO, SHARE = "participant", "commands"  # the columns of a table of participants
 Shares = dict[str, int | None]  # how many commands each participant may enter; None if its cell is empty
 
@@ -149,20 +152,23 @@ def make_office(office: folder.Folder) -> None:
     """Makes the folder with its key, without participants. Of several processes at once, one makes it, and the others find it."""
     os.makedirs(office.path, mode=0o700, exist_ok=True)
     with folder.holding_folder(office.path):
-        if not office.path_of(folder.KEY).exists():
-            make_key_or_stop(office)
+        if not office.path_of(folder.PARTICIPANTS).exists():
+            replacing.remove_leftovers(office.path)
+            make_keys_or_stop(office)
         office.read_public_text_or_stop(office.read_key())
         if not office.path_of(folder.PARTICIPANTS).exists():
             folder.write_synced(office.path_of(folder.PARTICIPANTS), folder.json_bytes({}))
         os.makedirs(office.path_of(folder.DAYS), exist_ok=True)
 
 
-def make_key_or_stop(office: folder.Folder) -> None:
-    if any(os.scandir(office.path)):
-        raise exits.Stop(f"{exits.shown(office.path)} isn't empty, and isn't the folder of an office")
-    key = signing.draw_key()
-    folder.write_synced(office.path_of(folder.PUBLIC), signing.public_bytes(key))
-    folder.write_synced(office.path_of(folder.KEY), signing.private_bytes(key))
+def make_keys_or_stop(office: folder.Folder) -> None:
+    """Makes the two files of the key that aren't there: the public half is made of the other, so an `init` that was ended is repeated."""
+    if not office.path_of(folder.KEY).exists():
+        if any(os.scandir(office.path)):
+            raise exits.Stop(f"{exits.shown(office.path)} isn't empty, and isn't the folder of an office")
+        folder.write_synced(office.path_of(folder.KEY), signing.private_bytes(signing.draw_key()))
+    if not office.path_of(folder.PUBLIC).exists():
+        folder.write_synced(office.path_of(folder.PUBLIC), signing.public_bytes(office.read_key()))
 
 
 def make_day_or_stop(office: folder.Folder, terms: folder.Terms) -> None:
@@ -177,8 +183,10 @@ def making_day(office: folder.Folder, terms: folder.Terms) -> Iterator[None]:
     days = office.path_of(folder.DAYS)
     with folder.holding_folder(office.path):
         if (days / terms.day).exists():
-            raise exits.Stop(f"there is a day {terms.day} already")
-        made = Path(tempfile.mkdtemp(prefix=".new-", dir=days))  # next to its place
+            raise exits.Stop(f"there is a day {terms.day} already: {RENEW}")
+        for left in days.glob(f"{UNFINISHED}*"):  # by a process that was ended
+            shutil.rmtree(left)
+        made = Path(tempfile.mkdtemp(prefix=UNFINISHED, dir=days))  # next to its place
         try:
             files = folder.DayFolder(made)
             folder.write_synced(files.path_of(folder.SALTS), heads.line_bytes_of(sealing.draw_salts(terms.day)))
@@ -193,7 +201,8 @@ def making_day(office: folder.Folder, terms: folder.Terms) -> Iterator[None]:
 
 
 def make_or_extend_office(office: folder.Folder, args: argparse.Namespace) -> tuple[folder.Terms, dict[str, str]]:
-    """Makes the office if there is none, its new participants and the day. Returns the terms, and the tokens of the new participants."""
+    """Makes the office if there is none, its new participants and the day. Returns the terms, and the tokens of the new participants. A note
+    names those whose tokens may have been lost, as an `init` was ended before it printed them."""
     register = tokens.Register(office.path_of(folder.PARTICIPANTS))
     is_new = not office.path_of(folder.PARTICIPANTS).exists()
     if args.participants is None and (is_new or not register.read_names()):
@@ -202,5 +211,17 @@ def make_or_extend_office(office: folder.Folder, args: argparse.Namespace) -> tu
     terms = require_terms(args, require_shares(given))
     make_office(office)
     with making_day(office, terms):  # a token is made only if it is shown
+        unseen = list_participants_without_day(office, register, given)
         made = register.write_and_return_new_tokens(given)
+    if unseen:
+        exits.print_note("office", f"note: {', '.join(unseen)} had tokens already, but no day: {RENEW}")
     return terms, made
+
+
+def list_participants_without_day(office: folder.Folder, register: tokens.Register, names: Container[str]) -> list[str]:
+    """Those of some participants who have a token, but are in no day that can be read."""
+    without = {who for who in register.read_names() if who in names} - set(register.read_revoked())
+    for files in office.list_folders_by_day().values():
+        with contextlib.suppress(*folder.UNREADABLE):
+            without -= set(files.read_terms().shares)
+    return sorted(without)

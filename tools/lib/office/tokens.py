@@ -13,6 +13,7 @@ from collections.abc import Iterable, Iterator
 from pathlib import Path
 
 from ..base import text
+from ..process import replacing
 from . import folder
 
 BYTES = 32
@@ -94,6 +95,7 @@ class Register:
         try:
             folder.give_to_owner_of(lock, self.path.parent)
             fcntl.flock(lock, fcntl.LOCK_EX)
+            replacing.remove_leftovers(self.path.parent)
             self.seen = None  # a change within the resolution of the file's time is seen too
             self.read_and_keep_if_changed()
             digests = dict(self.digests)

@@ -6,6 +6,7 @@ import contextlib
 import errno
 import functools
 import os
+import re
 import secrets
 import stat
 from collections.abc import Callable
@@ -17,6 +18,7 @@ from . import ending
 FIXED = (errno.EACCES, errno.EPERM, errno.EROFS, errno.EBUSY, errno.EXDEV, errno.ENOTSUP)
 FULL = (errno.ENOSPC, errno.EDQUOT, errno.EFBIG)
 MOST_LINKS = 40  # that Linux follows
+BESIDE = re.compile(r"\.dam-[0-9a-f]{16}")  # the name of a file that is written next to its place
 
 
 def write_replacing(path: str | Path, data: bytes) -> None:
@@ -129,6 +131,13 @@ def write_and_return_rename(target: str, old: os.stat_result | None, data: bytes
 
 def draw_path_beside(path: str) -> str:
     return os.path.join(os.path.dirname(path), f".dam-{secrets.token_hex(8)}")
+
+
+def remove_leftovers(folder: Path) -> None:
+    """Removes the files that were written next to their places by processes that were ended. No other process may write to the folder."""
+    for path in folder.glob(".dam-*"):
+        if BESIDE.fullmatch(path.name):
+            remove_file(path)
 
 
 def create_file(
