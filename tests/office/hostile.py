@@ -13,6 +13,7 @@ import time
 from collections.abc import Sequence
 from pathlib import Path
 
+from lib.office import folder
 from shared.counts import Counts
 from shared.processes import wait_and_see_if
 from shared.served_office import ServedOffice
@@ -101,6 +102,20 @@ def check_tokens(counts: Counts, office: ServedOffice) -> None:
     many = [send_and_read_status(office, "GET", path, ["Authorization: Bearer x"]) for _ in range(60)]
     counts.check("many wrong ones are slowed down", set(many) == {401, 429})
     counts.check("and the right one isn't", send_and_read_status(office, "GET", path, headers) == 200)
+
+
+def check_names_without_a_token(counts: Counts, office: ServedOffice, revoked: str) -> None:
+    """A request without a token is of no participant: not of one whose token was revoked, nor of a name that the office doesn't know."""
+    before = office.capture_journal_of_desk()
+    for who in (revoked, "NOBODY"):
+        body = f"submit,{who},STRANGE,hour,buy,1,1:1,,".encode()
+        number = sum(record.split(",")[1] == who for record in before) + 1
+        for header in (None, "", "Bearer", "Bearer ", "Bearer  ", f"Bearer {who}", f"Bearer {who}.", "Bearer None"):
+            headers = ["Content-Type: text/csv", *([] if header is None else [f"Authorization: {header}"])]
+            answers = [send_and_read_status(office, "GET", f"/days/{office.day}/{name}/{who}", headers) for name in ("orders", "receipts")]
+            answers.append(send_and_read_status(office, "PUT", f"/days/{office.day}/commands/{who}/{number}", headers, body))
+            counts.check(f"{header!r} isn't {who}: {answers}", set(answers) <= {401, 429})  # wrong tokens are slowed down by now
+    counts.check("and it enters nothing", office.capture_journal_of_desk() == before)
 
 
 def check_paths(counts: Counts, office: ServedOffice) -> None:
@@ -394,6 +409,11 @@ def check_secrets(counts: Counts, office: ServedOffice) -> None:
     counts.check("each line of the log is JSON", all(json.loads(line)["event"] for line in log.splitlines()))
     private = [path for path in [office.folder, *office.folder.rglob("*")] if path.stat().st_mode & 0o077]
     counts.check(f"no file is for others: {private}", not private)
+    others = sorted({path.name for path in office.folder.rglob("*") if path.is_file()} - set(folder.OFFICE_FILES + folder.DAY_FILES))
+    counts.check(f"and a start looks at each: {others}", not others)
+    for process in (office.process.pid, *office.capture_desk_processes()):
+        limits = Path(f"/proc/{process}/limits").read_text()
+        counts.check(f"no core file is written: {limits}", re.search(r"^Max core file size +0 +0 +bytes", limits, re.MULTILINE) is not None)
 
 
 def make_certificate(room: str) -> tuple[Path, Path]:

@@ -68,6 +68,7 @@ def check_strangers(counts: Counts, args: argparse.Namespace) -> None:
         client.enter(office.day, f"cancel,{who},A,,,,,,")
         office.run_tool("revoke", office.folder, who)
         counts.check("a revoked token is refused at once", call_and_see_refusal(lambda: client.orders(office.day), "Token"))
+        hostile.check_names_without_a_token(counts, office, who)
         hostile.check_secrets(counts, office)
 
 
@@ -220,7 +221,7 @@ def check_rolled_back(counts: Counts, args: argparse.Namespace) -> None:
         later = desk.read_bytes()
         for lost in (earlier, None):
             for _ in range(2):
-                desk.unlink() if lost is None else desk.write_bytes(lost)
+                desk.unlink() if lost is None else write_private(desk, lost)
                 started = office.start_and_see_readiness()
                 said = office.log.read_text()
                 counts.check(f"a journal without signed entries isn't served: {said[-300:]}", not started and "LostEntries" in said)
@@ -228,18 +229,24 @@ def check_rolled_back(counts: Counts, args: argparse.Namespace) -> None:
                 counts.check("and it says that it is stopped", json.loads(office.send_request("/days")[2])["days"][0]["state"] == "stopped")
                 office.stop()
                 office.log.write_text("")
-        desk.write_bytes(later)
+        write_private(desk, later)
         office.start_and_return_seconds()
         counts.check(
             "with its file back the day goes on", office.client_of(who).enter(office.day, f"cancel,{who},C,,,,,,")[0]["number"] == 3
         )
         office.stop()
         counts.check("an orderly end has the newest head", json.loads(signed.read_bytes())["size"] == 3)
-        desk.write_bytes(earlier)
+        write_private(desk, earlier)
         signed.unlink()
         office.start_and_return_seconds()
         counts.check("and without the head's file a shorter journal is served", len(office.client_of(who).commands(office.day)) == 1)
     check_restored(counts, args)
+
+
+def write_private(path: Path, data: bytes) -> None:
+    """Writes a file of the office, which others may not read."""
+    path.touch(0o600)
+    path.write_bytes(data)
 
 
 def check_restored(counts: Counts, args: argparse.Namespace) -> None:
@@ -254,8 +261,14 @@ def check_restored(counts: Counts, args: argparse.Namespace) -> None:
         for name in ("desk", "desk-wal", "signed-head.json"):
             (office.files / name).unlink()
         records = "".join(f"{record}\n" for record in [*backup, *(receipt["record"] for receipt in after)])
-        subprocess.run([args.desk, office.files / "desk"], input=records.encode(), capture_output=True, check=True)
-        office.start_and_return_seconds()
+        words = [args.desk, office.files / "desk"]
+        subprocess.run(words, input=records.encode(), capture_output=True, check=True, umask=0o022)
+        office.start_process()
+        is_named = wait_and_see_if(lambda: b'desk can be read or changed by others: chmod 600"' in office.log.read_bytes() and office.probe_and_see_listening())
+        counts.check("a desk that others may read isn't served", is_named and office.send_request(f"/days/{office.day}")[0] == 404)
+        for made in office.files.glob("desk*"):
+            made.chmod(0o600)
+        counts.check("until it is the owner's alone", wait_and_see_if(office.probe_and_see_readiness))
         again = [
             (who, json.loads(office.send_request(f"{path}/{who}/{number}", office.bearer_header(who))[2]))
             for number in (1, 2)

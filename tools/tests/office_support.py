@@ -5,6 +5,7 @@ import asyncio
 import contextlib
 import datetime
 import io
+import os
 import signal
 import tempfile
 import unittest
@@ -102,6 +103,7 @@ class Office(unittest.IsolatedAsyncioTestCase):
         self.addCleanup(signal.signal, signal.SIGALRM, signal.signal(signal.SIGALRM, raise_lateness))
         self.addCleanup(signal.setitimer, signal.ITIMER_REAL, 0)
         signal.setitimer(signal.ITIMER_REAL, SECONDS, 1)  # again and again, in case that something takes the first for a defect
+        self.addCleanup(os.umask, os.umask(0o077))  # as the tool's
         room = tempfile.TemporaryDirectory()
         self.addCleanup(room.cleanup)
         self.office = folder.Folder(Path(room.name, "office"))

@@ -368,6 +368,23 @@ class Contradictions(InFolder):
             found[is_shown] += 1
         self.assertGreater(min(found.values()), 200)
 
+    def test_a_head_and_the_receipt_of_its_last_entry_under_a_later_head(self):
+        """Of two journals, they contradict each other exactly if these differ in an entry of the head: the receipt shows all its parts."""
+        most, places, salts = 20, (1, 2, 5, 7, 8, 11, 13, 16, 17, 19), sealing.draw_salts(DAY)
+        _, ends = grown(self.key, [100] * most, range(1, most + 1), salts)
+        forks = {at: grown(self.key, fork([100] * most, at), range(1, most + 1), salts) for at in places}
+        found = Counter()
+        for small, large in itertools.combinations(range(1, most + 1), 2):
+            for at, (other, other_ends) in forks.items():
+                signed = Signed()
+                signed.add_head(ends[small], Place("head"), "")
+                signed.add_head(other_ends[large], Place("receipt"), "")
+                signed.add_entry(other.receipt(small, other_ends[large]), Place("receipt"), "")
+                with self.subTest(small=small, large=large, at=at):
+                    self.assertEqual(bool(signed.contradictions()), at <= small)
+                found[at <= small] += 1
+        self.assertGreater(min(found.values()), 500)
+
     def test_a_file_that_is_none_hides_nothing(self):
         """It is named, the others are judged, and the status is 1 if they prove a fault."""
         Path("bad.json").write_bytes(b"garbage\n")

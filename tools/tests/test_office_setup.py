@@ -471,7 +471,6 @@ class Setup(Office):
         self.assertIn(f"The file may lack the last {newest_head.PAUSE} s.", " ".join((TOP / "docs" / "OFFICE.md").read_text().split()))
 
     def test_a_fault_of_the_disk_names_the_file(self):
-        self.addCleanup(os.umask, os.umask(0o077))
         self.write_office()
         room = self.office.path.parent
         self.write_and_read_participants("participant\nGAS\n")
@@ -627,7 +626,6 @@ class Setup(Office):
             await served.stop_days()
 
     def test_a_damaged_file_is_no_defect_of_the_tool(self):
-        self.addCleanup(os.umask, os.umask(0o077))
         self.write_office()
         terms, participants = self.office.list_folders_by_day()[DAY].path_of(folder.TERMS), self.office.path_of(folder.PARTICIPANTS)
         for path, kind in ((terms, "the terms of a day"), (participants, "the digests of the participants' tokens")):
@@ -641,7 +639,6 @@ class Setup(Office):
 
     def test_where_the_terms_of_a_day_are_odd(self):
         """The fault names the member."""
-        self.addCleanup(os.umask, os.umask(0o077))
         self.write_office()
         path = self.office.list_folders_by_day()[DAY].path_of(folder.TERMS)
         kept = path.read_bytes()
@@ -702,7 +699,6 @@ class Setup(Office):
                 self.assertEqual((status, err), (exits.NO_INPUT, f"office: {DAY}: {said}\n"))
 
     def test_the_status_has_the_other_days_of_one_that_cant_be_read(self):
-        self.addCleanup(os.umask, os.umask(0o077))
         self.write_office()
         later = "2026-11-30"
         setup.make_day_or_stop(self.office, folder.Terms(later, 24, FUTURE, "UTC", dict.fromkeys(NAMES, 10)))

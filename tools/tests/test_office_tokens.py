@@ -2,26 +2,60 @@
 
 import argparse
 import asyncio
+import contextlib
+import datetime
+import hashlib
 import io
 import json
 import logging
 import os
 import re
+import ssl
 import stat
 import threading
 import unittest
+import warnings
 from unittest import mock
 
-from office_support import DAY, NAMES, Office
+from office_support import DAY, FUTURE, NAMES, Disk, Office, patch_of_opening
 from support import TOOLS
 
 from lib.tool import exits
 
 try:
-    from lib.office import budgets, connections, folder, monitoring, programs, refusals, requests, routes, serve as serving, tokens
+    from cryptography import x509
+    from cryptography.hazmat.primitives import hashes, serialization
+    from cryptography.hazmat.primitives.asymmetric import ec
+    from lib.office import budgets, connections, folder, monitoring, programs, refusals, requests, routes, serve as serving, setup, tokens
     from lib.office import table_reader as reader
 except ImportError:  # without python3-aiohttp and the like, whose tests are skipped
     pass
+
+NO_TOKENS = ("", " ", "None", "GAS", "GAS.", "-" * 64, "0" * 64, hashlib.sha256(b"").hexdigest(), "\udc80")  # that nobody drew
+
+
+def make_certificate(room):
+    """A certificate of localhost and its key, in files of a folder."""
+    name, key = x509.Name([x509.NameAttribute(x509.NameOID.COMMON_NAME, "localhost")]), ec.generate_private_key(ec.SECP256R1())
+    now = datetime.datetime.now(datetime.timezone.utc)
+    made = x509.CertificateBuilder().subject_name(name).issuer_name(name).public_key(key.public_key()).serial_number(1)
+    made = made.not_valid_before(now - datetime.timedelta(1)).not_valid_after(now + datetime.timedelta(1))
+    made = made.add_extension(x509.SubjectAlternativeName([x509.DNSName("localhost")]), critical=False).sign(key, hashes.SHA256())
+    form = serialization.Encoding.PEM
+    (room / "cert.pem").write_bytes(made.public_bytes(form))
+    private = key.private_bytes(form, serialization.PrivateFormat.PKCS8, serialization.NoEncryption())
+    (room / "key.pem").write_bytes(private)
+    return room / "cert.pem", room / "key.pem"
+
+
+def version_of_handshake(office, client):
+    """The version of TLS on which two contexts agree, without a network."""
+    sent, received = ssl.MemoryBIO(), ssl.MemoryBIO()
+    ends = [client.wrap_bio(received, sent, server_hostname="localhost"), office.wrap_bio(sent, received, server_side=True)]
+    for end in 3 * ends:
+        with contextlib.suppress(ssl.SSLWantReadError):
+            end.do_handshake()
+    return ends[0].version()
 
 
 class Tokens(Office):
@@ -37,7 +71,7 @@ class Tokens(Office):
         # each of the 43 characters is drawn, of which the last has four bits alone
         drawn = [tokens.draw_token("GAS").partition(".")[2] for _ in range(64)]
         self.assertGreater(min(len(set(values)) for values in zip(*drawn)), 8)
-        for wrong in ("", "GAS.", made["GAS"][:-1], made["GAS"] + "x", tokens.NOBODY, "\udc80"):
+        for wrong in (*NO_TOKENS, made["GAS"][:-1], made["GAS"] + "x"):
             self.assertFalse(register.read_and_see_if_token_of("GAS", wrong))
         self.assertFalse(register.read_and_see_if_token_of("NOBODY", made["GAS"]))
         served = tokens.Register(self.office.path_of(folder.PARTICIPANTS))
@@ -45,8 +79,47 @@ class Tokens(Office):
         register.write_revoked("GAS")
         self.assertFalse(served.read_and_see_if_token_of("GAS", made["GAS"]))
         self.assertTrue(served.read_and_see_if_token_of("A", made["A"]))
+        for who in ("GAS", "NOBODY", ""):
+            for wrong in (*NO_TOKENS, made["GAS"], made["A"]):
+                self.assertFalse(served.read_and_see_if_token_of(who, wrong), (who, wrong))
         new = register.write_and_return_new_token("GAS")
         self.assertTrue(served.read_and_see_if_token_of("GAS", new) and not served.read_and_see_if_token_of("GAS", made["GAS"]))
+
+    def test_a_comparison_takes_the_same_time_for_every_token_and_name(self):
+        """It is the library's, of texts of one length; only a name with a digest heeds it."""
+        self.write_office()
+        register = tokens.Register(self.office.path_of(folder.PARTICIPANTS))
+        made = {who: register.write_and_return_new_token(who) for who in NAMES}
+        register.write_revoked("A")
+        for is_equal in (False, True):
+            for who in (*NAMES, "NOBODY"):
+                for token in (made["GAS"], "", "x" * 1_000):
+                    with mock.patch.object(tokens.hmac, "compare_digest", return_value=is_equal) as compare:
+                        self.assertEqual(register.read_and_see_if_token_of(who, token), is_equal and who in ("GAS", "LONGNAME"), (who, token))
+                    ((one, other),) = (call.args for call in compare.call_args_list)
+                    self.assertEqual((len(one), len(other)), (64, 64))
+                    self.assertIn(hashlib.sha256(token.encode()).hexdigest(), (one, other))
+
+    def test_no_request_without_a_token_is_of_a_revoked_or_an_unknown_name(self):
+        self.write_office()
+        office = serving.Office(self.office, programs.Programs("dam", "dam-desk"), monitoring.Log(io.StringIO()))
+        admission = routes.Web(office).admission
+        made = office.register.write_and_return_new_token("GAS")
+        office.register.write_revoked("A")
+        for who, header, is_right in (
+            ("GAS", f"Bearer {made}", True),
+            *(
+                (who, header, False)
+                for who in ("A", "GAS", "NOBODY")
+                for header in (None, "", "Bearer", "Bearer ", "Bearer  ", "bearer\t", f"Bearer {who}", f"Bearer {who}.", "Bearer None", made)
+            ),
+        ):
+            asked = argparse.Namespace(headers={} if header is None else {"Authorization": header}, match_info={"who": who})
+            with self.subTest(who=who, header=header):
+                self.assertEqual(admission.read_and_see_authorization(asked), is_right)
+                if not is_right:
+                    with self.assertRaises(refusals.Refused):
+                        admission.refuse_stranger_to_demo(asked)
 
     def test_a_new_token_counts_also_within_the_resolution_of_the_file_s_time(self):
         self.write_office()
@@ -95,14 +168,70 @@ class Tokens(Office):
         self.assertIn("\nStartLimitIntervalSec=0\n", unit, "systemd doesn't give up: the close comes also after many failed starts")
 
     def test_files_are_the_owners_alone(self):
-        before = os.umask(0o077)
-        self.addCleanup(os.umask, before)
         self.write_office()
         for path in [self.office.path, *self.office.path.rglob("*")]:
             self.assertEqual(stat.S_IMODE(path.stat().st_mode) & 0o077, 0, path)
-        self.office.path_of(folder.KEY).chmod(0o644)
-        with self.assertRaisesRegex(exits.Stop, "can be read by others"):
-            self.office.refuse_if_no_office()
+        with self.office.holding():
+            tokens.Register(self.office.path_of(folder.PARTICIPANTS)).write_and_return_new_tokens(NAMES)
+        day = self.office.list_folders_by_day()[DAY]
+        for name in folder.DAY_FILES:
+            day.path_of(name).touch()
+        named = [*map(self.office.path_of, folder.OFFICE_FILES), *map(day.path_of, folder.DAY_FILES)]
+        self.assertEqual(sorted(named), sorted(path for path in self.office.path.rglob("*") if path.is_file()), "all files that it has")
+        public = [self.office.path_of(folder.PUBLIC), *map(day.path_of, folder.PUBLISHED_FILES)]
+        for is_published in (False, True):
+            if is_published:
+                day.path_of(folder.OPEN_JOURNAL).touch(0o644)
+            self.refuse_shared(day)
+            for path in named:
+                may_read = path in public[: None if is_published else 1]
+                for mode in (0o644, 0o640, 0o604, 0o622, 0o620, 0o602, 0o611):
+                    path.chmod(mode)
+                    with self.subTest(path=path, mode=oct(mode)):
+                        if may_read and mode & 0o022 == 0:
+                            self.refuse_shared(day)
+                            continue
+                        with self.assertRaises(exits.Stop) as caught:
+                            self.refuse_shared(day)
+                        self.assertEqual(str(caught.exception), f"{path} can be read or changed by others: chmod 600")
+                path.chmod(0o600)
+
+    def refuse_shared(self, day):
+        self.office.refuse_if_no_office()
+        day.refuse_if_shared()
+
+    async def test_a_day_whose_files_others_may_read_is_named_and_the_others_are_served(self):
+        self.write_office()
+        later = "2026-11-30"
+        setup.make_day_or_stop(self.office, folder.Terms(later, 24, FUTURE, "UTC", dict.fromkeys(NAMES, 10)))
+        office = serving.Office(self.office, programs.Programs("dam", "dam-desk"), monitoring.Log(io.StringIO()))
+        salts = self.office.list_folders_by_day()[later].path_of(folder.SALTS)
+        with patch_of_opening(Disk()):
+            salts.chmod(0o640)
+            self.assertEqual(office.take_up_days_and_return_faults(), {later: f"{salts} can be read or changed by others: chmod 600"})
+            self.assertEqual(list(office.writers), [DAY])
+            salts.chmod(0o600)
+            self.assertEqual(office.take_up_days_and_return_faults(), {})
+            self.assertEqual(list(office.writers), [DAY, later])
+            await office.stop_days()
+
+    def test_a_client_with_an_old_version_of_tls_is_refused(self):
+        """Also where the system's OpenSSL takes it."""
+        cert, key = make_certificate(self.office.path.parent)
+        office = serving.read_tls_context_or_stop((str(cert), str(key)))
+        self.assertEqual(office.minimum_version, ssl.TLSVersion.TLSv1_2)
+        office.set_ciphers("ALL:@SECLEVEL=0")
+        client = ssl.create_default_context(cafile=cert)
+        client.set_ciphers("ALL:@SECLEVEL=0")
+        with warnings.catch_warnings():
+            warnings.simplefilter("ignore", DeprecationWarning)
+            client.minimum_version = ssl.TLSVersion.TLSv1
+            for version in (ssl.TLSVersion.TLSv1, ssl.TLSVersion.TLSv1_1):
+                client.maximum_version = version
+                with self.assertRaises(ssl.SSLError):
+                    version_of_handshake(office, client)
+            client.maximum_version = ssl.TLSVersion.TLSv1_2
+            self.assertEqual(version_of_handshake(office, client), "TLSv1.2")
 
     def test_defects_in_a_library_are_logged_once_a_minute(self):
         stream, now = io.StringIO(), [0.0]

@@ -9,7 +9,7 @@ import functools
 import json
 import os
 import tempfile
-from collections.abc import Iterator
+from collections.abc import Iterable, Iterator
 from pathlib import Path
 from typing import TYPE_CHECKING, NamedTuple
 
@@ -33,7 +33,10 @@ OPEN, CLOSING, CLOSED, RESULTS_THERE, PUBLISHED = "open", "closing", "closed", "
 STOPPED = "stopped"  # a state that only an office in service knows
 MOST_COMMANDS = rules.MOST_RECORDS - 2  # of all participants: the day and the close are records too
 UNREADABLE = (OSError, exits.Stop)  # by a file that is missing, damaged or another user's
-PRIVATE = 0o077  # the bits of a mode that no file of an office has
+PRIVATE, CHANGES = 0o077, 0o022  # the bits of a mode by which others read, change or run a file; those by which they change it
+OFFICE_FILES = (KEY, PUBLIC, PARTICIPANTS, f"{PARTICIPANTS}.lock", LOCK)
+DAY_FILES = (TERMS, SALTS, DESK, f"{DESK}-wal", SIGNED, HEAD, JOURNAL, REPLIES, RESULTS, STATEMENT, SUMS)  # without those whose names alone count
+PUBLISHED_FILES = (HEAD, JOURNAL, REPLIES, RESULTS)
 MOST_DIGITS = 20  # of a number that is read
 ROOM = 1 << 17  # bytes: more than the desk writes at once
 
@@ -177,6 +180,13 @@ class NamedFiles:
     def path_of(self, name: str) -> Path:
         return self.path / name
 
+    def refuse_shared_files(self, names: Iterable[str], public: Iterable[str]) -> None:
+        """Ends what serves these files, which need not be there, if others may change one, or read one that isn't public."""
+        for name in names:
+            with contextlib.suppress(FileNotFoundError):
+                if self.path_of(name).stat().st_mode & (CHANGES if name in public else PRIVATE):
+                    raise exits.Stop(f"{exits.shown(self.path_of(name))} can be read or changed by others: chmod 600")
+
 
 class DayFolder(NamedFiles):
     """The files of a day."""
@@ -187,6 +197,10 @@ class DayFolder(NamedFiles):
 
     def has_file(self, name: str) -> bool:
         return self.path_of(name).exists()
+
+    def refuse_if_shared(self) -> None:
+        """Ends what serves the day if others may read or change its files. All may read what is published."""
+        self.refuse_shared_files(DAY_FILES, PUBLISHED_FILES if self.has_file(OPEN_JOURNAL) else ())
 
     def read_file(self, name: str) -> bytes:
         return self.path_of(name).read_bytes()
@@ -225,15 +239,13 @@ class Folder(NamedFiles):
     """The files of an office."""
 
     def refuse_if_no_office(self) -> None:
-        """Ends the tool if this isn't the folder of an office, or others may read its secrets."""
+        """Ends the tool if this isn't the folder of an office, or others may read its secrets or change its files."""
         if self.path_of(KEY).is_file() and self.path_of(DAYS).is_dir() and not self.path_of(PARTICIPANTS).is_file():
             raise exits.Stop(f"{exits.shown(self.path_of(PARTICIPANTS))} is missing: put it back")
         if not self.path_of(PARTICIPANTS).is_file():
             init = place.with_commands_of_here("tools/office init")
             raise exits.Stop(f"{exits.shown(self.path)} isn't the folder of an office: {init} makes one")
-        for name in (KEY, PARTICIPANTS):
-            if self.path_of(name).stat().st_mode & PRIVATE:
-                raise exits.Stop(f"{exits.shown(self.path_of(name))} can be read by others: chmod 600")
+        self.refuse_shared_files(OFFICE_FILES, [PUBLIC])
 
     def read_key(self) -> Ed25519PrivateKey:
         from ..receipts import receipts

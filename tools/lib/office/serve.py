@@ -59,6 +59,7 @@ class Office:
         for name, files in self.files.list_folders_by_day().items():
             with noting_unreadable(name, missed):
                 if name not in self.writers:
+                    files.refuse_if_shared()
                     new.append((files.has_file(folder.STATEMENT), name, files))
         for _, name, files in sorted(new, key=lambda one: one[:2]):
             with noting_unreadable(name, missed):

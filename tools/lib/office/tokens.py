@@ -18,7 +18,7 @@ from . import folder
 
 BYTES = 32
 DIGEST = re.compile(r"[0-9a-f]{64}")
-NOBODY = hashlib.sha256(secrets.token_bytes(BYTES)).hexdigest()  # the digest of a random token, which nobody has
+NO_DIGEST = "-" * 64  # as long as a digest, and none: no token has it
 
 
 def draw_token(who: str) -> str:
@@ -57,9 +57,12 @@ class Register:
                 self.digests, self.seen = parse_digests(self.path.read_bytes()), state
 
     def read_and_see_if_token_of(self, who: str, token: str) -> bool:
-        """Whether a token is the participant's. The comparison takes the same time for every token, and for a name that isn't known."""
+        """Whether a token is the participant's. A name without a digest has none. The comparison takes the same time for every token and
+        name."""
         self.read_and_keep_if_changed()
-        return hmac.compare_digest(self.digests.get(who) or NOBODY, digest_of(token))
+        digest = self.digests.get(who)
+        is_equal = hmac.compare_digest(digest or NO_DIGEST, digest_of(token))
+        return is_equal and digest is not None
 
     def read_names(self) -> list[str]:
         self.read_and_keep_if_changed()

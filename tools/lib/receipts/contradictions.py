@@ -134,8 +134,8 @@ def two_hashes(subtrees: Subtrees) -> TwoHashes | None:
 
 
 def hash_of_parts(subtrees: Subtrees, begin: int, end: int) -> Hashed | None:
-    """The hash that the parts of an incomplete subtree make, if each is known. What the parts of a complete one make is shown wherever
-    its second half is."""
+    """The hash of an incomplete subtree by the hashes of its parts, if each is known. A complete subtree needs none: each file that shows
+    its right half shows its hash too."""
     count = end - begin
     if count & (count - 1) == 0:
         return None

@@ -102,8 +102,8 @@ class OperatorStatements:
             return None
 
     def add_if_valid_and_see(self, path: str, extension: Extension, findings: list[Finding]) -> bool:
-        """Whether an extension connects its heads. If it doesn't, `findings` gets that. Anyone can make another path, so a wrong one is
-        nobody's fault."""
+        """Whether an extension connects its heads. If it doesn't, `findings` gets that. A wrong path proves no fault of the operator: anyone
+        can make one."""
         one, other = (self.add_and_find_signer(path, end, findings, EXTENSION) for end in (extension.old, extension.new))
         if one is None or other is None:
             return False
