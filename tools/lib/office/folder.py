@@ -35,7 +35,8 @@ MOST_COMMANDS = rules.MOST_RECORDS - 2  # of all participants: the day and the c
 UNREADABLE = (OSError, exits.Stop)  # by a file that is missing, damaged or another user's
 PRIVATE, CHANGES = 0o077, 0o022  # the bits of a mode by which others read, change or run a file; those by which they change it
 OFFICE_FILES = (KEY, PUBLIC, PARTICIPANTS, f"{PARTICIPANTS}.lock", LOCK)
-DAY_FILES = (TERMS, SALTS, DESK, f"{DESK}-wal", SIGNED, HEAD, JOURNAL, REPLIES, RESULTS, STATEMENT, SUMS)  # without those whose names alone count
+# Those of a day with contents that count: the operator's requests are files whose names alone do.
+DAY_FILES = (TERMS, SALTS, DESK, f"{DESK}-wal", SIGNED, HEAD, JOURNAL, REPLIES, RESULTS, STATEMENT, SUMS)
 PUBLISHED_FILES = (HEAD, JOURNAL, REPLIES, RESULTS)
 MOST_DIGITS = 20  # of a number that is read
 ROOM = 1 << 17  # bytes: more than the desk writes at once

@@ -18,7 +18,8 @@ from .ledger import Contradiction, Ledger
 NAMES = r"[A-Z0-9-]+(?:, [A-Z0-9-]+)*(?: and [A-Z0-9-]+)?"
 OWN_GAIN = re.compile(rf"(?:with {NAMES} it )?would gain (?:nothing|[0-9.,]+ EUR) at the prices")
 # How it goes on, by its code, until the journal is published. The published words compare the result with another selection: its welfare,
-# its losses and the periods that don't balance tell others' limits and volumes. Five codes share one text, because the code alone tells something of them.
+# its losses and the periods that don't balance tell others' limits and volumes. Five codes share one text, because the code alone tells
+# something of them.
 MOST_GAIN = "but if it were accepted, a block would lose, a period wouldn't balance, or the welfare wouldn't be greater"
 HIDDEN = {
     judgement.GROUP: "but another block of its group, or of a parent's group, is accepted",
