@@ -264,7 +264,8 @@ def check_restored(counts: Counts, args: argparse.Namespace) -> None:
         words = [args.desk, office.files / "desk"]
         subprocess.run(words, input=records.encode(), capture_output=True, check=True, umask=0o022)
         office.start_process()
-        is_named = wait_and_see_if(lambda: b'desk can be read or changed by others: chmod 600"' in office.log.read_bytes() and office.probe_and_see_listening())
+        said = b'desk can be read or changed by others: chmod 600"'
+        is_named = wait_and_see_if(lambda: said in office.log.read_bytes() and office.probe_and_see_listening())
         counts.check("a desk that others may read isn't served", is_named and office.send_request(f"/days/{office.day}")[0] == 404)
         for made in office.files.glob("desk*"):
             made.chmod(0o600)
