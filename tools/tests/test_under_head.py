@@ -244,6 +244,18 @@ class Audit(Audited):
             self.assertIn(said, out)
             self.assertIn("\nas signed: the head of 2026-11-28 with 94 entries\n", out)
 
+    def test_a_journal_with_other_periods_than_its_head_proves_no_fault(self):
+        """It isn't the operator's own, so an earlier head of other entries may be right."""
+        key = signing.parse_private(Path("key.pem").read_bytes())
+        self.seal()
+        head, _ = heads.parse_value_and_is_written(Path("sealed/head.json").read_bytes(), heads.parse_head)
+        earlier = signing.head_with_signature(key, head._replace(size=head.size - 1))
+        Path("earlier.json").write_bytes(heads.line_bytes_of(earlier))
+        for periods, is_proved in ((24, True), (25, False)):
+            Path("sealed/head.json").write_bytes(heads.line_bytes_of(signing.head_with_signature(key, head._replace(periods=periods))))
+            lines = [line for line in self.audit(1, "day.csv", "--earlier", "earlier.json").splitlines() if line.startswith("earlier.json")]
+            self.assertEqual([line.endswith(under_head.PROVED) for line in lines], [is_proved])
+
     def test_the_audit_of_receipts_of_other_days_and_forged_ones(self):
         """Neither is the operator's fault."""
         key = signing.parse_private(Path("key.pem").read_bytes())
