@@ -7,11 +7,12 @@ import io
 import json
 import re
 import unittest
+from unittest import mock
 
 from office_support import DAY, FUTURE, NAMES, Disk, Office, commands_of_records, patch_of_opening
 
 try:
-    from lib.office import connections, folder, monitoring, programs, routes, serve as serving, setup
+    from lib.office import connections, folder, monitoring, programs, requests, routes, serve as serving, setup, table_reader
 except ImportError:  # without python3-aiohttp and the like, whose tests are skipped
     pass
 
@@ -137,6 +138,14 @@ class Answers(Office):
                                 self.assertEqual(status, 200 if is_closed or "statement" not in path else 404)
                                 self.assertEqual(f"SEC-{who}" in text, status == 200)
                                 self.assert_silent(text, [who])
+
+    async def test_a_table_is_read_next_to_the_own_orders_alone(self):
+        """A fault of a name that is taken would tell another's."""
+        async with self.serving():
+            with mock.patch.object(table_reader, "capture_table", return_value=requests.ReadTable([], [])) as capture:
+                for who in NAMES:
+                    status, _, _ = await self.ask("POST", f"{DAY_PATH}/tables/{{who}}", self.bearer(who), b"x", who)
+                    self.assertEqual((status, capture.await_args.args), (200, (b"x", who, 24, [(f"SEC-{who}", "hour")])))
 
     async def test_nothing_of_the_orders_is_public_before_the_journal_is(self):
         async with self.serving():
