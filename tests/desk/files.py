@@ -2,6 +2,7 @@
 
 import contextlib
 import errno
+import fcntl
 import itertools
 import os
 import pty
@@ -25,6 +26,7 @@ from desk.device import (
     LOCKED_LINE,
     OUTPUT,
     READ,
+    ROOM,
     SECONDS,
     STREAM,
     SYNC,
@@ -32,6 +34,7 @@ from desk.device import (
     DeskProgram,
     DeskRun,
     RefusedFileCalls,
+    parse_events,
 )
 from desk.journals import DamProgram
 from lib.base import rules
@@ -50,6 +53,8 @@ NO_LINES = b"file: its lines aren't a journal: "
 NOBODY = 65_534
 NO_TEXT = os.fsdecode(b"\xff")  # a word that isn't UTF-8
 BATCH = 65_536  # bytes of a read
+FULL_READS = (BATCH - 1, BATCH, BATCH + 1, 2 * BATCH)  # bytes that come in at once
+AT_ONCE = sorted({*((1 << power) + step for power in range(9, 17) for step in (-1, 0, 1)), *FULL_READS, 3 * BATCH, 5 * BATCH, ROOM})
 READS = 70_000  # more than 16 bits count
 LINES = 300_000  # of an input that comes in by as many reads
 LENGTHS = [round(1.5**power) for power in range(1, 29)]  # of lines, up to one that is too long
@@ -140,6 +145,7 @@ def check_files(counts: Counts, desk: DeskProgram, dam: DamProgram, whole: bool)
     files.check_other_output()
     files.check_full_journals()
     files.check_half_a_line()
+    files.check_bytes_at_once()
     files.check_end_at_terminal()
     files.check_long_batches()
     files.check_many_reads()
@@ -503,6 +509,42 @@ class FileTests:
             rest, _ = desk.communicate(CLOSE[3:])
             self.counts.check(f"and that one then: {rest!r}", rest == b"1,done\n")
 
+    def check_bytes_at_once(self) -> None:
+        """Whole lines are answered before the desk reads on, however many bytes come in at once: those of a full read, of several, of a few
+        more, and others. They enter records, or have a fault; they are short, or of 512 bytes and more."""
+        parts = [DAY, *(text_of_length(b"A\n", b"A", 2, length) for length in FULL_READS)]
+        count = b"".join(parts).count(b"\n")
+        self.check_parts("lines with a fault", parts, [b"day,24\n", *(b"fault,%d,FieldCount\n" % number for number in range(2, count + 1))])
+        self.check_records("records", [text_of_length(b"cancel,A,S1,,,,,,\n", b"\r", 512, length) for length in AT_ONCE])
+        for length in FULL_READS:
+            self.check_records("short records", [text_of_length(CLOSE, b"\r", len(CLOSE), length)])
+
+    def check_records(self, about: str, parts: list[bytes]) -> None:
+        parts = [DAY, *parts]
+        self.check_parts(about, parts, streams.expected_of(b"".join(parts)).capture_output_of_dam(self.dam))
+
+    def check_parts(self, about: str, parts: list[bytes], answers: list[bytes]) -> None:
+        """Writes each part once the lines of all before it are answered, while the desk waits for more."""
+        left = iter(answers)
+        file = self.desk.make_path()
+        log = file.with_name("log")
+        log.write_bytes(b"")
+        with self.desk.start(file, env={**os.environ, **self.desk.environment_for(file, DESK_LOG=str(log))}) as desk:
+            given, answered = (pipe.fileno() for pipe in pipes_of(desk))
+            fcntl.fcntl(given, fcntl.F_SETPIPE_SZ, ROOM)
+            for part in parts:
+                os.write(given, part)
+                right = b"".join(itertools.islice(left, part.count(b"\n")))
+                got = read_answers(answered, len(right))
+                self.counts.check(f"{about}: {len(got)} of {len(right)} bytes answer {len(part):,} that came in at once", got == right)
+                if got != right:
+                    break
+            rest, _ = desk.communicate()
+            self.counts.check(f"{about}: a desk ends after {len(parts)} parts: {desk.returncode}, {rest!r:.80}", (desk.returncode, rest) == (0, b""))
+        made = [event.answer for event in parse_events(log.read_bytes()) if event.kind == INPUT]
+        whole = [min(BATCH, len(part) - at) for part in parts for at in range(0, len(part), BATCH)]
+        self.counts.check(f"{about}: reads of {made} bytes, and not {whole}", made == [*whole, 0])
+
     def check_end_at_terminal(self) -> None:
         """At a terminal, one Ctrl-D at the beginning of a line ends the input, and one in a line doesn't. Two more are typed, so that a
         desk that reads on ends too."""
@@ -614,6 +656,22 @@ class FileTests:
         is_right = (printed.status, printed.stderr, answered) == (0, b"", text.count(b"\n"))
         self.counts.check(f"{answered:,} lines are answered with the fault {word}: {printed!r:.300}", is_right)
         return peak
+
+
+def text_of_length(line: bytes, padding: bytes, width: int, length: int) -> bytes:
+    """Lines of this width, which all mean the same, with so many bytes: the first of them has what is left over."""
+    count, rest = divmod(length, width)
+    return line.rjust(width + rest, padding) + line.rjust(width, padding) * (count - 1)
+
+
+def read_answers(pipe: int, count: int) -> bytes:
+    """So many bytes of a desk's answers, or those that came within a time limit."""
+    found, end = b"", time.monotonic() + SECONDS
+    while len(found) < count and select.select([pipe], [], [], max(0, end - time.monotonic()))[0]:
+        if not (more := os.read(pipe, count - len(found))):
+            break
+        found += more
+    return found
 
 
 def limit_memory() -> None:

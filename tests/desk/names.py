@@ -8,7 +8,7 @@ full journal with amends and cancels: a step for each line that goes over all li
 import errno
 import shutil
 import time
-from collections.abc import Iterable, Iterator
+from collections.abc import Iterable, Iterator, Sequence
 from concurrent.futures import ThreadPoolExecutor
 
 from desk.device import DeskProgram
@@ -24,6 +24,7 @@ ABOUT = ["in a new file", "in a file that is opened again", "in a printed journa
 MILLIONS_OF_OTHERS = [31.2, 22.0, 22.1]  # instructions that were counted with other names
 MILLIONS_OF_FULL_JOURNAL = 71.9
 SOME = 1_000  # of the names, on other days
+FAULT = b"A\n"  # a line before the day
 FIXED = RefusedCalls("random", first=3, error=errno.ENOSYS)  # a file draws twice before
 
 
@@ -35,6 +36,21 @@ def iterate_instructions_of_desk(
     yield measure_instructions(program, [file], journal_text(records, True, periods), refusal)
     yield measure_instructions(program, [file], b"", refusal)
     yield measure_instructions(program, ["--journal", file], b"", refusal)
+
+
+def records_of_full_journal(names: Sequence[str]) -> list[str]:
+    """A submit of each name, an amend, and as many cancels as there may be before the close."""
+    found = [*submits_of(names), *(f"amend,A,{name},,,1,1:2,,\n" for name in names)]
+    return found + [f"cancel,A,{name},,,,,,\n" for name in names[: rules.MOST_DAY_COMMANDS - len(found)]]
+
+
+def check_full_journals(counts: Counts, program: HostileProgram, desk: DeskProgram) -> None:
+    """Names that collide in a journal of as many records as there may be, which is longer than one of the submits alone."""
+    names = records.ordinary_names(), capture_colliding_names(desk.room)
+    others, colliding = (list(iterate_instructions_of_desk(program, desk, records_of_full_journal(it), DRAWN)) for it in names)
+    for about, taken, by_others in zip(ABOUT, colliding, others):
+        took = f"names that collide in a full journal, {about}, take {taken / by_others:.1f} times the instructions of others"
+        counts.check(took, taken < TIMES * by_others)
 
 
 def check_names(counts: Counts, desk: DeskProgram, dam: DamProgram, whole: bool) -> None:
@@ -54,7 +70,11 @@ def check_names(counts: Counts, desk: DeskProgram, dam: DamProgram, whole: bool)
         counts.check(took, taken < TIMES * by_others)
     for about, taken, millions in zip(ABOUT, usual, MILLIONS_OF_OTHERS):
         check_and_print_millions(counts, f"other names {about} take", taken, millions)
+    check_full_journals(counts, program, desk)
     some = submits_of(capture_colliding_names(desk.room, SOME))
+    after = measure_instructions(program, [desk.make_path()], FAULT + journal_text(some), DRAWN)
+    took = f"{SOME:,} names that collide after a line with a fault take {after / usual[0]:.1f} times the instructions of"
+    counts.check(f"{took} {records.ORDERS:,} others", after < usual[0])
     for periods in set(rules.DAYS) - {24}:
         each = iterate_instructions_of_desk(program, desk, some, DRAWN, periods)
         for about, taken, by_others in zip(ABOUT, each, usual):

@@ -19,6 +19,7 @@ from shared.records import CLOSE, DAY
 
 FileCall = tuple[str, int, int]  # its kind, its place in the file, and how many bytes moved
 TORN = [round(1.5**power) for power in range(1, 41)]  # bytes after the lines of a file, up to as many as there may be
+LENGTHS = sorted({*((1 << power) + step for power in range(7, 23) for step in (-1, 0, 1)), 3 * BATCH})  # bytes of files
 COUNTS = (0, 1, 25, 300, 1_001, 1_700, 2_900, 4_800, 8_100, 9_898, 9_998)  # of commands
 SYNCED = (SYNC, 0, 0)
 CREATED = [(WRITE, 0, 1), SYNCED, (WRITE, 1, len(AFTER_FIRST)), SYNCED, (WRITE, 0, 1), SYNCED]
@@ -44,6 +45,8 @@ def files_with_calls() -> Iterator[tuple[str, bytes | None, list[FileCall]]]:
     yield "a long journal", full, []
     yield "a long journal and a torn line", full[:-1] + b"\n\n", calls_of_repair(len(full) - 1, 1)
     yield "a journal of long records", file_of_records(*longest_records(rules.MOST_RECORDS - 2)), []
+    for length in LENGTHS:
+        yield f"a file of {length:,} bytes", file_of_records(DAY).ljust(length), []
     for count in TORN:
         if end + count <= MOST_FILE_BYTES:
             yield f"{count:,} line feeds after the lines", file_of_records(DAY)[:-1] + b"\n" * count, calls_of_repair(end, count - 1)
@@ -72,6 +75,7 @@ class OpeningTests:
         self.check_same(f"{about} is opened by", calls_of_file(ran), [*calls_before_repair(len(bytes_ or b"")), *after])
         self.counts.check(f"{about}: status {ran.status}, {ran.stderr[:80]!r}", (ran.status, ran.stderr) == (0, b""))
         self.check_printed_once(about, ran)
+        self.check_printed_before_input(about, ran)
         self.counts.check(f"{about} is at rest", is_at_rest(file.read_bytes()))
         length, marked = file.stat().st_size, parse_marked_lines_or_none(file.read_bytes()) or b""
         ran = self.desk.run(file, [CLOSE])
@@ -88,6 +92,11 @@ class OpeningTests:
     def check_printed_once(self, about: str, ran: DeskRun) -> None:
         made = sum(event.kind == OUTPUT for event in ran.events)
         self.counts.check(f"{about}: {made} calls print {len(ran.stdout):,} bytes", made == (ran.stdout != b""))
+
+    def check_printed_before_input(self, about: str, ran: DeskRun) -> None:
+        """A client reads the replies to the journal before it writes a line."""
+        made = [event.kind for event in ran.events if event.kind in (INPUT, OUTPUT)]
+        self.check_same(f"{about}, {len(ran.stdout):,} bytes of replies, is served by", made, [OUTPUT] * (ran.stdout != b"") + [INPUT])
 
     def run_and_check_printed_and_remove(self, about: str, file: Path) -> None:
         """Prints the journal of a file: each byte of it is read once, in order."""
@@ -107,6 +116,7 @@ class OpeningTests:
         file.write_bytes(HEAD + journal.all_marked + b"-")
         ran = self.desk.run(file)
         about = f"a day of {periods} periods and {count:,} commands"
+        self.check_printed_before_input(about, ran)
         is_right = ran.printed == (0, journal.all_printed, b"")
         self.counts.check(f"{about} is opened again: status {ran.status}, {ran.stderr[:80]!r}", is_right)
         shown = self.desk.run(file, words=["--journal"])
