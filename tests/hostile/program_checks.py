@@ -15,11 +15,12 @@ from lib.base import rules
 from shared.generated_books import generate_book
 from shared.preload import LEFT, SECONDS, HostileProgram, RefusedCalls, Words
 from shared.printed import Printed
-from shared.records import CLOSE, DAY
+from shared.records import CLOSE, DAY, journal_text, submits_of_book
 
 CHUNK = 65_536  # bytes of a read
 LENGTHS = [10_000, CHUNK - 1, CHUNK, 2 * CHUNK, 100_000, 1_000_000, 4_000_000, 10_000_000, rules.MOST_BYTES]  # of texts that are read
 PIPE = 1 << 20  # the most bytes of a pipe
+COMMANDS = [1_001, 4_097, rules.MOST_DAY_COMMANDS]  # of larger days
 AMENDS = [9, 1_100, rules.MOST_DAY_COMMANDS - rules.MOST_BLOCKS - 100]  # of all periods, whose journals have 40 KB, 900 KB and 8 MB
 SMALL_BOOK, STEP = 30, 250  # orders, and those that a book has more than the one before
 
@@ -63,7 +64,8 @@ def check_seeds(runs: RunsOfRows) -> None:
 
 
 def check_threads(runs: RunsOfRows) -> None:
-    """A search starts a thread for each worker but one, whose work the calling thread does, and so does a day for its participants."""
+    """A search starts a thread for each worker but one, whose work the calling thread does, and so does a day for its participants: also
+    on a full book, and on days of many commands."""
     lines = [b"cancel,%c,X,,,,,,\n" % ord(code) for code in "ABCDEFGH"[: rules.MOST_DAY_PARTICIPANTS]]
     tried: list[tuple[str, bytes, int, Sequence[int], list[str]]] = [
         ("clear", AUCTION, 0, range(1, 9), []),
@@ -72,15 +74,22 @@ def check_threads(runs: RunsOfRows) -> None:
     ]
     for periods in rules.DAYS:
         day = b"day,%d,,,,,,,\n" % periods
-        tried += [("clear", AUCTION.replace(DAY, day), 0, (1, 2, 8), more) for more in (list[str](), ["--nodes", "10"])]
+        tried += [("clear", AUCTION.replace(DAY, day), 0, range(1, 9), more) for more in (list[str](), ["--nodes", "10"])]
         tried += [("day", day + b"".join(lines[: others + 1]), others, (1,), []) for others in range(len(lines))]
         tried.append(("day", day + 40 * b"".join(lines), len(lines) - 1, (1, 8), []))
+        for count, others in itertools.product(COMMANDS, range(1, len(lines))):
+            given = b"".join(itertools.islice(itertools.cycle(lines[: others + 1]), count))
+            tried.append(("day", day + given, others, (1,), []))
+    for workers, periods in zip(range(1, 9), itertools.cycle(rules.DAYS)):
+        full = journal_text(submits_of_book(periods), True, periods)
+        tried.append(("clear", full, 0, (workers,), ["--nodes", "10"]))
     for word, data, others, counts, more in tried:
         for workers in counts:
             words = [word, "--workers", str(workers), "--cut", "8", *more]
-            _, started = runs.program.run(words, data, RefusedCalls("thread"))
-            about = f"{' '.join(words)} of {data.splitlines()[0]!r}, {others} participants more: {started} threads"
+            got, started = runs.program.run(words, data, RefusedCalls("thread"))
+            about = f"{' '.join(words)} of {data[:10]!r}, {len(data.splitlines()):,} lines, {others} participants more: {started} threads"
             runs.check(about, started == workers - 1 + others)
+            runs.check(f"{about}, status {got.status}, {got.stderr[:80]!r}", got.status in (0, right_answers.UNFINISHED))
 
 
 def check_strays(runs: RunsOfRows) -> None:
