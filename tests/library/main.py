@@ -15,11 +15,13 @@ gets the same answer. What can't run because a compiler, valgrind or a newer Pyt
 import concurrent.futures
 import ctypes
 import glob
+import itertools
 import math
 import multiprocessing
 import os
 import re
 import shutil
+import struct
 import subprocess
 import sys
 import tempfile
@@ -51,6 +53,8 @@ SMALL_TEXT = 2_000  # bytes of the longest text that is tried with memory refuse
 MOST_HELD, MOST_LIMITED = 1 << 17, 1 << 18  # bytes for a small text, and with a limit on nodes: 15 KB and 134 KB were held
 MOST_TIMES, MOST_MORE = 4, 10 << 20  # a call holds at most so many times the text's bytes, and so many bytes more: dam.h promises it
 SECRET = bytes(range(16))
+SEVERAL = (b"\1\1", b"\1\377", b"\1\0\1", b"\1\2\3", b"\1\2\375")  # bytes whose exclusive or, or whose sum, is zero
+LIMITED_CALLS: tuple[tuple[str, tuple[int, ...]], ...] = (("dam_replay", ()), ("dam_clear", (MOST_NODES,)), ("dam_clear", (20,)))
 FILLED = 0xAA
 UNSEEDED = 1.6  # times as long is too long without a secret
 MORE = 1.3  # times as many instructions or bytes as the program's are too many for a call
@@ -299,22 +303,33 @@ def measure_call_or_nan(call: Callable[[], Answered]) -> float:
 
 
 def check_colliding(counts: Counts, library: CalledLibrary, folder: str) -> None:
-    """The first 16 bytes of a secret of any length seed the book's map, and nothing else does. Names that collide under the fixed seed,
-    which has zeros alone, take many times as long with no secret and with one of zeros as with one that has another byte at any of these
-    16 places, on each length of a day."""
-    collide, last = f"{folder}/collide", 16
+    """The first 16 bytes of a secret of any length seed the book's map, each of them in its place, and nothing else does."""
+    collide = f"{folder}/collide"
     if not compile_program_or_print(["cc", "-O2", "-std=c11", "-pthread", f"{TOP}/tests/shared/collide.c"], collide):
         counts.check("the program that finds names that collide compiles", False)
         return
-    names = subprocess.run([collide, "4000"], stdout=subprocess.PIPE, check=True).stdout.split()
-    orders = b"".join(b"submit,A,%b,hour,buy,0,1:1,,\n" % name for name in names)
-    texts = {periods: RECORD % periods + orders + b"close,,,,,,,,\n" for periods in rules.DAYS}
+    check_colliding_under_zeros(counts, library, collide)
+    check_colliding_under_secret(counts, library, collide)
+
+
+def capture_journal_that_collides(collide: str, secret: bytes, periods: int = 24) -> bytes:
+    """A journal of orders whose names collide if these bytes seed the book's map."""
+    names = subprocess.run([collide, "4000", "A", *map(str, struct.unpack("<2Q", secret))], stdout=subprocess.PIPE, check=True).stdout.split()
+    return RECORD % periods + b"".join(b"submit,A,%b,hour,buy,0,1:1,,\n" % name for name in names) + b"close,,,,,,,,\n"
+
+
+def check_colliding_under_zeros(counts: Counts, library: CalledLibrary, collide: str) -> None:
+    """Names that collide under the fixed seed, which has zeros alone, take many times as long with no secret and with one of zeros as with one
+    that has another byte at any of these 16 places, on each length of a day; and as with one that has several."""
+    texts, last = {periods: capture_journal_that_collides(collide, bytes(16), periods) for periods in rules.DAYS}, 16
     longer = (last + 1, 64, 1_000_000)
     zeros = [*(bytes(length) for length in (0, 1, last - 1, last)), *(bytes(last) + b"\1" * (length - last) for length in longer)]
     others = [bytes(place) + b"\1" + bytes(last - 1 - place) for place in range(last)]
     others += [b"\1", bytes(2) + b"\1", b"\1" + bytes(31), bytes(last - 1) + b"\1" * 17]
     others += [bytes(2) + b"\1" + bytes(length - 3) for length in (last - 1, *longer, 255, 256, 4_096, 1 << 16, 1 << 24)]
-    for call, limit in (("dam_replay", ()), ("dam_clear", (MOST_NODES,)), ("dam_clear", (20,))):
+    others += [bytes([byte]) * last for byte in (1, 85, 128, 255)]
+    others += [bytes(place) + some + bytes(last - place - len(some)) for some in SEVERAL for place in range(last + 1 - len(some))]
+    for call, limit in LIMITED_CALLS:
 
         def measure_call(name: str, *secret: Any, periods: int = 24) -> float:
             given = (*secret, texts[periods], len(texts[periods]), *limit)
@@ -326,6 +341,34 @@ def check_colliding(counts: Counts, library: CalledLibrary, folder: str) -> None
         slow = [measure_call(call), *(measure_call(seeded, secret, len(secret)) for secret in zeros)]
         about = f"{call}: with a secret of zeros, names that collide take {min(slow) / max(quick):.1f} times as long"
         counts.check(about, all(one > LEAST_COLLIDING * other for one in slow for other in quick))
+
+
+def check_colliding_under_secret(counts: Counts, library: CalledLibrary, collide: str) -> None:
+    """Names that collide under a secret take many times as long with it as with one that has the same bytes in another order, another bit, or
+    two other bytes of the same sum or the same exclusive or."""
+    given, last = bytes((37 * place + 91) % 256 for place in range(16)), 16
+    text = capture_journal_that_collides(collide, given)
+    others = {given[turn:] + given[:turn] for turn in range(1, last)} | {given[::-1], bytes(byte ^ 255 for byte in given), bytes(last)}
+    for one, other in itertools.combinations(range(last), 2):
+        for change in ((1, 1), (128, 128), (1, -1)):
+            others.add(with_changes(given, {one: change[0], other: change[1]}))
+        others.add(with_changes(given, {one: given[other] - given[one], other: given[one] - given[other]}))
+    others |= {given[:place] + bytes([given[place] ^ 1 << bit]) + given[place + 1 :] for place in range(last) for bit in range(8)}
+    for call, limit in LIMITED_CALLS:
+
+        def took(secret: bytes) -> float:
+            words = (secret, len(secret), text, len(text), *limit)
+            return measure_call_or_nan(lambda: library.call_and_read_answer(f"{call}_seeded", words))
+
+        quick = [took(secret) for secret in sorted(others)]
+        slow = [took(secret) for secret in (given, given + b"\1", given + bytes(1_000))]
+        about = f"{call}: names that collide under a secret take {min(slow) / max(quick):.1f} times as long with it as with {len(quick)} others"
+        counts.check(about, all(one > LEAST_COLLIDING * other for one in slow for other in quick))
+
+
+def with_changes(secret: bytes, changes: dict[int, int]) -> bytes:
+    """The secret with these numbers added to its bytes at these places."""
+    return bytes((byte + changes.get(place, 0)) % 256 for place, byte in enumerate(secret))
 
 
 def check_threads(counts: Counts, library: CalledLibrary) -> None:
