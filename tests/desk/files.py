@@ -521,7 +521,7 @@ class FileTests:
 
     def check_records(self, about: str, parts: list[bytes]) -> None:
         parts = [DAY, *parts]
-        self.check_parts(about, parts, streams.expected_of(b"".join(parts)).capture_output_of_dam(self.dam))
+        self.check_parts(about, parts, streams.expected_desk_of(b"".join(parts)).capture_output_of_dam(self.dam))
 
     def check_parts(self, about: str, parts: list[bytes], answers: list[bytes]) -> None:
         """Writes each part once the lines of all before it are answered, while the desk waits for more."""
@@ -659,13 +659,13 @@ class FileTests:
 
 
 def text_of_length(line: bytes, padding: bytes, width: int, length: int) -> bytes:
-    """Lines of this width, which all mean the same, with so many bytes: the first of them has what is left over."""
+    """A text of this length in lines that mean the same: all have this width, but the first is as much longer as is needed."""
     count, rest = divmod(length, width)
     return line.rjust(width + rest, padding) + line.rjust(width, padding) * (count - 1)
 
 
 def read_answers(pipe: int, count: int) -> bytes:
-    """So many bytes of a desk's answers, or those that came within a time limit."""
+    """This many bytes of a desk's answers, or those that came within a time limit."""
     found, end = b"", time.monotonic() + SECONDS
     while len(found) < count and select.select([pipe], [], [], max(0, end - time.monotonic()))[0]:
         if not (more := os.read(pipe, count - len(found))):
