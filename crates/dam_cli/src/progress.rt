@@ -94,8 +94,8 @@ struct State {
     is_written: bool,
 }
 
-/// Shows at a terminal how many pieces of a search have ended, once it has run for a moment: in one line that is written again
-/// as each ends and taken away before anything else is printed; and then, if it is asked to, how many commands the book refused.
+/// Shows at a terminal how many pieces of a search have ended, once it has run for a moment. Their line is written again as
+/// each ends. It is taken away before anything else is printed. `say_refused` prints how many commands the book refused.
 #[derive(Drop)]
 pub struct Progress<'a, R: Wait + Eprint + Clock> {
     rt: &'a R,

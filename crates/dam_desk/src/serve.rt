@@ -15,7 +15,7 @@ use std::io::{Read, Write};
 /// Prints the replies to the journal that the desk has, and then answers each line of the reader. The lines that end in
 /// the bytes of one read are one batch.
 ///
-/// A reader that was asked `u64::MAX` times isn't asked again. This ends the desk as if the reader had failed.
+/// A reader that was asked `u64::MAX` times isn't asked again: the desk ends as if that reader had failed.
 pub(crate) fn serve<D: Disk, R: Read, W: Write>(
     desk: &mut Desk<D>,
     replies: &[u8],

@@ -37,7 +37,7 @@ pub enum GateFault {
     #[error("out of memory")]
     Memory,
     /// The gate has stopped: its history didn't take the entry, or the version after it wasn't shown. No clause rules this
-    /// out or says how later calls end, and no test reaches it. Only `Memory` is a reason to call again.
+    /// fault out. How later calls end isn't said either, and no test reaches it. Only `Memory` is a reason to call again.
     #[error("the gate has stopped")]
     Stopped,
 }

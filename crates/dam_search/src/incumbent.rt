@@ -7,7 +7,7 @@ ghost use Rattle.std.specs.Prelude.{◌≡◌, ◌≤◌, ℕ, max};
 ///
 /// An incumbent keeps two numbers, in cents per MWh times tenths of a MW: the greatest value that
 /// was read of it and the greatest welfare that was offered to it, each 0 if there was none.
-/// The values read may differ from the values offered to it: workers that share one read each other's offers.
+/// A value read may be greater than each that was offered to it: workers that share a welfare read each other's offers.
 pub(crate) trait Incumbent {
     /// The greatest value read so far.
     ghost greatest_read: { Self → ℕ };
