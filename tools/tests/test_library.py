@@ -10,6 +10,13 @@ CRATE = TOP / "crates" / "dam_example"
 GATE = TOP / "crates" / "dam_refusals"  # whose program holds a gate by hand
 CALLERS = TOP / "tests" / "library"  # of the library for C
 BLOCK = re.compile(r"^```(\w+)\n(.*?)^```$", re.MULTILINE | re.DOTALL)
+NUMBER = r"([\d_]+)"
+
+
+def numbers_of_lines(patterns):
+    """The numbers that such lines have in each file of the repository."""
+    found = {path: re.findall(line, (TOP / path).read_text(), re.MULTILINE) for path, line in patterns.items()}
+    return {path: [int(number) for number in numbers] for path, numbers in found.items()}
 
 
 def quotes(language):
@@ -35,15 +42,26 @@ class Library(unittest.TestCase):
         self.assertIn(f'\nversion: "{newest}"\n', (TOP / "CITATION.cff").read_text())
 
     def test_the_most_nodes_are_those_of_a_plan(self):
-        number = r"([\d_]+)"
         sources = {
-            "crates/dam_plan/src/plan.rt": rf"^pub const MOST_NODES: NodeCount = {number};$",
-            "library/dam.h": rf"^#define DAM_MOST_NODES UINT\d+_C\({number}\)$",
-            "tools/lib/runs/by_library.py": rf"^MOST_NODES, MOST_ANSWER = {number}, ",
+            "crates/dam_plan/src/plan.rt": rf"^pub const MOST_NODES: NodeCount = {NUMBER};$",
+            "library/dam.h": rf"^#define DAM_MOST_NODES UINT\d+_C\({NUMBER}\)$",
+            "tools/lib/runs/by_library.py": rf"^MOST_NODES, MOST_ANSWER = {NUMBER}, ",
         }
-        found = {path: re.findall(line, (TOP / path).read_text(), re.MULTILINE) for path, line in sources.items()}
-        plan = int(found["crates/dam_plan/src/plan.rt"][0])
-        self.assertEqual({path: [int(text) for text in texts] for path, texts in found.items()}, dict.fromkeys(sources, [plan]))
+        found = numbers_of_lines(sources)
+        self.assertEqual(found, dict.fromkeys(sources, found["crates/dam_plan/src/plan.rt"]))
+        self.assertEqual(len(found["crates/dam_plan/src/plan.rt"]), 1)
+
+    def test_callers_have_the_longest_answer_of_the_header(self):
+        of_python = rf"^MOST_NODES, MOST_ANSWER = [\d_]+, {NUMBER}\b"
+        sources = {
+            "library/dam.h": rf"^#define DAM_MOST_ANSWER {NUMBER}$",
+            "tools/lib/runs/by_library.py": of_python,
+            "tests/library/caller.py": of_python,
+            "tests/library/caller.rs": rf"^const MOST_ANSWER: usize = {NUMBER};$",
+        }
+        found = numbers_of_lines(sources)
+        self.assertEqual(found, dict.fromkeys(sources, found["library/dam.h"]))
+        self.assertEqual(len(found["library/dam.h"]), 1)
 
     def test_texts_are_the_line_of_the_crate_and_what_it_prints(self):
         line = next(line for line in (TOP / "crates.txt").read_text().splitlines() if line.startswith("dam_example:"))

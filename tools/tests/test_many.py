@@ -254,6 +254,13 @@ class Many(unittest.TestCase):
             texts = [str(number).encode() * 1_000 for number in range(100, 200)]
             self.assertEqual(list(threads.map(lambda text: by_library.call_and_return_output(library, text), texts)), texts)
 
+    def test_an_answer_that_is_longer_than_the_header_says(self):
+        library = self.compile_library(ECHO)
+        longest = bytes(by_library.MOST_ANSWER)
+        self.assertEqual(by_library.call_library(library, longest), (0, longest))
+        with self.assertRaisesRegex(dam_tools.Fault, " has an answer of 300,001 bytes, and may have at most 300,000$"):
+            by_library.call_library(library, longest + b"1")
+
     def test_a_fault_has_each_status_of_the_page(self):
         formats, python = ((support.TOP / "docs" / name).read_text() for name in ("FORMATS.md", "PYTHON.md"))
         (table,) = re.findall(r"^## Statuses and faults\n\n((?:\|.*\n)+)", formats, re.MULTILINE)

@@ -298,6 +298,18 @@ class Packages(unittest.TestCase):
         rows = re.findall(r"^\| (`.*?`) \|", (TOP / "tools" / "NOTES.md").read_text(), re.MULTILINE)
         self.assertEqual(sorted(re.findall(r"`(\w+)`", "".join(rows))), PACKAGES)
 
+    def test_tables_have_each_module(self):
+        """The notes on the tools have the modules of each package, and the docstring of the office those of its own."""
+        for row in re.findall(r"^\| `.*$", (TOP / "tools" / "NOTES.md").read_text(), re.MULTILINE):
+            first, *cells = row.strip("|").split(" | ")
+            packages = [name for name in re.findall(r"`(\w+)`", first) if name in PACKAGES]
+            if packages == ["office"]:
+                cells = re.findall(r"^\| (`.*?) \|", (LIB / "office" / "__init__.py").read_text(), re.MULTILINE)
+            if packages:
+                with self.subTest(packages=packages):
+                    modules = sorted(path.stem for package in packages for path in (LIB / package).glob("*.py") if path.stem != "__init__")
+                    self.assertEqual(sorted(re.findall(r"`(\w+)`", " ".join(cells))), modules)
+
     def test_no_package_needs_itself(self):
         left = {package: allowed(package) for package in PACKAGES}
         while left:

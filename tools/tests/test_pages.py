@@ -15,9 +15,10 @@ from lib.audit import recursive_enumeration
 from lib.crates.specs import Repository
 from shared.pages import read_links, read_prose
 
+NOTED = ("bench", "tests", "tools", "package")  # folders with a page of their own
 CRATES = sorted(path for path in (TOP / "crates").iterdir() if (path / "src").is_dir())
 PAGES = [TOP / "README.md", TOP / "CHANGELOG.md", *sorted((TOP / "docs").glob("*.md")), *sorted((TOP / "crates").glob("*/*.md"))]
-PAGES += [*sorted((TOP / "crates").glob("*.md")), TOP / "tests" / "RUNS.md", *(TOP / folder / "NOTES.md" for folder in ("tests", "tools", "package"))]
+PAGES += [*sorted((TOP / "crates").glob("*.md")), TOP / "tests" / "RUNS.md", *(TOP / folder / "NOTES.md" for folder in NOTED)]
 MOST_CELL_CHARACTERS = 200  # characters of a cell
 WIDEST = 140  # columns of a line that isn't of a table
 # The files with comments, which are as wide at most.

@@ -45,7 +45,9 @@ def call_library(path: str, text: bytes, nodes: int = MOST_NODES) -> tuple[int, 
     secret, buffer = os.urandom(16), buffers.own
     with ending.exiting_at_signals():
         answer = load_clear_call(path)(secret, len(secret), text, len(text), nodes, buffer, MOST_ANSWER)
-    return answer.status, ctypes.string_at(buffer, min(answer.length, MOST_ANSWER))
+    if answer.length > MOST_ANSWER:
+        raise Fault(f"the library {path} has an answer of {answer.length:,} bytes, and may have at most {MOST_ANSWER:,}")
+    return answer.status, ctypes.string_at(buffer, answer.length)
 
 
 def call_and_return_output(path: str, text: bytes) -> bytes:
