@@ -648,6 +648,8 @@ class CommandLine(unittest.TestCase):
             ["--best", "--seconds", "nan"],
             ["--best", "--seconds", "inf"],
             ["--best", "--seconds", "x"],
+            ["--best", "--seconds", "\uff12"],
+            ["--best", "--jobs", "\uff12"],
             ["--best", "--jobs", "0"],
             ["--best", "--jobs", "65"],
             ["--best", "--by", "highs", "--jobs", "2"],

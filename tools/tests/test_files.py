@@ -13,6 +13,7 @@ import resource
 import signal
 import subprocess
 import sys
+import tempfile
 import unittest
 import zipfile
 from pathlib import Path
@@ -187,7 +188,13 @@ class Files(unittest.TestCase):
             file.flush()
             with out.open("ab") as more:
                 subprocess.run([*words, "-o", "/dev/fd/1"], stdout=more, check=True)
-        self.assertEqual(out.read_bytes()[-len(right) :], right)
+                subprocess.run([*words, "-o", "/dev/stdout"], stdout=more, check=True)
+                subprocess.run([*words, "-o", "/proc/thread-self/fd/1"], stdout=more, check=True)
+        self.assertEqual(out.read_bytes(), b"first\n" + right * 3)
+        for path, said in (("/dev/fd/99", "No such file or directory"), ("/dev/fd/0", "Bad file descriptor")):
+            ran = subprocess.run([*words, "-o", path], stdin=out.open("rb"), capture_output=True)
+            self.assertEqual((ran.returncode, ran.stderr.decode()), (exits.NO_INPUT, f"table: {path} can't be written: {said}\n"))
+        self.assertEqual(out.read_bytes(), b"first\n" + right * 3)
         os.mkfifo(pipe)
         with subprocess.Popen(["cat", pipe], stdout=subprocess.PIPE) as reader:
             replacing.write_replacing(pipe, b"new")
@@ -232,7 +239,8 @@ class Files(unittest.TestCase):
         os.chdir(self.folder)
         self.addCleanup(os.chdir, here)
         Path("tables").mkdir()
-        lines = [("table", "tables/orders.csv", ["--all", "tables", *texts], ": name another folder, or replace it by --replace")]
+        advice = ": name another folder, or replace it by --replace; new by now: tables/periods.csv"
+        lines = [("table", "tables/orders.csv", ["--all", "tables", *texts], advice)]
         filled = ", and may have been filled in: write to another file"
         lines += [("table", "a.xlsx", ["--template", "a.xlsx"], filled)] * modules.has_module("openpyxl")
         for name, out, *words in (("plot", "day.svg"), ("report", "day.html", "--no-limits", "--curves", "none")):
@@ -324,6 +332,29 @@ class Files(unittest.TestCase):
         self.assertEqual(run_tool("table", *texts, "--replace", "--all", folder), (exits.NO_INPUT, b"", said))
         self.assertEqual({path.read_bytes() for path in folder.iterdir() if path.is_file()}, {b"old"})
         self.assertEqual(sorted(folder.iterdir()), names)
+
+    def test_the_fault_of_one_of_several_files_names_the_new_ones(self):
+        old, new = os.rename, {str(self.folder / name): b"new" for name in ("a", "b", "c")}
+
+        def rename(made, path):
+            if path.endswith("/c"):
+                raise OSError(errno.ENOSPC, os.strerror(errno.ENOSPC))
+            old(made, path)
+
+        said = f"^{self.folder / 'c'} can't be written: No space left on device; new by now: {self.folder / 'a'}, {self.folder / 'b'}$"
+        with mock.patch.object(os, "rename", rename), self.assertRaisesRegex(exits.Stop, said):
+            file_io.write_files("table", new)
+        self.assertEqual(sorted(path.name for path in self.folder.iterdir() if path.read_bytes() == b"new"), ["a", "b"])
+
+    def test_a_full_folder_of_temporary_files_is_named(self):
+        """A workbook is made there, and its own disk may have room."""
+        limits = resource.getrlimit(resource.RLIMIT_FSIZE)
+        resource.setrlimit(resource.RLIMIT_FSIZE, (100, limits[1]))
+        try:
+            status, _, err = run_tool("table", "--quiet", self.journal, self.results, "-o", self.folder / "x.xlsx")
+        finally:
+            resource.setrlimit(resource.RLIMIT_FSIZE, limits)
+        self.assertEqual((status, err), (exits.NO_INPUT, f"table: {tempfile.gettempdir()} can't be used: File too large\n"))
 
     def heed_interrupts(self):
         """From now on Ctrl-C is an exception, as it is in a tool."""

@@ -125,6 +125,15 @@ class Answers(Office):
                     self.assertNotEqual(status, 401)
             self.assertEqual(self.writer.ledger.size, before)
 
+    async def test_two_headers_of_authorization_are_malformed(self):
+        """A proxy may have seen the other."""
+        async with self.serving():
+            for first, other in (("GAS", "LONGNAME"), ("LONGNAME", "GAS"), ("GAS", "GAS")):
+                for path, methods in OWN_PATHS.items():
+                    both = f"{self.bearer(first)}\r\nAuthorization: {self.bearer(other)}"
+                    status, _, text = await self.ask(methods[0], path, both, record_of("GAS").encode())
+                    self.assertEqual((status, json.loads(text)["words"]), (400, "the request has two Authorization headers"))
+
     async def test_a_participant_sees_nothing_of_another(self):
         async with self.serving():
             for is_closed in (False, True):

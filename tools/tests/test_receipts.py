@@ -690,6 +690,18 @@ class Command(InFolder):
         self.assertEqual((Path("key.pem").read_bytes(), Path("sealed/head.json").read_bytes()), (key, head))
         self.assertEqual(sorted(path.name for path in Path().iterdir()), ["day.csv", "key.pem", "key.pem.pub", "replies.txt", "sealed"])
 
+    def test_a_folder_that_cant_be_written_has_the_name_that_was_given(self):
+        """Its files are made in another one, which isn't there after the fault."""
+        self.run_tool(0, "keys", "other.pem")
+        before, limits = sorted(Path().iterdir()), resource.getrlimit(resource.RLIMIT_FSIZE)
+        resource.setrlimit(resource.RLIMIT_FSIZE, (100, limits[1]))
+        try:
+            found = run_tool("receipts", "seal", "day.csv", "replies.txt", "--day", DAY, "--key", "other.pem", "-o", "sealed")
+        finally:
+            resource.setrlimit(resource.RLIMIT_FSIZE, limits)
+        self.assertEqual(found, (3, b"", "receipts: sealed can't be made: File too large\n"))
+        self.assertEqual(sorted(Path().iterdir()), before)
+
     def test_a_working_folder_that_is_gone(self):
         here, gone = Path.cwd(), Path("gone")
         gone.mkdir()

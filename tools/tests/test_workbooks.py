@@ -1,6 +1,9 @@
 """Excel workbooks of strangers: nothing in them is lost, and each fault has its place."""
 
+import contextlib
+import csv
 import io
+import os
 import tempfile
 import time
 import tracemalloc
@@ -125,8 +128,8 @@ class Faults(WorkbookOfTwoSheets):
     def test_the_most_formats_take_little_memory(self):
         """Those of cells and of conditions that the limits allow; one more is a fault."""
         row = row_of_order(2, "K1")
-        for more_cells, more_conditions, said in ((0, 0, None), (1, 0, "65,490 formats of cells"), (0, 1, "20,000 formats of conditions")):
-            styles = costly.styles_of_most_formats(limits.MOST_FORMATS + more_cells, limits.MOST_CONDITIONS + more_conditions)
+        for more_cells, more_conditions, said in ((0, 0, None), (1, 0, "65,490 formats of cells"), (0, 1, "20,000 fonts, fills, .*")):
+            styles = costly.styles_of_most_formats(limits.MOST_FORMATS + more_cells, limits.MOST_LOOKS + more_conditions)
             data = made.workbook_of_sheet(made.OPEN, row, made.CLOSE, **{"xl/styles.xml": styles})
             if said:
                 with self.assertRaisesRegex(order_table.BadOrders, f"it has more than {said}$"):
@@ -137,6 +140,42 @@ class Faults(WorkbookOfTwoSheets):
             most_memory = tracemalloc.get_traced_memory()[1] / 2**20
             tracemalloc.stop()
             self.assertLess(most_memory, 30)
+
+    def test_merged_cells_and_conditional_formats_are_limited(self):
+        """Each takes time, and 1,500,000 of them have 170 KB."""
+        merged, condition = b"<mergeCell ref='AA1:AB1'/>", b"<conditionalFormatting sqref='A1'><cfRule/></conditionalFormatting>"
+        said = "^sheet 'orders': the sheet has more than 100,000 merged cells and conditional formats: delete those that the table doesn't need$"
+        for many, rules, is_fault in ((40_000, 30_000, False), (40_001, 30_000, True), (40_000, 30_001, True)):
+            after = b"</sheetData><mergeCells>" + merged * many + b"</mergeCells>" + condition * rules
+            data = made.workbook_of_sheet(made.OPEN, row_of_order(2, "K1"), made.CLOSE.replace(b"</sheetData>", after))
+            with self.assertRaisesRegex(order_table.BadOrders, said) if is_fault else contextlib.nullcontext():
+                self.assertEqual(len(order_table.parse_tables([("", data)], 24).submits), 1)
+
+    def test_fonts_fills_and_formats_of_conditions_are_limited_together(self):
+        row, looks = row_of_order(2, "K1"), "<fonts>{}</fonts><fills>{}</fills><dxfs>{}</dxfs><tableStyles><tableStyle>{}</tableStyle></tableStyles>"
+        for count, is_fault in ((5_000, False), (5_001, True)):
+            parts = [f"<{name}/>" * many for name, many in (("font", 5_000), ("fill", 5_000), ("dxf", 5_000), ("tableStyleElement", count))]
+            styles = f'<styleSheet xmlns="{made.MAIN[0]}">{looks.format(*parts)}</styleSheet>'.encode()
+            data = made.workbook_of_sheet(made.OPEN, row, made.CLOSE, **{made.STYLES: styles})
+            said = "it has more than 20,000 fonts, fills, formats of conditions and parts of styles of tables: delete those that no cell needs$"
+            with self.assertRaisesRegex(order_table.BadOrders, said) if is_fault else contextlib.nullcontext():
+                self.assertEqual(len(order_table.parse_tables([("", data)], 24).submits), 1)
+
+    def test_the_name_of_a_part_with_a_percent_sign_is_a_fault(self):
+        """It may stand for a character, so that another part is meant."""
+        data = made.workbook_of_sheet(made.OPEN, row_of_order(2, "K1"), made.CLOSE)
+        with zipfile.ZipFile(io.BytesIO(data)) as archive:
+            parts = {name: archive.read(name) for name in archive.namelist()}
+        (relations,) = (name for name in parts if name.endswith("workbook.xml.rels"))
+        parts[relations] = parts[relations].decode("utf-16").replace(os.path.basename(made.SHEET), "sheet%30.xml").encode("utf-16")
+        parts[made.SHEET.replace("1.xml", "%30.xml")] = parts[made.SHEET]
+        with self.assertRaisesRegex(order_table.BadOrders, "the name of a part has a %: '.*sheet%30.xml'$"):
+            order_table.parse_tables([("", made.archive_bytes(parts))], 24)
+
+    def test_the_column_of_a_cell_that_the_module_csv_refuses(self):
+        data = b'a;"b;b";' + b"c" * (csv.field_size_limit() + 1) + b"\n"
+        with self.assertRaisesRegex(table_files.BadTable, "^line 1, column 3: it has more than 131,072 characters$"):
+            list(table_files.parse_rows_and_add_notes(data)[0])
 
     def test_a_text_has_no_more_lines_than_a_sheet(self):
         with self.assertRaisesRegex(table_files.BadTable, "^line 1048577: a table has at most 1,048,576 lines$"):

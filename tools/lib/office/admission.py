@@ -45,7 +45,9 @@ class Admission:
         return who
 
     def read_and_see_authorization(self, request: web.Request) -> bool:
-        """Whether the token is the participant's now."""
+        """Whether the token is the participant's now. Of two headers, a proxy may have seen the other."""
+        if len(request.headers.getall("Authorization", ())) > 1:
+            raise Refused(RequestFault.MALFORMED, "the request has two Authorization headers")
         scheme, _, token = request.headers.get("Authorization", "").partition(" ")
         known = self.office.register.read_and_see_if_token_of(request.match_info["who"], token)
         return known and scheme.lower() == "bearer"

@@ -9,6 +9,7 @@ import os
 import re
 import secrets
 import stat
+import threading
 from collections.abc import Callable
 from pathlib import Path
 
@@ -18,6 +19,7 @@ from . import ending
 FIXED = (errno.EACCES, errno.EPERM, errno.EROFS, errno.EBUSY, errno.EXDEV, errno.ENOTSUP)
 FULL = (errno.ENOSPC, errno.EDQUOT, errno.EFBIG)
 MOST_LINKS = 40  # that Linux follows
+OPEN_FILES = "/proc/"
 BESIDE = re.compile(r"\.dam-[0-9a-f]{16}")  # the name of a file that is written next to its place
 
 
@@ -35,6 +37,8 @@ def write_beside_and_return_put(path: str | Path, data: bytes, cleanups: context
     # `Path` leaves out a slash or dot at the end, which only a folder has
     if os.path.basename(path) in ("", ".") or old is not None and stat.S_ISDIR(old.st_mode):
         raise IsADirectoryError(errno.EISDIR, os.strerror(errno.EISDIR))
+    if target is None and (number := find_own_number(str(Path(path)))) is not None:
+        return functools.partial(write_to_number, number, data)
     if target is None or old is not None and not stat.S_ISREG(old.st_mode):
         return functools.partial(Path(path).write_bytes, data)
     if old is not None:
@@ -102,14 +106,31 @@ def write_in_place(target: str, data: bytes) -> None:
         file.truncate()
 
 
+def write_to_number(number: int, data: bytes) -> None:
+    """Writes to an open file of this process, after what it has."""
+    with open(os.dup(number), "wb") as file:
+        file.write(data)
+
+
 def find_link_target(path: str) -> str | None:
     """The file to which symbolic links lead from a path; None for an open file, as /dev/stdout names it."""
+    found = find_path_or_open_file(path)
+    return None if found.startswith(OPEN_FILES) else found
+
+
+def find_own_number(path: str) -> int | None:
+    """The number of the open file of this process that a path names; None if it names none."""
+    folder, name = os.path.split(find_path_or_open_file(path))
+    is_own = folder in (f"/proc/{os.getpid()}/fd", f"/proc/{os.getpid()}/task/{threading.get_native_id()}/fd")
+    return int(name) if is_own and name.isascii() and name.isdigit() and os.path.lexists(path) else None
+
+
+def find_path_or_open_file(path: str) -> str:
+    """The path without symbolic links to which those of a path lead; or the first one in /proc, which may be that of an open file."""
     for _ in range(MOST_LINKS):
         folder, name = os.path.split(path)
         path = os.path.join(os.path.realpath(folder), name)
-        if path.startswith("/proc/"):
-            return None
-        if not os.path.islink(path):
+        if path.startswith(OPEN_FILES) or not os.path.islink(path):
             return path
         path = os.path.join(os.path.dirname(path), os.readlink(path))
     return path

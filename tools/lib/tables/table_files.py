@@ -132,6 +132,16 @@ class Lines:
         return self.line
 
 
+def find_long_cell(line: str, separator: str) -> int | None:
+    """The column of the first cell of a line that is too long for the module csv; None if there is none."""
+    most = csv.field_size_limit(max(1, len(line)))
+    try:
+        cells = next(csv.reader([line], delimiter=separator), [])
+    finally:
+        csv.field_size_limit(most)
+    return next((column for column, cell in enumerate(cells, 1) if len(cell) > most), None)
+
+
 def refuse_other_ends(number: int, line: str, cells: list[str]) -> None:
     """Refuses a line that may be two: the second one could be lost in columns that aren't used."""
     for column, cell in enumerate(cells if OTHER_ENDS.search(line) else [], 1):
@@ -202,6 +212,9 @@ class Text:
                 if self.most is not None and found > self.most + 1:
                     return
         except csv.Error as fault:
+            column = find_long_cell(lines.line, self.separator)
+            if column is not None:
+                raise BadTable(f"line {lines.number}, column {column}: it has more than {csv.field_size_limit():,} characters") from None
             raise BadTable(f"line {lines.number}: the table can't be read: {fault}") from None
         self.is_counted = True
 

@@ -27,7 +27,7 @@ def parse_day(word: str) -> str:
     return word
 
 
-def whole_number_function(least: int, most: int, words: str | None = None, form: str = r"\d{1,99}") -> Callable[[str], int]:
+def whole_number_function(least: int, most: int, words: str | None = None, form: str = "[0-9]{1,99}") -> Callable[[str], int]:
     """A function that takes a word of the command line to a whole number, if it has the form."""
 
     def parse(word: str) -> int:

@@ -139,17 +139,25 @@ def write_files(tool: str, files: Mapping[str, bytes], advice: str | None = None
     """Writes files by their paths. None is put in its place before each is whole, and from then on Ctrl-C ends the tool only once all are.
     With advice, none replaces a file that is there by then: the tool ends as by `refuse_to_replace`."""
     prepare = replacing.write_new_beside_and_return_put if advice else replacing.write_beside_and_return_put
-    written = []
+    written = list[str]()
     with contextlib.ExitStack() as cleanups:
         puts = {path: call_or_stop(path, prepare, path, data, cleanups) for path, data in files.items()}
         try:
             with contextlib.nullcontext() if any(map(is_device_or_pipe, files)) else ending.holding_signals():
                 for path, put in puts.items():
-                    call_or_stop(path, put, advice=advice)
+                    try:
+                        call_or_stop(path, put, advice=advice)
+                    except exits.Stop as fault:
+                        raise fault_with_written(fault, written) from None
                     written.append(path)
         finally:
             for path in written if sys.stderr.isatty() else []:
                 exits.print_note(tool, f"{exits.shown(path)} was written")
+
+
+def fault_with_written(fault: exits.Stop, written: list[str]) -> exits.Stop:
+    """The fault of one of several files, with the names of those that were written before."""
+    return exits.Stop(f"{fault}; new by now: {', '.join(map(exits.shown, written))}", fault.status) if written else fault
 
 
 def is_device_or_pipe(path: str) -> bool:

@@ -1,6 +1,7 @@
 """A table as a tool writes it: comma-separated values, JSON or an Excel workbook."""
 
 import argparse
+import tempfile
 from collections.abc import Container, Iterable, Iterator, Mapping, Sequence
 
 from ..tables import table_files, table_operations
@@ -57,6 +58,10 @@ def workbook_bytes_or_stop(tables: Mapping[str, Sequence[table_operations.Row]])
         return table_files.workbook_bytes_or_refuse(tables)
     except table_files.BadTable as fault:
         raise exits.Stop(f"{fault}: write it as {CSV}", exits.COMMAND_LINE) from None
+    except OSError as fault:
+        if fault.filename is not None:
+            raise
+        raise OSError(fault.errno, fault.strerror, tempfile.gettempdir()) from None  # of the sheets, until they are packed
 
 
 def write_table(tool: str, args: argparse.Namespace, name: str, rows: Iterable[table_operations.Row], periods: int) -> None:

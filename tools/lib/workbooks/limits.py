@@ -3,13 +3,15 @@
 # A workbook that isn't larger than a table of orders needs keeps to these limits.
 MOST_PARTS = 2_000  # files in it
 MOST_UNPACKED = 96 * 2**20  # bytes of the parts that are read
-MOST_ELEMENTS = 1_500_000  # in these parts
+MOST_ELEMENTS = 1_200_000  # in these parts
 MOST_CELLS = 300_000  # of a table; an empty cell counts if one after it in its row has a value
 MOST_TEXT = 4 * 2**20  # bytes that the characters of these cells take
 MOST_NAMES, MOST_NAMED = 10_000, 2**20  # of elements, attributes and namespaces in a part, and characters of these
 MOST_NAMESPACES = 100_000  # declared in a part
 MOST_HEADS = 50_000  # strings in the first rows of all sheets
-MOST_SHEETS, MOST_OWN_FORMATS, MOST_CONDITIONS, MOST_FONTS = 1_000, 5_000, 20_000, 20_000
+MOST_SHEETS, MOST_OWN_FORMATS = 1_000, 2_000
+MOST_LOOKS = 20_000  # fonts, fills, formats of conditions, and parts of styles of tables
+MOST_RULES = 100_000  # merged cells and conditional formats of a sheet
 MOST_OF_FORMATS = 100_000  # characters of its own formats
 MOST_OF_FORMULAS = 16 * 2**20  # characters of the formulas of a sheet, and of those in the first rows of all sheets
 MOST_DEFINED, MOST_OF_DEFINED = 20_000, 2 * 2**20  # names of formulas, and characters of these formulas and names

@@ -21,9 +21,10 @@ TRUTHS = {"1": "TRUE", "true": "TRUE", "0": "FALSE", "false": "FALSE"}
 UNSIGNED = re.compile(r"\+?0*([0-9]{1,10})")
 
 
-@functools.lru_cache(64)
 def unsigned_number(words: str) -> int | None:
     """The number of an attribute, around which blanks may stand; None if it has none."""
+    if len(words) <= 10 and words.isascii() and words.isdigit():
+        return int(words)
     found = UNSIGNED.fullmatch(words.strip(BLANK))
     return int(found[1]) if found else None
 

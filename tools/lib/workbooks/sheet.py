@@ -9,9 +9,9 @@ from .cells import CELLS, KINDS_OF_STRINGS, TEXTS, Cell, CellPlace, Numbers, Rev
 from .cells import column_name, column_number, text_of_kind, trimmed
 from .fonts import BLACK, FONT, FONT_PARTS, OF_FONTS, PAPER, colour_of, strikes_out
 from .formulas import has_name, has_volatile_function
-from .limits import LAST_COLUMN, LAST_ROW, MOST_CELLS, MOST_ELEMENTS, MOST_OF_FORMULAS, MOST_TEXT, BadWorkbook, memory_size
+from .limits import LAST_COLUMN, LAST_ROW, MOST_CELLS, MOST_ELEMENTS, MOST_OF_FORMULAS, MOST_RULES, MOST_TEXT, BadWorkbook, memory_size
 from .part import ANY_OTHERS, EXTENSIONS, Attributes, truth_word, unsigned_number
-from .styles import A_HIDING_FONT, A_NUMBER_FORMAT, A_STRIKING_FONT, ColourPair, Colours
+from .styles import A_HIDING_FONT, A_NUMBER_FORMAT, A_STRIKING_FONT, Colours
 from .texts import Strings, Texts
 from .workbook import Workbook, is_calculation_due
 
@@ -60,7 +60,7 @@ class Sheet(CellContent):
         self.part, self.most = part, most  # `most`: how many rows it may have after its first
         self.rows: Rows[Cell] = Rows(CELLS)
         self.needed = Numbers()  # the shared strings of its cells
-        self.count_of_cells = self.size = self.size_of_formulas = 0
+        self.count_of_cells = self.size = self.size_of_formulas = self.count_of_rules = 0
         self.cells: list[Cell] = []  # of a row
         self.shared: str | None = None  # the number of the formula of a cell, if cells share it
         self.first_formula: CellPlace | None = None
@@ -68,7 +68,7 @@ class Sheet(CellContent):
         self.is_volatile_alone, self.names_others = True, False  # whether all formulas are volatile; whether one names another sheet
         self.shared_volatile = Numbers()  # of the formulas that cells share, those that are volatile
         self.has_data = self.has_table = False
-        self.pairs = {ColourPair(BLACK, PAPER)}  # of the cells below the first row
+        self.fonts, self.fills = set[str | None]([BLACK]), set[str | None]([PAPER])  # colours of the cells below the first row
         self.later: Colours = {}  # of a conditional format of an extension
         self.is_font = False  # whether its font is read
         # Of each column in the range of a formula of many cells, the next row that needs a value, and the last one.
@@ -179,7 +179,8 @@ class Sheet(CellContent):
         if words == "":
             return
         if self.rows and (number := unsigned_number(self.style)) is not None and (found := self.book.styles.cell_format(number)):
-            self.pairs.add(found.colours)
+            self.fonts.add(found.colours.font)
+            self.fills.add(found.colours.fill)
         self.count_of_cells += self.column - len(self.cells)
         if self.count_of_cells > MOST_CELLS:
             raise self.error_of(f"the sheet has more than {MOST_CELLS:,} cells before this one: delete those that the table doesn't need")
@@ -202,6 +203,7 @@ class Sheet(CellContent):
 
     def open_mergeCell(self, attributes: Attributes) -> None:
         """Of merged cells only the first has a value, so that a row could seem to have none."""
+        self.count_rule_or_refuse()
         ref = attributes.get("ref", "")
         corners = RANGE.fullmatch(ref)
         if not corners or not self.has_data:
@@ -213,10 +215,17 @@ class Sheet(CellContent):
         if not is_apart and (corners[1], corners[2]) != (corners[3], corners[4]):
             raise self.error_of(f"the cells {ref} are merged, but each row of a table has its own")
 
+    def count_rule_or_refuse(self) -> None:
+        self.count_of_rules += 1
+        if self.count_of_rules > MOST_RULES:
+            raise self.error_of(f"the sheet has more than {MOST_RULES:,} merged cells and conditional formats: delete those that the table doesn't need")
+
     def open_conditionalFormatting(self, attributes: Attributes) -> None:
+        self.count_rule_or_refuse()
         self.ranges = attributes.get("sqref", "")
 
     def open_cfRule(self, attributes: Attributes) -> None:
+        self.count_rule_or_refuse()
         number, styles = unsigned_number(attributes.get("dxfId", "")), self.book.styles
         if kind := styles.conditional.get(number):
             raise self.conditional_format_error(f"with {kind}")
@@ -228,16 +237,10 @@ class Sheet(CellContent):
         """The width of the widest row, once all cells are read."""
         return max(len(cells) for _, cells in self.rows)
 
-    @functools.cached_property
-    def fonts_and_fills(self) -> tuple[set[str | None], set[str | None]]:
-        """The colours of the fonts and of the fills of cells, once all cells are read."""
-        return {pair.font for pair in self.pairs}, {pair.fill for pair in self.pairs}
-
     def hides_cells(self, colours: Colours) -> bool:
         """Whether the colours of a font and a fill, of which a format may leave cells their own, hide the text of a cell."""
         font, fill = colours.get("color"), colours.get("bgColor")
-        fonts, fills = self.fonts_and_fills
-        return font == fill if font and fill else font in fills or fill in fonts
+        return font == fill if font and fill else font in self.fills or fill in self.fonts
 
     def open_dataBar(self, attributes: Attributes) -> None:
         if hides_numbers(attributes):

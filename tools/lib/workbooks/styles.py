@@ -6,7 +6,7 @@ from typing import NamedTuple
 from ..base import text
 from .cells import Currency, Date, Formatted, Percentage, Repeated, Reversed, Struck, Styled, Unseen
 from .fonts import BLACK, FONT, FONT_PARTS, INDEXED, OF_FONTS, PAPER, colour_of, is_unreadable, strikes_out
-from .limits import LONGEST_FORMAT, MOST_CONDITIONS, MOST_FONTS, MOST_FORMATS, MOST_OF_FORMATS, MOST_OWN_FORMATS, broken_error, too_many_error
+from .limits import LONGEST_FORMAT, MOST_FORMATS, MOST_LOOKS, MOST_OF_FORMATS, MOST_OWN_FORMATS, broken_error, too_many_error
 from .number_formats import Fractions, Shown, format_function, general_text, sections_function, shows_texts
 from .part import ANY_OTHERS, BLANK, Attributes, Part, unsigned_number
 
@@ -32,6 +32,7 @@ def format_number_or_refuse(attributes: Attributes) -> int:
 
 
 PATTERN = ""  # the colour of a fill that has several, or one that isn't told
+MOST_MERGED = 4_096  # formats of cells that are kept as they are shown
 FROM_RIGHT = 2  # the reading order of an alignment: from right to left
 
 # Why the format of a condition changes what is shown.
@@ -110,6 +111,7 @@ class Styles(Part):
         self.cell_formats: dict[Format, CellFormat] = {}  # of those that cells have
         self.styled: set[int] = set()  # the numbers of formats that show texts in another way
         self.fonts = self.fills = self.own_colours = self.conditions = 0  # how many there are; the latter are formats
+        self.looks = 0  # how many of these there are, and of the parts of styles of tables
         self.struck_fonts: set[int] = set()
         self.colours: dict[int | None, str] = {}  # of fonts
         self.unreadable: set[int] = set()  # the fonts that can't be read
@@ -144,11 +146,15 @@ class Styles(Part):
         if not is_plain:
             self.styled.add(number)
 
+    def count_look_or_refuse(self) -> None:
+        self.looks += 1
+        if self.looks > MOST_LOOKS:
+            raise too_many_error(MOST_LOOKS, "fonts, fills, formats of conditions and parts of styles of tables: delete those that no cell needs")
+
     def open_font(self, _: Attributes) -> None:
         if self.within[-2] == "fonts":
             self.fonts += 1
-            if self.fonts > MOST_FONTS:
-                raise too_many_error(MOST_FONTS, "fonts")
+            self.count_look_or_refuse()
 
     def open_strike(self, attributes: Attributes) -> None:
         if strikes_out(attributes) and self.within[-3] == "fonts":
@@ -172,9 +178,9 @@ class Styles(Part):
     open_name = open_charset = open_sz
 
     def open_fill(self, _: Attributes) -> None:
-        self.fills += self.within[-2] == "fills"
-        if self.fills > MOST_FONTS:
-            raise too_many_error(MOST_FONTS, "fills")
+        if self.within[-2] == "fills":
+            self.fills += 1
+            self.count_look_or_refuse()
 
     def open_patternFill(self, attributes: Attributes) -> None:
         pattern = attributes.get("patternType", "none").strip(BLANK)
@@ -204,9 +210,12 @@ class Styles(Part):
         if number >= len(self.formats):
             return None
         form = self.formats[number]
-        if form not in self.cell_formats:
-            self.cell_formats[form] = self.merged_format(form)
-        return self.cell_formats[form]
+        found = self.cell_formats.get(form)
+        if found is None:
+            if len(self.cell_formats) == MOST_MERGED:
+                self.cell_formats.clear()
+            found = self.cell_formats[form] = self.merged_format(form)
+        return found
 
     def merged_format(self, form: Format) -> CellFormat:
         """Of several reasons why a text or a number is shown in another way, the one that counts most."""
@@ -229,11 +238,11 @@ class Styles(Part):
 
     def open_dxf(self, _: Attributes) -> None:
         self.conditions += 1
-        if self.conditions > MOST_CONDITIONS:
-            raise too_many_error(MOST_CONDITIONS, "formats of conditions")
+        self.count_look_or_refuse()
 
     def open_tableStyleElement(self, attributes: Attributes) -> None:
         """A style of tables has the fonts of formats that conditions may have too."""
+        self.count_look_or_refuse()
         number = unsigned_number(attributes.get("dxfId", ""))
         self.has_striking_tables = self.has_striking_tables or self.conditional.get(number) == A_STRIKING_FONT
         if number in self.condition_colours:

@@ -51,6 +51,8 @@ class Relations(Part):
             raise broken_error(f"two relations are named {text.quoted(identifier)}")
         if len(self.parts) == MOST_SHEETS:
             raise too_many_error(MOST_SHEETS, "sheets")
+        if "%" in target:  # it would stand for a character, by which another part may be meant
+            raise broken_error(f"the name of a part has a %: {text.quoted(target)}")
         if attributes.get("TargetMode") == "External":
             raise broken_error(f"{text.quoted(target)} isn't a part of it")
         self.parts[identifier] = kind, posixpath.normpath(posixpath.join(self.folder, target)).lstrip("/")
