@@ -98,8 +98,8 @@ is_option [] = false
 is_option (byte ∷ rest) = byte == 45
 
 -- whether the option has its number in the same word, after a `=`, whose byte is 61
-abbrev pub has_number : List ℕ → Bool
-has_number word = list_any (λ byte. byte == 61) word
+abbrev pub has_equals_sign : List ℕ → Bool
+has_equals_sign word = list_any (λ byte. byte == 61) word
 
 -- the first word that is neither an option nor the number of the option before it. If `is_number` is true, the first
 -- word is an option's number and is skipped. An option without `=` has its number in the next word, so that word is
@@ -108,7 +108,7 @@ abbrev pub first_file : Bool → List (List ℕ) → Option (List ℕ)
 first_file is_number [] = None
 first_file is_number (word ∷ words) =
     if is_number then first_file false words
-    else if is_option word then first_file (not (has_number word)) words
+    else if is_option word then first_file (not (has_equals_sign word)) words
     else Some word
 
 -- the quote on each side of a file's name. A name has it if it is empty or has a blank, unless it has such a quote

@@ -8,7 +8,7 @@ ghost use Rattle.dam_results.specs.declared.journal_reading.JournalFault.{Journa
 ghost use Rattle.dam_engines.specs.Fault.{fault_status, input_status};
 ghost use Rattle.dam_book.specs.Limits.{lowest_price, highest_price, greatest_volume, most_entries};
 ghost use Rattle.dam_cli.specs.Advice.{BeginsWithField, HasNumber, NamesItsField, ShowsDays, ShowsItsLimits, ShowsLimitsOfField, ShowsRange, rule_text};
-ghost use Rattle.dam_cli.specs.Advice.{command_and_file, first_file, has_number, is_command, is_option, is_version_word, quote_of};
+ghost use Rattle.dam_cli.specs.Advice.{command_and_file, first_file, has_equals_sign, is_command, is_option, is_version_word, quote_of};
 
 use dam_book::{GREATEST_VOLUME, HIGHEST_PRICE, LOWEST_PRICE};
 use dam_engines::RunFault;
@@ -193,7 +193,7 @@ fn first_file(words: &[String]) -> Option<&str>
         if is_number {
             is_number = false;
         } else if is_option(word) {
-            is_number = !has_number(word);
+            is_number = !has_equals_sign(word);
         } else {
             return Some(word);
         }
@@ -209,8 +209,8 @@ fn is_option(word: &str) -> bool
 }
 
 /// Whether the option has its number in the same word, after a `=`.
-fn has_number(word: &str) -> bool
-    ensures { result ≡ has_number word.now }
+fn has_equals_sign(word: &str) -> bool
+    ensures { result ≡ has_equals_sign word.now }
 {
     word.as_bytes().contains(&b'=')
 }

@@ -15,7 +15,7 @@ use crate::desk_day::DeskDay;
 use crate::fault::InputLineFault;
 use crate::fault_answer::append_fault_answer;
 use crate::input_line::InputLine;
-use crate::meaning::{Meaning, read_input_line};
+use crate::meaning::{Meaning, meaning_of_input_line};
 use crate::text_lines::split_first_line;
 use dam_book::laws::runs_grow;
 use dam_book::{Command, DayLength, PackedEntry, Seed};
@@ -121,7 +121,7 @@ impl Intake {
             Some(day) => day.day_record(),
             None => &[],
         };
-        read_input_line(self.alloc, day_record, self.line.bytes())
+        meaning_of_input_line(self.alloc, day_record, self.line.bytes())
     }
 
     /// Enters the record, if the line that has come is one, and adds the answer to it.

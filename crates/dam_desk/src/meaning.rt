@@ -103,7 +103,7 @@ fn day_and_line_text(alloc: Global, day_record: &[u8], line: &[u8]) -> Result<Ve
 
 /// The meaning of a line after the record of the day, which has no bytes if there is no day yet. Of a line that is too
 /// long, `line` has the first `MOST_LINE + 1` bytes.
-pub(crate) fn read_input_line(
+pub(crate) fn meaning_of_input_line(
     alloc: Global,
     day_record: &[u8],
     line: &[u8],

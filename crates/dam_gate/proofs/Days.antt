@@ -21,7 +21,7 @@ use Rattle.dam_gate.specs.Settled.{numbered, receipts_of}
 use Rattle.dam_book.specs.Command.{giver}
 use Rattle.dam_gate.specs.Day.{commands_by, is_one_of, AreTaken, IsDayFault, givers_from, givers_of, with_any, with_giver, IsDayRun}
 use Rattle.dam_gate.specs.inside.Tally.{AreReceipts}
-use Rattle.dam_gate.specs.inside.Entering.{AreApart, AreGivers, AreServed, AreAllPlaces, Enters, HasAll, HasEntered, IsRefusalAt}
+use Rattle.dam_gate.specs.inside.Entering.{AreApart, AreGivers, AreServed, AreAllPlaces, Enters, HasAll, HasEntered, IsFaultAt}
 use Rattle.dam_gate.specs.inside.Entering.{commands_at, places_of}
 use Rattle.dam_gate.specs.declared.day.DayFault.{DayFault}
 use Rattle.dam_gate.specs.declared.day.DayFault.TheVariants.{TooManyCommands, CloseGiven, TooManyParticipants, NotSettled, Memory}
@@ -318,7 +318,7 @@ nobody-closes Close none = refl
 pub refused-at : (cs : List Command) (place : ℕ) (participants : List (List ℕ)) (c : Command) (fault : DayFault) → length cs < most_entries
     → place < length cs → slice_get cs place ≡ Some c
     → take (place + 1) cs ≡ take place cs ++ c ∷ [] → AreTaken (take place cs) → participants ≡ givers_of (take place cs)
-    → IsRefusalAt place participants c fault → IsDayFault cs fault
+    → IsFaultAt place participants c fault → IsDayFault cs fault
 refused-at cs place participants c TooManyCommands room inside at next taken order is = absurd is
 refused-at cs place participants c (CloseGiven other) room inside at next taken order is =
     subst (λ (n : ℕ). IsDayFault cs (CloseGiven n)) (sym is.0) (room, taken, at ∙ ap (λ (d : Command). Some d) (nobody-closes c is.1))

@@ -10,7 +10,7 @@ ghost use Rattle.dam_gate.specs.Day.{AreTaken, IsDayFault, IsSettledDay, givers_
 ghost use Rattle.dam_gate.specs.inside.Entering.{AreGivers, IsUnsettled};
 
 use crate::account::Account;
-use crate::entering::{GateRefusal, enter_before_close};
+use crate::entering::{NotEntered, enter_before_close};
 use crate::gate::Gate;
 use crate::givers::{check_command_count, find_givers};
 use crate::journal::Journal;
@@ -26,7 +26,8 @@ use std::sync::ledger::Share as LedgerPart;
 use std::thread::Threads;
 use thiserror::Error;
 
-/// Why a day of given commands isn't run, in the order in which it is looked for. A place is counted from 0.
+/// Why a day of given commands isn't run. The number of commands is looked at first. Then each command is, in their order,
+/// for a close and then for its participant. A place is counted from 0.
 #[derive(Clone, Copy, PartialEq, Eq, Debug, Error)]
 pub enum DayFault {
     /// There are more commands than a journal has room for before its close.
@@ -66,13 +67,13 @@ impl From<AllocError> for DayFault {
     }
 }
 
-impl From<GateRefusal> for DayFault {
+impl From<NotEntered> for DayFault {
     ghost use Rattle.std.specs.Prelude.{◌≡◌};
     ghost use Rattle.dam_gate.specs.declared.day.DayFault.TheVariants.{Memory};
 
     ghost from_gives = { λ _ fault. fault ≡ Memory };
 
-    fn from(_refusal: GateRefusal) -> DayFault {
+    fn from(_cause: NotEntered) -> DayFault {
         DayFault::Memory
     }
 }
@@ -135,12 +136,12 @@ fn run_at_own_gate<J: GateName + Send + Sync, R: Threads + Wait + Sync, T: Turns
     let passes = enter_before_close(rt, alloc, &gate, turnstile, participants, commands)?;
     let mut operator = match gate.issue_operator_pass(rt) {
         Ok(operator) => operator,
-        Err(fault) => return Err(DayFault::from(GateRefusal::Pass(fault))),
+        Err(fault) => return Err(DayFault::from(NotEntered::Pass(fault))),
     };
     learn_from_all(&mut operator, &passes);
     let closed = match gate.close_into_locked(&mut operator) {
         Ok(closed) => closed,
-        Err(fault) => return Err(DayFault::from(GateRefusal::Call(fault))),
+        Err(fault) => return Err(DayFault::from(NotEntered::Call(fault))),
     };
     let (accounts, mut parts) = into_accounts_and_parts(alloc, passes, operator)?;
     let journal = closed.into_audited_journal(&mut parts);

@@ -22,19 +22,19 @@ use thiserror::Error;
 /// cause but `GateFault::Stopped`, which no test reaches: each command is its pass's to give and has room in the journal,
 /// and there are as many passes and places as holders.
 #[derive(Clone, Copy, Debug, Error)]
-pub(crate) enum GateRefusal {
+pub(crate) enum NotEntered {
     #[error(transparent)]
     Pass(#[from] PassFault),
     #[error(transparent)]
     Call(#[from] GateFault),
-    /// A call of a participant was refused. Its fault stays with the thread.
-    #[error("a participant's call was refused")]
+    /// A call of a participant failed. Its fault stays with the thread.
+    #[error("a participant's call failed")]
     CallOfParticipant,
     #[error(transparent)]
     Memory(#[from(alloc)] AllocError),
 }
 
-/// Enters the commands at these places in their order, up to the first that is refused.
+/// Enters the commands at these places in their order, up to the first whose call fails.
 fn enter_commands<J: GateName, H: Wait + Drop>(
     rt: &impl Wait,
     gate: &Gate<J, H>,
@@ -96,7 +96,7 @@ fn enter_all<J: GateName + Send + Sync, R: Threads + Wait + Sync, T: Turnstile +
     );
 }
 
-/// Whether no call was refused: each pass has as many receipts as it has places of commands.
+/// Whether no call failed: each pass has as many receipts as it has places of commands.
 fn have_all_entered<J: GateName>(passes: &[Pass<J>], all_places: &[CommandPlaces]) -> bool
     ensures all { result ≡ true → (i : ℕ) (d : Knowledge) → i < length passes.now
         → HasAll (places_of all_places.now i) (slice_index_or passes.now i d).account }
@@ -116,7 +116,7 @@ fn issue_pass_with_room<J: GateName, H: Wait + Drop>(
     gate: &Gate<J, H>,
     who: &Participant,
     receipts: usize,
-) -> Result<Pass<J>, GateRefusal>
+) -> Result<Pass<J>, NotEntered>
     ensures { IfOk result (λ pass. pass ≡ knowing_nothing (Some who.now)) }
 {
     let mut pass = gate.issue_pass(rt, who.copy())?;
@@ -131,7 +131,7 @@ fn issue_passes<J: GateName, H: Wait + Drop>(
     gate: &Gate<J, H>,
     participants: &[Participant],
     all_places: &[CommandPlaces],
-) -> Result<Vec<Pass<J>>, GateRefusal>
+) -> Result<Vec<Pass<J>>, NotEntered>
     ensures { IfOk result (λ passes.
         passes.items ≡ map (λ who. knowing_nothing (Some who)) participants.now) }
 {
@@ -155,7 +155,7 @@ pub(crate) fn enter_before_close<
     turnstile: &T,
     participants: &[Participant],
     commands: &[PackedCommand],
-) -> Result<Vec<Pass<J>>, GateRefusal>
+) -> Result<Vec<Pass<J>>, NotEntered>
     requires few { length participants.now ≤ most_participants }
     requires apart { AreApart participants.now }
     ensures ok { IfOk result (λ passes. AreServed commands.now participants.now
@@ -171,7 +171,7 @@ pub(crate) fn enter_before_close<
     gate.reserve_entries(rt, commands.len() + 1)?;
     enter_all(rt, gate, turnstile, &mut passes, commands, all_places);
     if !have_all_entered(&passes, all_places) {
-        return Err(GateRefusal::CallOfParticipant);
+        return Err(NotEntered::CallOfParticipant);
     }
     Ok(passes)
 }

@@ -165,7 +165,7 @@ impl<J: GateName, R: Wait + Drop> Gate<J, R> {
     /// Gives the command to the book, and journals it with the reply, even if the book refuses it. The pass gets the
     /// entry as a receipt, and has then seen the journal up to it.
     ///
-    /// A refused call doesn't give the command back.
+    /// A failed call doesn't give the command back.
     pub fn call(
         &self,
         rt: &impl Wait,

@@ -4,7 +4,7 @@ ghost use Rattle.std.specs.Prelude.{◌≡◌, ◌≤◌, ◌<◌, length, IfOk,
 ghost use Rattle.dam_book.specs.Limits.{most_entries};
 ghost use Rattle.dam_gate.specs.Limits.{most_participants};
 ghost use Rattle.dam_gate.specs.Day.{AreTaken, IsDayFault, givers_of, is_one_of};
-ghost use Rattle.dam_gate.specs.inside.Entering.{AreGivers, IsRefusalAt, TakesGiver};
+ghost use Rattle.dam_gate.specs.inside.Entering.{AreGivers, IsFaultAt, TakesGiver};
 
 use crate::day::DayFault;
 use crate::limits::MOST_PARTICIPANTS;
@@ -39,7 +39,7 @@ fn add_giver(
     ensures few { OnOk result (length participants.new.items ≤ most_participants) }
     ensures giver { OnOk result
         (TakesGiver command.now participants.old.items participants.new.items) }
-    ensures refused { IfErr result (IsRefusalAt place participants.old.items command.now) }
+    ensures refused { IfErr result (IsFaultAt place participants.old.items command.now) }
 {
     let Some(who) = command.participant() else {
         return Err(DayFault::CloseGiven(place));

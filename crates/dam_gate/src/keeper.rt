@@ -1,4 +1,4 @@
-//! The book of a day and its journal. A step has two halves: the first may be refused, and the second can't fail.
+//! The book of a day and its journal. A step has two halves: the first may fail, and the second can't.
 
 ghost use Rattle.std.specs.Prelude.{◌≡◌, ◌<◌, ◌≤◌, ◌+◌, true, false, length, option_copied, IfOk, IfErr, OnOk, OnErr};
 ghost use Rattle.std.specs.Arc.{arc_value};
@@ -84,7 +84,7 @@ impl<A: Allocator> Model for Keeper<A> {
         × AreSteps k.entries.items k.books };
 }
 
-/// A step of a keeper that can't be refused any more: its entry, and the book after it.
+/// A step of a keeper that can't fail any more: its entry, and the book after it.
 #[derive(Debug, Drop)]
 pub struct PreparedStep<A: Allocator = Global> {
     entry: PackedEntry<A>,
@@ -210,7 +210,7 @@ impl<A: Allocator + Copy> Keeper<A> {
         }
     }
 
-    /// Appends the step's entry to the journal, and takes over its book. It takes no memory and can't be refused.
+    /// Appends the step's entry to the journal, and takes over its book. It takes no memory and can't fail.
     pub fn append(&mut self, prepared: PreparedStep<A>)
         requires { IsPreparedFor self.old prepared.entry.command prepared }
         ensures step { self.new.journal ≡ journal_after self.old.journal prepared.entry.command }

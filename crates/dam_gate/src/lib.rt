@@ -14,7 +14,7 @@
 //! let accounts = [pass.into_account(), operator.into_account()];
 //! match settle(alloc, journal, &accounts) {
 //!     Ok(settled) => Ok(settled), // which accounts for the whole day: the clause `account`
-//!     Err(unsettled) => Err(unsettled.why), // with the journal in it
+//!     Err(unsettled) => Err(unsettled.why), // `unsettled.journal` is the journal, unchanged
 //! }
 //! ```
 //!
@@ -27,7 +27,7 @@
 //! About the state under the lock, contracts state only facts of any gate that hold whenever the lock is free: the
 //! journal is a legal one of the day of the gate's name, the passes' receipts together count its entries, and the slot
 //! that is shown has the journal's version in it. So only tests show that a gate begins without an entry, that a call
-//! journals at this gate just once, or not at all if it is refused, and that `finish` returns the journal of these calls.
+//! journals at this gate just once, or not at all if it fails, and that `finish` returns the journal of these calls.
 #![tactic(auto)]
 
 mod account;

@@ -1,4 +1,4 @@
-//! The limits of a gate, and of a day of given commands.
+//! The limits of a gate, and of a day of given commands. How many entries a journal has is a limit of dam_book.
 
 /// The greatest number of passes of one gate, the operator's among them.
 pub const MOST_PASSES: u8 = 9;

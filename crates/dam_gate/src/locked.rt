@@ -111,7 +111,7 @@ fn writer_from<J: GateName, R: Wait + Drop>(
     WriteHandle::new(alloc, rt, first, second, MOST_PASSES as usize)
 }
 
-/// A slot for the next version: the one that a refused call left at the writer, or else a new one, which is empty. The
+/// A slot for the next version: the one that a failed call left at the writer, or else a new one, which is empty. The
 /// writer shows it next.
 fn stage_next_slot<J: GateName, R: Wait + Drop>(
     alloc: Global,
@@ -295,7 +295,7 @@ impl<J: GateName, R: Wait + Drop> Locked<J, R> {
     /// Journals the command, and shows the version after it. It returns the entry's number and reply, and the history
     /// that ends with it.
     ///
-    /// All that may be refused comes first. The next call takes the slot that a refused call has left at the writer. The
+    /// All that may fail comes first. The next call takes the slot that a failed call has left at the writer. The
     /// caller's part counts the entry.
     pub(crate) fn append_and_publish(
         &mut self,

@@ -203,7 +203,7 @@ impl<J: GateName> Pass<J> {
     /// A call's step under the lock. It returns the number and the reply of the entry.
     ///
     /// The journal's entry takes the command, and the receipt its clone. The room for the receipt is made before
-    /// the journal's step, so that a refused call changes nothing.
+    /// the journal's step, so that a failed call changes nothing.
     pub(crate) fn step<R: Wait + Drop>(
         &mut self,
         locked: &mut Locked<J, R>,

@@ -1,4 +1,5 @@
-//! A walk finds no prices itself: it asks an oracle for them, for welfares and for losses.
+//! A walk finds no prices itself: it asks an oracle for them, for welfares and for losses. The oracle of a search is the
+//! class curves. It is a trait so that a test can count the calls.
 
 ghost use Rattle.std.specs.Prelude.{◌≡◌, ◌<◌, ◌≤ℤ◌, ◌<ℤ◌, ◌↔◌, ℤ, List, Bool, Some, None, true, false, length, All, IfSome};
 ghost use Rattle.dam_book.specs.Limits.{most_blocks};

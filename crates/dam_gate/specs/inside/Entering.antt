@@ -31,13 +31,13 @@ pub record TakesGiver (c : Command) (before after : List (List ℕ)) : Type 0 wh
   pub after_is : after ≡ with_giver before who
 
 -- memory ran out; or nobody gives the command at this place, or it brings a participant too many
-abbrev pub IsRefusalAt : ℕ → List (List ℕ) → Command → DayFault → Type 0
-IsRefusalAt place participants c Memory = Unit {0}
-IsRefusalAt place participants c (CloseGiven at) = (at ≡ place) × (giver c ≡ None)
-IsRefusalAt place participants c (TooManyParticipants at) =
+abbrev pub IsFaultAt : ℕ → List (List ℕ) → Command → DayFault → Type 0
+IsFaultAt place participants c Memory = Unit {0}
+IsFaultAt place participants c (CloseGiven at) = (at ≡ place) × (giver c ≡ None)
+IsFaultAt place participants c (TooManyParticipants at) =
     (at ≡ place) × (most_participants < length (with_any participants (giver c)))
-IsRefusalAt place participants c TooManyCommands = ⊥
-IsRefusalAt place participants c (NotSettled why) = ⊥
+IsFaultAt place participants c TooManyCommands = ⊥
+IsFaultAt place participants c (NotSettled why) = ⊥
 
 -- the commands at these places, in their order
 abbrev pub commands_at : List Command → List ℕ → List Command

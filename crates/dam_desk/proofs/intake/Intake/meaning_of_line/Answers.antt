@@ -8,7 +8,7 @@ use Rattle.dam_desk.proofs.intake.Intake.meaning_of_line.Goals.{in-Some, in-None
 
 pub returns : goal.returns
 returns c text line =
-    c.read_input_line.ensures (periods_of c.args.self.now.day) text (valid_day c.args.self.now.day) (elim c.match-self.branch [
+    c.meaning_of_input_line.ensures (periods_of c.args.self.now.day) text (valid_day c.args.self.now.day) (elim c.match-self.branch [
       | in-Some w ↦ ap (λ (h : Bor (List ℕ)). h.now) w.day_record-is ∙ w.day_record-day_record.ensures
           ∙ ap (λ (d : Option DeskDay). record_of (periods_of d)) (sym w.in-Some.is)
       | in-None w ↦ ap (λ (h : Bor (List ℕ)). h.now) w.day_record-is

@@ -3,7 +3,7 @@ use Rattle.std.proofs.Common.{◌≡◌, ◌++◌, ◌∷◌, [], ◌+◌, ◌�
 use Rattle.dam_desk.specs.Limits.{most_line}
 use Rattle.dam_desk.specs.InputLines.{text_after}
 use Rattle.dam_desk.proofs.Lists.{kept_whole}
-use Rattle.dam_desk.proofs.meaning.read_input_line.Goals as goal
+use Rattle.dam_desk.proofs.meaning.meaning_of_input_line.Goals as goal
 
 pub returns-then-line-gt-MOST_LINE : goal.returns-then-line-gt-MOST_LINE
 returns-then-line-gt-MOST_LINE c day text valid day_record line =
