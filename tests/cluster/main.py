@@ -1,4 +1,4 @@
-"""tests/cluster/run PROGRAM: many days on a local dask cluster of two worker processes, one of which is killed in the middle.
+"""tests/cluster/run [--dam PROGRAM]: many days on a local dask cluster of two worker processes, one of which is killed in the middle.
 
 Each journal's result has to come, in order, and be what the program prints by itself: if the workers run the program, and if they call the
 library for C. And tools/whatif ends with a fault if the scheduler ends or hangs, has no workers, or one of these hangs,
@@ -13,7 +13,7 @@ from typing import Any
 
 from cluster import lost
 from shared import cases
-from shared.arguments import parser_of_docstring
+from shared.arguments import add_programs, parse_with_programs_or_exit, parser_of_docstring
 from shared.counts import Counts
 from shared.place import TOP
 
@@ -64,8 +64,8 @@ def run_and_check_results(counts: Counts, by: str, texts: Sequence[bytes], wante
 
 def main() -> int:
     parser = parser_of_docstring(__doc__)
-    parser.add_argument("program", metavar="PROGRAM")
-    program, counts = os.path.abspath(parser.parse_args().program), Counts()
+    add_programs(parser, "dam")
+    program, counts = parse_with_programs_or_exit(parser).dam, Counts()
     try:
         import distributed  # noqa: F401
     except ImportError:

@@ -1,4 +1,4 @@
-"""tests/commands/run [--desk DESK] [--write] PROGRAM [PAGE ..]: runs the commands that the pages show, in a clone.
+"""tests/commands/run [--write] [--dam PROGRAM] [--desk DESK] [PAGE ..]: runs the commands that the pages show, in a clone.
 
 Each page's commands are run in order, in one shell, in a folder of their own, by the built program and desk. Each ends with status 0,
 prints nothing on standard error, and prints the output that the page quotes. tests/packages/run does the same with the installed package.
@@ -15,14 +15,13 @@ from pathlib import Path
 
 from lib.base.place import TOOLS
 from shared import page_session
-from shared.arguments import parser_of_docstring
+from shared.arguments import add_programs, parse_with_programs_or_exit, parser_of_docstring
 from shared.page_scenes import CLONE, ELSEWHERE, PAGES
 from shared.page_session import CUT
 from shared.counts import Counts
 from shared.place import TOP
 from shared.shown import quoted_pairs
 
-DESK = TOP / "crates/dam_desk/out/dam_desk"
 HELD = ("docs", "examples", "tests", "tools")  # folders of the clone that commands name
 
 
@@ -87,15 +86,12 @@ def run_and_check_page(counts: Counts, name: str, program: Path, desk: Path, wri
 
 def main() -> int:
     parser = parser_of_docstring(__doc__)
-    parser.add_argument("--desk", metavar="DESK", type=Path, default=DESK)
+    add_programs(parser, "dam", "desk")
     parser.add_argument("--write", action="store_true")
-    parser.add_argument("program", metavar="PROGRAM", type=Path)
     parser.add_argument("pages", metavar="PAGE", nargs="*", help="such as GUIDE")
-    args, counts = parser.parse_args(), Counts()
-    program, desk = args.program.resolve(), args.desk.resolve()
+    args, counts = parse_with_programs_or_exit(parser), Counts()
+    program, desk = Path(args.dam), Path(args.desk)
     check_pages_are_listed(counts)
-    if not os.access(program, os.X_OK):
-        parser.error(f"{args.program} isn't a program")
     for name in PAGES:
         if not args.pages or Path(name).stem in args.pages:
             run_and_check_page(counts, name, program, desk, args.write)

@@ -15,7 +15,6 @@ from shared import crash_files
 from shared.counts import Counts
 from shared.crash_files import HEAD, DiskMoment, is_at_rest, parse_marked_lines_or_none
 
-SHOWN = 5
 CHOSEN = 4_000  # files that are opened side by side, or of which the journal is printed
 OPENED_TWICE = 2_000  # files of a run, about, whose opening is always crashed again; of later ones fewer are
 OTHER_FILES = 60  # files of a second crash, for each of these
@@ -216,9 +215,7 @@ def check_crashes(counts: Counts, desk: DeskProgram, dam: DamProgram, whole: boo
     for about, given in draw_inputs(dam, whole):
         crashes = Crashes(desk, about, given, about)
         wrong = crashes.try_moments_and_repairs(None if whole else 2_000)
-        counts.passed += crashes.opened - min(crashes.opened, len(wrong))
-        counts.failed += len(wrong)
-        print("".join(f"differs: {line}\n" for line in wrong[:SHOWN]), end="")
+        counts.count_and_print_runs(crashes.opened, wrong)
         print(f"crashes of {about}: {crashes.files:,} files, {crashes.opened:,} opened, {len(wrong)} wrong", flush=True)
         files, opened, second, killed = files + crashes.files, opened + crashes.opened, second + crashes.second, killed + crashes.killed
     counts.check(f"{files} files of crashes are at least 100,000", files >= (100_000 if whole else 20_000))

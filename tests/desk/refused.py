@@ -380,9 +380,7 @@ def check_refused_calls(counts: Counts, desk: DeskProgram, dam: DamProgram, whol
         for kind in (RunsWithRefusals, RunsWithoutMemory):
             row = kind(desk, about, given, start)
             wrong = row.try_refusals()
-            counts.passed += row.runs - min(row.runs, len(wrong))
-            counts.failed += len(wrong)
-            print("\n".join(f"differs: {line}" for line in wrong[: crashes.SHOWN]), end="\n" if wrong else "", flush=True)
+            counts.count_and_print_runs(row.runs, wrong)
             runs, files = runs + row.runs, files + row.files
     given = next(iter(draw_inputs(dam, False)))[1]
     check_real_refusals(counts, desk, dam, given)

@@ -315,12 +315,22 @@ def check_many_starts(counts: Counts, desk: DeskProgram, given: DeskInput) -> No
     counts.check(f"eight desks at once: statuses {[it[0] for it in ends]}", ends == right)
 
 
+def text_of_stream(seed: int, found: Sequence[str]) -> str:
+    return f"stream {seed} (`tests/desk/run streams --only {seed}`): {'; '.join(found)}"
+
+
+def check_stream(counts: Counts, desk: DeskProgram, dam: DamProgram, seed: int) -> None:
+    """One of the random inputs."""
+    found = list(RandomStreams(desk, dam).try_stream(seed))
+    counts.check(text_of_stream(seed, found), not found)
+
+
 def check_streams(counts: Counts, desk: DeskProgram, dam: DamProgram, whole: bool) -> None:
     begun, streams = time.monotonic(), RandomStreams(desk, dam)
     count = MANY if whole else FEW
     with ThreadPoolExecutor(desk.jobs) as pool:
         for seed, found in enumerate(pool.map(lambda seed: list(streams.try_stream(seed)), range(count))):
-            counts.check(f"stream {seed}: {'; '.join(found)}", not found)
+            counts.check(text_of_stream(seed, found), not found)
     check_second_desk(counts, desk, dam)
     check_journal_in_mid_load(counts, desk, dam)
     print(f"streams: {count} of {streams.lines:,} lines, {streams.entries:,} entries and {streams.faults:,} fault lines; "

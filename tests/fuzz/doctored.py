@@ -33,7 +33,7 @@ from lib.results import results, selection
 from lib.tables import kinds
 from lib.tool import exits
 from shared import days, timed_program
-from shared.arguments import parser_of_cases
+from shared.arguments import parse_with_programs_or_exit, parser_of_cases
 from shared.counts import Counts
 from shared.doctored_texts import decoded_or_none, draw_doctored, draw_other_encoding
 
@@ -44,7 +44,7 @@ RIGHT, WRONG, UNREAD, ENCODING = exits.DONE, exits.DIFFERS, exits.NO_INPUT, exit
 def parse_arguments() -> argparse.Namespace:
     parser = parser_of_cases("tests/fuzz/doctored.py", __doc__, "cases", 5_000)
     parser.add_argument("--keep", metavar="FOLDER", help="keeps each pair on which the audit is wrong here")
-    return parser.parse_args()
+    return parse_with_programs_or_exit(parser)
 
 
 class Pairs:
@@ -155,7 +155,7 @@ def try_audit(folder: str, pairs: Pairs, data: bytes, text: bytes) -> tuple[int,
 
 def main() -> int:
     args = parse_arguments()
-    pairs, seen, failed = Pairs(args.program), Counter[int](), 0
+    pairs, seen, failed = Pairs(args.dam), Counter[int](), 0
     with tempfile.TemporaryDirectory() as folder:
         for number in range(args.first, args.first + args.count):
             rng = random.Random(f"doctored {args.seed} {number}")

@@ -19,7 +19,7 @@ sys.dont_write_bytecode = True
 sys.path[:1] = [f"{sys.path[0]}/..", f"{sys.path[0]}/../../tools"]  # tests/ and tools/
 
 from shared import days, timed_program
-from shared.arguments import parser_of_cases
+from shared.arguments import parse_with_programs_or_exit, parser_of_cases
 from shared.counts import Counts
 from lib.audit import better
 from lib.journal import book, journal
@@ -43,7 +43,7 @@ def parse_arguments() -> argparse.Namespace:
     kinds.add_argument("--thin", action="store_true", help="its thin markets")
     kinds.add_argument("--profiles", action="store_true", help="random days with blocks as users have them")
     parser.add_argument("--jobs", type=int, default=1, help="how many threads try the selections (1)")
-    return parser.parse_args()
+    return parse_with_programs_or_exit(parser)
 
 
 def draw_inputs(args: argparse.Namespace) -> Iterator[tuple[str, bytes]]:
@@ -134,7 +134,7 @@ def main() -> int:
     if args.families or args.books or args.thin or (args.blocks or 0) > FEW_BLOCKS:
         modules.exec_or_require_modules("numpy")
     args.most_blocks = MOST_BLOCKS if modules.has_module("numpy") else FEW_BLOCKS
-    program, counts, altered = timed_program.TimedProgram(args.program, args.wait), Counts(), Counter[str]()
+    program, counts, altered = timed_program.TimedProgram(args.dam, args.wait), Counts(), Counter[str]()
     for name, data in draw_inputs(args):
         wrong, kind = try_day(program, data, args.jobs)
         altered[kind or ""] += 1

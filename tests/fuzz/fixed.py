@@ -12,6 +12,7 @@ sys.dont_write_bytecode = True
 sys.path[:1] = [f"{sys.path[0]}/..", f"{sys.path[0]}/../../tools"]  # tests/ and tools/
 
 from shared import right_output, timed_program
+from shared.arguments import add_programs, parse_with_programs_or_exit
 from shared.counts import Counts
 from lib.base import rules
 from shared.place import EXAMPLES
@@ -80,8 +81,8 @@ def read_inputs_with_commands() -> Iterator[tuple[str, list[str], bytes]]:
 
 def main() -> int:
     parser = argparse.ArgumentParser(prog="tests/fuzz/fixed.py", description=__doc__)
-    parser.add_argument("program", metavar="PROGRAM", help="the built program, crates/dam_cli/out/dam_cli")
-    program, counts = timed_program.TimedProgram(parser.parse_args().program), Counts()
+    add_programs(parser, "dam")
+    program, counts = timed_program.TimedProgram(parse_with_programs_or_exit(parser).dam), Counts()
     for command, words, text in read_inputs_with_commands():
         wrong = right_output.try_command(program, command, words, text)
         counts.check(f"{' '.join([command, *words])} of {len(text)} bytes that end with {text[-20:]!r}: {''.join(wrong[:1])}", not wrong)

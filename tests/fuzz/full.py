@@ -20,6 +20,7 @@ sys.dont_write_bytecode = True
 sys.path[:1] = [f"{sys.path[0]}/..", f"{sys.path[0]}/../../tools"]  # tests/ and tools/
 
 from shared import right_output, timed_program
+from shared.arguments import add_programs, parse_with_programs_or_exit
 from shared.counts import Counts
 from shared.full_days import BONDS, MARKETS, FullDay, Size
 from lib.base import rules
@@ -96,17 +97,17 @@ def parse_arguments() -> argparse.Namespace:
     parser = argparse.ArgumentParser(
         prog="tests/fuzz/full.py", description=__doc__, formatter_class=argparse.RawDescriptionHelpFormatter, allow_abbrev=False
     )
-    parser.add_argument("program", metavar="PROGRAM", help="the built program, crates/dam_cli/out/dam_cli")
+    add_programs(parser, "dam")
     parser.add_argument("--hourly", type=int, default=rules.MOST_HOURLY, help="the most hourly orders of a book (4,000)")
     parser.add_argument("--blocks", type=int, default=rules.MOST_BLOCKS, help="the blocks of a book (24)")
     parser.add_argument("--commands", type=int, default=MOST_COMMANDS, help="the commands of a long journal (10,000)")
-    return parser.parse_args()
+    return parse_with_programs_or_exit(parser)
 
 
 def main() -> int:
     args = parse_arguments()
     size = Size(args.hourly, args.blocks, args.commands)
-    program, counts = timed_program.TimedProgram(args.program), Counts()
+    program, counts = timed_program.TimedProgram(args.dam), Counts()
     for case in draw_cases(size):
         wrong = try_case(program, case, size)
         counts.check(f"{case.name}: {'; '.join(map(str, wrong))}", not wrong)

@@ -20,6 +20,7 @@ from pathlib import Path
 from typing import NamedTuple
 
 from shared import broken_texts, cases, days, right_output, timed_program
+from shared.arguments import add_programs, parse_with_programs_or_exit
 from shared.counts import Counts
 from shared.printed import Printed
 
@@ -47,7 +48,7 @@ def parse_arguments() -> argparse.Namespace:
     parser = argparse.ArgumentParser(
         prog="tests/fuzz/run", description=__doc__, formatter_class=argparse.RawDescriptionHelpFormatter
     )
-    parser.add_argument("program", metavar="PROGRAM", help="the built program, crates/dam_cli/out/dam_cli")
+    add_programs(parser, "dam")
     parser.add_argument("--seed", default="1", help="the seed of the random cases (1)")
     parser.add_argument("--first", type=int, default=1, help="the number of the first case (1)")
     parser.add_argument("--count", type=int, help="how many cases to run; without it and --seconds the run doesn't end")
@@ -60,7 +61,7 @@ def parse_arguments() -> argparse.Namespace:
     parser.add_argument("--nodes", action="store_true", help="with --like: the program must visit as many nodes as the other one")
     parser.add_argument("--keep", default="found", help="the folder for inputs that show a difference (found)")
     parser.add_argument("--tries", type=int, default=400, help="how many smaller inputs to try for a difference (400)")
-    return parser.parse_args()
+    return parse_with_programs_or_exit(parser)
 
 
 def draw_input(args: argparse.Namespace, rng: random.Random, closing: bool) -> bytes:
@@ -182,7 +183,7 @@ def require_program_or_exit(path: str, seconds: float) -> timed_program.TimedPro
 
 def find_programs_and_run_commands_or_exit(args: argparse.Namespace) -> Programs:
     """The programs that the command line names, and the commands that it or else the program has."""
-    program = require_program_or_exit(args.program, args.wait)
+    program = timed_program.TimedProgram(args.dam, args.wait)
     like = require_program_or_exit(args.like, args.wait) if args.like else None
     # The order of a day's entries may differ from run to run.
     commands = [command for command in COMMANDS if command != "day" or not like]

@@ -19,7 +19,7 @@ from typing import NamedTuple
 from hostile.instruction_costs import records_of_crowded_book
 from hostile.retried_calls import REFUSALS
 from hostile.right_answers import UNFINISHED
-from hostile.runs_of_rows import RunsOfRows
+from hostile.row_runner import RowRunner
 from lib.base import rules
 from shared.cost_tables import Cost
 from shared.full_days import BONDS, MARKETS, FullDay, Size
@@ -289,7 +289,7 @@ def measure_cost(program: HostileProgram, run: Run) -> Cost:
     return Cost(found, peak, growths if run.is_alone else None)
 
 
-def measure_costs(runs: RunsOfRows) -> Iterator[tuple[str, Cost]]:
+def measure_costs(runs: RowRunner) -> Iterator[tuple[str, Cost]]:
     """Yields the name of each run, and its cost."""
     tried = generate_runs_of_every_kind(runs.program.room)
     yield from zip(tried, runs.pool.map(lambda run: measure_cost(runs.program, run), tried.values()))

@@ -22,7 +22,7 @@ from typing import NamedTuple
 
 from hostile.retried_calls import REFUSALS
 from hostile.right_answers import UNFINISHED
-from hostile.runs_of_rows import RunsOfRows
+from hostile.row_runner import RowRunner
 from lib.base import rules
 from shared.instructions import DRAWN, FIXED, MOST_TIMES, TIMES, check_and_print_millions, measure_instructions
 from shared.preload import HostileProgram, RefusedCalls
@@ -57,7 +57,7 @@ OPEN = [*(words for words in ENGINES if words[0] == "day"), *GATES.values()]
 LOOKS = 49.7  # millions of instructions of the calls of `dam_refusals` up to a full journal, each with a look after it
 
 
-def check_names(runs: RunsOfRows) -> None:
+def check_names(runs: RowRunner) -> None:
     """Tries each engine and each call of the gate with a seed that is drawn and with the fixed one, and with a drawn one on a longer day
     with a second participant too."""
     refusals = HostileProgram(REFUSALS, runs.program.room)
@@ -84,7 +84,7 @@ def check_names(runs: RunsOfRows) -> None:
     check_letters(runs)
 
 
-def runs_on_other_days(runs: RunsOfRows) -> Iterator[tuple[str, HostileProgram, list[str], list[tuple[list[str], int]]]]:
+def runs_on_other_days(runs: RowRunner) -> Iterator[tuple[str, HostileProgram, list[str], list[tuple[list[str], int]]]]:
     """Each engine and each call of the gate: its name, its program, its words, and the further words and the length of each day."""
     for word, days in WORKERS.items():
         yield word, runs.program, [word], [(["--workers", str(workers)], periods) for workers, periods in days.items()]
@@ -99,7 +99,7 @@ def measure_drawn(program: HostileProgram, given: tuple[list[str], bytes]) -> in
     return measure_instructions(program, *given, DRAWN)
 
 
-def check_names_on_other_days(runs: RunsOfRows) -> None:
+def check_names_on_other_days(runs: RowRunner) -> None:
     """Names that collide, with several workers and on other days, compared with others on the longest day."""
     others = submits_of(ordinary_names()[:SOME], LONG)
     colliding = submits_of(capture_colliding_names(runs.program.room, SOME, LONG), LONG)
@@ -113,7 +113,7 @@ def check_names_on_other_days(runs: RunsOfRows) -> None:
             runs.check(took, count < TIMES * usual)
 
 
-def check_seed_bytes(runs: RunsOfRows) -> None:
+def check_seed_bytes(runs: RowRunner) -> None:
     """The seed is of all random bytes: names that collide under the seed of these take few instructions if any byte is another."""
     refusals = HostileProgram(REFUSALS, runs.program.room)
     records = submits_of(capture_colliding_names(runs.program.room, SOME, LONG, struct.unpack("<2Q", RANDOM)), LONG)
@@ -150,7 +150,7 @@ def submits_by_kind() -> Iterator[list[str]]:
                     yield [record for text in texts for record in submits_of([f"B{length}"], text)]
 
 
-def check_letters(runs: RunsOfRows) -> None:
+def check_letters(runs: RowRunner) -> None:
     """Each letter of a participant and of a name is hashed. Orders of several kinds share a journal, and take about as long as others."""
     kinds = list(submits_by_kind())
     journals = [journal_text(itertools.chain.from_iterable(kinds[at : at + KINDS])) for at in range(0, len(kinds), KINDS)]
@@ -185,7 +185,7 @@ def journals_with_cancels() -> dict[str, tuple[list[str], list[str]]]:
     }
 
 
-def check_cancels(runs: RunsOfRows) -> None:
+def check_cancels(runs: RowRunner) -> None:
     """Counts the instructions of each journal with cancels, and of the one that it is compared with."""
     begin = numbered_submits(range(ORDERS))
     tried = {name: tuple(journal_text(begin + records) for records in both) for name, both in journals_with_cancels().items()}
@@ -247,7 +247,7 @@ def runs_by_name() -> dict[str, WorkOfRun]:
     }
 
 
-def check_full_books(runs: RunsOfRows) -> None:
+def check_full_books(runs: RowRunner) -> None:
     """Counts the instructions of runs on full books, and of a journal that is filled at a gate."""
     tried = runs_by_name()
     asked = [(it.words, journal_text(it.records, it.words[0] != "day", it.periods), DRAWN, it.status) for it in tried.values()]

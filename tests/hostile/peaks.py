@@ -15,7 +15,7 @@ from collections.abc import Iterable, Iterator
 
 from hostile.retried_calls import REFUSALS
 from hostile.right_answers import UNFINISHED
-from hostile.runs_of_rows import RunsOfRows
+from hostile.row_runner import RowRunner
 from lib.base import rules
 from shared.preload import HostileProgram, RefusedCalls
 from shared.printed import Printed
@@ -127,7 +127,7 @@ def most_bytes_allowed(engine: str, size: int) -> float:
     return HELD[engine] * MORE * 1e6 if size < SHORT else TIMES * size + ROOM
 
 
-def check_peaks(runs: RunsOfRows) -> None:
+def check_peaks(runs: RowRunner) -> None:
     """Runs each text, and compares the most bytes that the program held with the text's."""
     most = 0
     for about, text, engines, line in texts_with_engines():
@@ -148,7 +148,7 @@ def check_peaks(runs: RunsOfRows) -> None:
     print(f"the longest texts: at most {most / 1e6:.1f} MB were held at once", flush=True)
 
 
-def check_journals_read(runs: RunsOfRows) -> None:
+def check_journals_read(runs: RowRunner) -> None:
     """The same of the journals that `read_journal` returns, of short texts: `dam_refusals` holds two of each."""
     reader = HostileProgram(REFUSALS, runs.program.room)
     for about, text, _ in long_journals() if REFUSALS.exists() else ():

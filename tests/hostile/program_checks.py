@@ -9,8 +9,8 @@ import sys
 from collections.abc import Iterator, Sequence
 
 from hostile import costs_by_shape, peaks, right_answers
-from hostile.rows_of_runs import AUCTION, OPEN_AUCTION
-from hostile.runs_of_rows import AnswerToRow, RunsOfRows
+from hostile.rows import AUCTION, OPEN_AUCTION
+from hostile.row_runner import AnswerToRow, RowRunner
 from lib.base import rules
 from shared.generated_books import generate_book
 from shared.preload import LEFT, SECONDS, HostileProgram, RefusedCalls, Words
@@ -33,7 +33,7 @@ def run_with_closed_stream(program: HostileProgram, words: Words, data: bytes, s
     return Printed(ran.returncode, ran.stdout, ran.stderr)
 
 
-def check_devices(runs: RunsOfRows) -> None:
+def check_devices(runs: RowRunner) -> None:
     """Standard streams that are closed or full, or that no program reads."""
     for words, data in [(["replay"], AUCTION), (["clear"], AUCTION), (["day"], OPEN_AUCTION), (["--help"], b"")]:
         runs.check(f"{words[0]} to a closed stream", is_failed_write(run_with_closed_stream(runs.program, words, data, ">&-")))
@@ -56,14 +56,14 @@ def is_failed_write(got: Printed) -> bool:
     return line is not None and line[1] == b"0" and got == Printed(right_answers.MACHINE, b"", got.stderr)
 
 
-def check_seeds(runs: RunsOfRows) -> None:
+def check_seeds(runs: RowRunner) -> None:
     """Each engine draws one seed. This also shows that calls are counted at all."""
     for words, data in [(["replay"], AUCTION), (["clear"], AUCTION), (["day"], OPEN_AUCTION)]:
         _, asked = runs.program.run(words, data, RefusedCalls("random"))
         runs.check(f"{words[0]} asks for random bytes {asked} times, and not once", asked == 1)
 
 
-def check_threads(runs: RunsOfRows) -> None:
+def check_threads(runs: RowRunner) -> None:
     """A search starts a thread for each worker but one, whose work the calling thread does, and so does a day for its participants: also
     on a full book, and on days of many commands."""
     lines = [b"cancel,%c,X,,,,,,\n" % ord(code) for code in "ABCDEFGH"[: rules.MOST_DAY_PARTICIPANTS]]
@@ -92,14 +92,14 @@ def check_threads(runs: RunsOfRows) -> None:
             runs.check(f"{about}, status {got.status}, {got.stderr[:80]!r}", got.status in (0, right_answers.UNFINISHED))
 
 
-def check_strays(runs: RunsOfRows) -> None:
+def check_strays(runs: RowRunner) -> None:
     """A program that writes while a thread of it still runs is found, so the runs of the rows leave none, whatever call is refused."""
     script = "import threading; threading.Thread(target=threading.Event().wait, daemon=True).start(); print()"
     got, _ = HostileProgram(sys.executable, runs.program.room).run(["-c", script], b"", right_answers.NOTHING_REFUSED)
     runs.check("a thread that isn't joined is found", got.stderr == LEFT)
 
 
-def check_freed_texts(runs: RunsOfRows) -> None:
+def check_freed_texts(runs: RowRunner) -> None:
     """The journal's text is freed before the search, and before the participants of a day are started."""
     for word, data in [("clear", AUCTION), ("day", OPEN_AUCTION)]:
         words, text = [word, "--workers", "8"], data + b"\n" * (1 << 20)
@@ -114,7 +114,7 @@ def check_freed_texts(runs: RunsOfRows) -> None:
             runs.check(f"{word} --workers {workers} asks for memory {made} times with its text, and not {least}", made == least)
 
 
-def check_reads(runs: RunsOfRows) -> None:
+def check_reads(runs: RowRunner) -> None:
     """A text is read in pieces of 65,536 bytes. A program that reads it byte by byte would be seen: it has as many reads as bytes."""
     for word, data in [("replay", AUCTION), ("clear", AUCTION), ("day", OPEN_AUCTION)]:
         text = data + b"\n" * (1 << 18)
@@ -129,7 +129,7 @@ def check_reads(runs: RunsOfRows) -> None:
                 check_whole_reads(runs, word, text, answer)
 
 
-def check_whole_reads(runs: RunsOfRows, word: str, text: bytes, answer: AnswerToRow) -> None:
+def check_whole_reads(runs: RowRunner, word: str, text: bytes, answer: AnswerToRow) -> None:
     """A text of any length is read by as few calls, from a file and from a pipe that holds it. Its empty lines change no answer."""
     about, right = f"{word} reads {len(text):,} bytes that end with {text[-1:]!r} of", -(-len(text) // CHUNK) + 1
     tried = [("file", lambda: runs.program.run([word], text, RefusedCalls("read")))]
@@ -156,7 +156,7 @@ def open_full_pipe(text: bytes) -> io.FileIO:
     return open(ours, "rb", buffering=0)
 
 
-def check_writes(runs: RunsOfRows) -> None:
+def check_writes(runs: RowRunner) -> None:
     """A text of any length is written by one call, if the stream takes it whole."""
     refused = DAY + b"cancel,ABCDEFGH,NAME-NUMBER1,,,,,,\n" * rules.MOST_DAY_COMMANDS
     tried = [("replay", AUCTION, 500, b""), ("replay", refused, 200_000, b""), ("clear", AUCTION, 500, b""), ("day", OPEN_AUCTION, 500, b"")]
@@ -184,7 +184,7 @@ def capture_amended_journals(program: HostileProgram, count: int) -> Iterator[tu
     yield "clear", closed, 100, short.stdout
 
 
-def check_books_by_size(runs: RunsOfRows) -> None:
+def check_books_by_size(runs: RowRunner) -> None:
     """Books of a few orders, and larger ones with a block, up to a full one, on each length of a day. With more orders, a run asks for
     memory at least as often, and holds at least as many bytes: a copy that is made of books of one size only would be seen."""
     sides, sizes = [b"buy", b"sell"], range(STEP, rules.MOST_HOURLY + 1, STEP)
@@ -202,7 +202,7 @@ def check_books_by_size(runs: RunsOfRows) -> None:
                 runs.check(f"{about}: {held} bytes, and {more_held} with more orders", held <= more_held)
 
 
-def check_stacks(runs: RunsOfRows) -> None:
+def check_stacks(runs: RowRunner) -> None:
     """512 KiB of stack are enough for a search, also of these books, whose search has prices of its own for the decisions on most of the 24
     blocks, one after the other."""
     small = ["sh", "-c", 'ulimit -s 512; exec "$@"', "sh"]
@@ -215,7 +215,7 @@ def check_stacks(runs: RunsOfRows) -> None:
             runs.check(f"{about}: status {got.status}, {got.stderr[:80]!r}", got.status == status)
 
 
-def check_copies(runs: RunsOfRows) -> None:
+def check_copies(runs: RowRunner) -> None:
     """A day asks for memory as often for each command, however many orders the book holds: no command copies all orders, each into a block
     of its own. The instructions of runs on full books, which the part `shapes` counts, would show another copy."""
     records = ["submit,%s,N-%d,hour,buy,0,1:1,,\n", "amend,%s,N-%d,,,1,1:1,,\n", "cancel,%s,N-%d,,,,,,\n"]

@@ -7,7 +7,7 @@ from pathlib import Path
 from typing import NamedTuple
 
 from hostile import right_answers
-from hostile.runs_of_rows import RunsOfRows
+from hostile.row_runner import RowRunner
 from lib.base import rules
 from lib.runs.by_library import MOST_NODES
 from shared.place import TOP
@@ -44,7 +44,7 @@ class RowOfRetries(NamedTuple):
 class RetryingRuns:
     """Runs of `dam_refusals`."""
 
-    def __init__(self, runs: RunsOfRows, room: Path) -> None:
+    def __init__(self, runs: RowRunner, room: Path) -> None:
         self.runs = runs
         self.program = HostileProgram(REFUSALS, room)
 
@@ -162,7 +162,7 @@ def records_of_few_orders(periods: int) -> Iterator[bytes]:
         yield b"submit,A,%d,%b,%b,%d,%b,,\n" % (at, kind, [b"buy", b"sell"][at % 2], at, volumes)
 
 
-def check_copies_of_books(runs: RunsOfRows, room: Path) -> None:
+def check_copies_of_books(runs: RowRunner, room: Path) -> None:
     """A gate copies its book for the call after one that was refused memory. So each call for memory at a gate is refused in turn, on each
     length of a day: the call is made again, and takes as many calls for memory on each length."""
     refusals, made = RetryingRuns(runs, room), dict[int, list[int]]()
@@ -181,7 +181,7 @@ def check_copies_of_books(runs: RunsOfRows, room: Path) -> None:
         runs.check(about, counts == least)
 
 
-def check_rows(runs: RunsOfRows, room: Path, rows: Iterable[RowOfRetries]) -> None:
+def check_rows(runs: RowRunner, room: Path, rows: Iterable[RowOfRetries]) -> None:
     runs.check("dam_refusals is built", REFUSALS.exists())
     if not REFUSALS.exists():
         return

@@ -20,6 +20,17 @@ sh -c 'trap "" TERM; echo begun; exec sleep 100' &
 wait
 """
 
+# Runs parts that print files, and prints the end of a check of these.
+PRINT_PARTS = """
+import sys, types
+from importlib.machinery import SourceFileLoader
+check = types.ModuleType("check")
+check.__file__ = f"{sys.path[0]}/check"
+SourceFileLoader("check", check.__file__).exec_module(check)
+done = [check.run_and_print_part(name, ["cat", name], alone=["tests/run"] if name == "ended" else None) for name in ["first", "right", "other", "ended", "empty"]]
+check.run_yardstick_and_print_table(done, check.total_of(done))
+"""
+
 
 class CheckTests(RepositoryCase):
     def start_and_assert_end(self, status: int, signals: Sequence[int], ignored: Sequence[str] = ()) -> None:
@@ -83,6 +94,33 @@ class CheckTests(RepositoryCase):
             crates.end_thread()
             self.assertEqual(len(list(crates.rows())), 1)
             self.assertEqual(set(crates.seconds), counted)
+
+    def test_failures_are_repeated_at_the_end(self) -> None:
+        own = ["differs: streams: stream 2: a line", "FAILED tools/tests/test_a.py::A::test - x", "a_test ... FAILED", "low/edit: NOT REFUSED: why",
+               "rt: low NOT PROVED", "case 3 of seed check: a: b"]  # fmt: skip
+        others = ["a_test ... ok", "it differs: no", "low/edit: refused", "rt: low proved"]
+        many = [f"differs: case {number}" for number in range(52)]
+        for name, lines in (
+            ("first", [*own, *others, "9 passed, 6 failed"]),
+            ("right", [*others, "9 passed, 0 failed"]),
+            ("other", [*many, "0 passed, 52 failed"]),
+            ("ended", others),
+            ("empty", ["0 passed, 0 failed"]),
+        ):
+            self.at.write(name, "".join(f"{line}\n" for line in lines))
+        self.at.write("crates/refusing_alloc/src/lib.rt", "")
+        self.at.write("print_parts.py", PRINT_PARTS)
+        status, out, error = self.at.run(sys.executable, "print_parts.py", cwd=self.at.top)
+        self.assertEqual((status, error), (0, ""))
+        repeated = {
+            "first": ["6 failed; to run it alone: cat first", *own],
+            "other": ["52 failed; to run it alone: cat other", *many[:50], "and 2 more"],
+            "ended": ["1 failed; to run it alone: tests/run", "ended with status 0, and its last line has no totals"],
+            "empty": ["1 failed; to run it alone: cat empty", "nothing was run"],
+        }
+        right = [f"failed: {name}: {line}" for name, its in repeated.items() for line in its]
+        self.assertEqual(out.splitlines()[-len(right) - 1 :][1:], right)
+        self.assertEqual(out.count("\nfailed: "), len(right))
 
     def test_totals_are_written_with_the_commit(self) -> None:
         check = types.ModuleType("check")

@@ -1,4 +1,4 @@
-"""tests/library/run [--build | --over FOLDER] PROGRAM: compiles callers of the library for C, and calls it from C, C++, Python and Rust.
+"""tests/library/run [--build | --over FOLDER] [--dam PROGRAM]: compiles callers of the library for C, and calls it from C, C++, Python and Rust.
 
 With --over, library/build first proves and builds it over the libraries of a folder, which `rt ci` has just proved; with --build it proves
 these too, if that isn't done. Without either the library has to be there, built of the present sources. If it isn't, or can't be built here,
@@ -35,7 +35,7 @@ from lib.crates import sources
 from lib.runs.by_library import MOST_NODES
 from library import building
 from shared import cases
-from shared.arguments import parser_of_docstring
+from shared.arguments import add_programs, parse_with_programs_or_exit, parser_of_docstring
 from shared.counts import Counts
 from shared.generated_books import generate_book
 from shared.place import TOP
@@ -648,8 +648,8 @@ def main() -> int:
     parser = parser_of_docstring(__doc__)
     parser.add_argument("--build", action="store_true")
     parser.add_argument("--over", metavar="FOLDER")
-    parser.add_argument("program")
-    given = parser.parse_args()
+    add_programs(parser, "dam")
+    given = parse_with_programs_or_exit(parser)
     counts = Counts()
     if not shutil.which("cc"):
         counts.count_and_print_left_out("the library: there is no C compiler `cc`")
@@ -661,7 +661,7 @@ def main() -> int:
             words = ["--over", given.over] if given.over else []
             can_build = prove_build_and_see_success(counts, words) if given.build or words else True
             if is_library_built():
-                check_calls(counts, folder, os.path.abspath(given.program))
+                check_calls(counts, folder, given.dam)
             elif can_build:
                 counts.count_and_print_left_out("the calls: the library isn't built (library/build builds it, and so does ./check)")
     return counts.print_totals_and_return_status()

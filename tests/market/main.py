@@ -8,7 +8,7 @@ import random
 
 from market import laws
 from shared import market_books
-from shared.arguments import parser_of_cases
+from shared.arguments import parse_with_programs_or_exit, parser_of_cases
 from shared.counts import Counts
 from shared.timed_program import TimedProgram
 
@@ -26,9 +26,9 @@ def check_laws(counts: Counts, market: laws.MarketOfProgram, seed: str, number: 
 
 
 def main() -> int:
-    args = parser_of_cases("tests/market/run", __doc__, "books", 2_000).parse_args()
+    args = parse_with_programs_or_exit(parser_of_cases("tests/market/run", __doc__, "books", 2_000))
     counts = Counts()
-    program = TimedProgram(args.program)
+    program = TimedProgram(args.dam)
     for number in range(args.first, args.first + args.count):
         check_laws(counts, laws.MarketOfProgram(program), args.seed, number)
     return counts.print_totals_and_return_status()

@@ -1,19 +1,16 @@
-"""tests/office/run [--all] [--dam PROGRAM] [--desk PROGRAM] [--part NAME ..] [--pictures FOLDER]: the office with the built programs.
+"""tests/office/run [--all] [--dam PROGRAM] [--desk DESK] [--part NAME ..] [--pictures FOLDER]: the office with the built programs.
 
 It is served at a loopback address: its routes by their description, strangers' requests, TLS, a full disk, the words of a desk, a desk
 that ends, a desk's file that is put back, kills of the office and its desk in the middle of a load, a whole day of 9,999 commands, and the
 page in a headless Chromium. What is missing is left out. With --all, 30 kills in place of 3, and 10,000 connections. The last line is
 'N passed, M failed', with ', K skipped' if something was left out."""
 
-import os
 import traceback
 
 from lib.tool import modules
-from shared.arguments import parser_of_docstring
+from shared.arguments import add_programs, parse_with_programs_or_exit, parser_of_docstring
 from shared.counts import Counts
-from shared.place import TOP
 
-DAM, DESK = (TOP / "crates" / name / "out" / name for name in ("dam_cli", "dam_desk"))
 PACKAGES = {"aiohttp": "python3-aiohttp", "cryptography": "python3-cryptography", "jinja2": "python3-jinja2"}
 
 
@@ -37,14 +34,12 @@ PARTS = {  # the function of scenes.py for each
 def main() -> int:
     parser = parser_of_docstring(__doc__)
     parser.add_argument("--all", action="store_true")
-    parser.add_argument("--dam", metavar="PROGRAM", default=DAM)
-    parser.add_argument("--desk", metavar="PROGRAM", default=DESK)
+    add_programs(parser, "dam", "desk")
     parser.add_argument("--part", metavar="NAME", action="append", choices=PARTS)
     parser.add_argument("--pictures", metavar="FOLDER")
-    args, counts = parser.parse_args(), Counts()
+    args, counts = parse_with_programs_or_exit(parser), Counts()
     modules.exec_with_modules(*PACKAGES)  # Debian's, if this one lacks them
     missing = [name for module, name in PACKAGES.items() if not modules.has_module(module)]
-    missing += [str(path) for path in (args.dam, args.desk) if not os.access(path, os.X_OK)]
     if missing:
         counts.count_and_print_left_out(f"the office: {', '.join(missing)} is missing")
         return counts.print_totals_and_return_status()
@@ -52,9 +47,10 @@ def main() -> int:
 
     for name, function in PARTS.items():
         if args.part is None or name in args.part:
+            counts.begin_part(name)
             try:
                 getattr(scenes, function)(counts, args)
             except Exception:
                 traceback.print_exc()
-                counts.check(f"{name} ended", False)
+                counts.check("it ended", False)
     return counts.print_totals_and_return_status()

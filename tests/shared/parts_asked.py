@@ -1,20 +1,20 @@
 """The command line of a run that has parts: those that it names, or else all."""
 
-import sys
+import argparse
 from collections.abc import Collection, Sequence
-from typing import NamedTuple
+
+from shared.arguments import parse_with_programs_or_exit
 
 
-class PartsAsked(NamedTuple):
-    names: list[str]
-    is_whole: bool  # whether nothing is left out for its time
-    counts_only: bool  # whether only the tables of costs are written
-
-
-def parse_parts_or_exit(words: Sequence[str], parts: Collection[str]) -> PartsAsked:
-    """The words `[--all | --count] [PART..]`, of which the parts are known by these names."""
-    names = [word for word in words if word not in ("--all", "--count")]
-    if not set(names) <= set(parts):
-        print(f"the parts are {', '.join(parts)}", file=sys.stderr)
-        sys.exit(2)
-    return PartsAsked(names or list(parts), "--all" in words, "--count" in words)
+def parse_parts_or_exit(parser: argparse.ArgumentParser, words: Sequence[str], parts: Collection[str]) -> argparse.Namespace:
+    """The words `[--all | --count] [PART ..]` and the parser's own, of which the parts are known by these names. `parts` has all if the
+    words name none."""
+    kinds = parser.add_mutually_exclusive_group()
+    kinds.add_argument("--all", action="store_true", help="leave nothing out for its time")
+    kinds.add_argument("--count", action="store_true", help="only write the tables of costs")
+    parser.add_argument("parts", metavar="PART", nargs="*")
+    asked = parse_with_programs_or_exit(parser, words)
+    if not set(asked.parts) <= set(parts):
+        parser.error(f"the parts are {', '.join(parts)}")
+    asked.parts = asked.parts or list(parts)
+    return asked

@@ -19,6 +19,7 @@ from lib.results import selection
 from lib.runs import engine
 from lib.whatif import limits, scenarios
 from shared import market_books
+from shared.arguments import add_programs, parse_with_programs_or_exit
 from shared.counts import Counts
 from shared.generated_books import generate_book
 from shared.place import TOP
@@ -30,11 +31,11 @@ FULL = ("make_family.py", "market", 4_000, 24, 4)  # a book at its limits, of 96
 
 def parse_arguments() -> argparse.Namespace:
     parser = argparse.ArgumentParser(prog="tests/whatif/run", description=__doc__, allow_abbrev=False)
-    parser.add_argument("program", metavar="PROGRAM", help="the built program, crates/dam_cli/out/dam_cli")
+    add_programs(parser, "dam")
     parser.add_argument("--seed", default="1", help="of the random books (1)")
     parser.add_argument("--count", type=int, default=200, help="how many small books (200)")
     parser.add_argument("--windows", type=int, default=20, help="how many sunny days (20)")
-    return parser.parse_args()
+    return parse_with_programs_or_exit(parser)
 
 
 def limit_search_of(held: book.Book, key: tuple[str, str], program: str) -> limits.LimitSearch:
@@ -135,10 +136,10 @@ def main() -> int:
     args = parse_arguments()
     counts, accepted = Counts(), []
     for number in range(1, args.count + 1):
-        accepted.append(check_small_and_count(counts, args.program, args.seed, number))
+        accepted.append(check_small_and_count(counts, args.dam, args.seed, number))
     for number in range(1, args.windows + 1):
-        check_window(counts, args.program, args.seed, number)
-    check_full(counts, args.program)
+        check_window(counts, args.dam, args.seed, number)
+    check_full(counts, args.dam)
     between = sum(0 < count < limits.COUNT for count in accepted)
     print(f"{between} of {len(accepted)} blocks have a worst limit within the range, {accepted.count(0)} none")
     return counts.print_totals_and_return_status()

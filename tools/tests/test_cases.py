@@ -1,5 +1,7 @@
 """How the worked cases of tests/cases/ are read and written, and the counts of tests/run-cases and tests/run-units."""
 
+import contextlib
+import io
 import os
 import random
 import re
@@ -10,6 +12,7 @@ import unittest
 from pathlib import Path
 
 from support import TOP, worked
+from shared.counts import MOST_SHOWN, Counts
 
 PIECES = [b"\n", b"\n", b"\\", b"{", b"}", b" ", b"== ", b"-- ", b"\r", b"\0", b"\xff", b"x7b", b"{1..3}", b"{2 times}", b"n", b"a,b", b"-", b"="]
 
@@ -141,20 +144,36 @@ z\\
         program.write_text('#!/bin/sh\ncat\necho "$@" >&2\nexit 2\n')
         program.chmod(0o755)
         self.path.write_text("== a\n-- args b\n-- runs\n-c\n-d\n-- stdin\nx\n-- stdout\nx\n-- stderr\nb -d\n-- status 2\n")
-        ran = subprocess.run([sys.executable, TOP / "tests/run-cases", program, self.path], capture_output=True, text=True)
+        ran = subprocess.run([sys.executable, TOP / "tests/run-cases", "--dam", program, self.path], capture_output=True, text=True)
         self.assertEqual((ran.returncode, ran.stdout), (1, "differs: file/a -c: stderr\n1 passed, 1 failed\n"))
         self.path.write_text("== a\n")
-        ran = subprocess.run([sys.executable, TOP / "tests/run-cases", program, self.path], capture_output=True, text=True)
+        ran = subprocess.run([sys.executable, TOP / "tests/run-cases", "--dam", program, self.path], capture_output=True, text=True)
         said = f"run-cases: {self.path}:1: a has no arguments, is there already, or has a part twice\n"
         self.assertEqual((ran.returncode, ran.stdout, ran.stderr), (1, "", said))
         shown = subprocess.run([sys.executable, TOP / "tests/run-cases", "--print", "clear/paradox"], capture_output=True)
         self.assertEqual(shown.stdout, worked.read_cases_of_file("clear")["paradox"].stdin)
 
+    def test_a_part_shows_some_failures_of_each_kind(self):
+        counts = Counts()
+        with contextlib.redirect_stdout(io.StringIO()) as printed:
+            counts.begin_part("first")
+            for number in range(MOST_SHOWN + 3):
+                counts.check(f"stream {number}: wrong", False)
+            counts.check("names: wrong", False)
+            counts.check("right", True)
+            counts.begin_part("second")
+            counts.count_and_print_runs(5, ["stream 1: wrong", "stream 1: wrong too"])
+            counts.print_totals_and_return_status()
+        streams = [f"differs: first: stream {number}: wrong" for number in range(MOST_SHOWN)]
+        right = [*streams, "differs: first: names: wrong", "differs: first: stream: 3 more of this kind", "differs: second: stream 1: wrong",
+                 "differs: second: stream 1: wrong too", f"4 passed, {MOST_SHOWN + 6} failed"]  # fmt: skip
+        self.assertEqual(printed.getvalue().splitlines(), right)
+
     def test_the_runner_on_a_mix_up(self):
         for words, said in (
-            ((), "which program?"),
-            ((self.path,), "is not a program; the first argument is the program"),
-            (("/bin/cat", "clear/paradox"), "run-cases: clear/paradox: No such file or directory\n"),
+            (("--dam", self.path), "isn't a program: `tools/unproved --compile dam_cli` builds one, and --dam names it"),
+            (("/bin/cat", "--dam", self.path), "isn't a program:"),
+            (("--dam", "/bin/cat", "clear/paradox"), "run-cases: clear/paradox: No such file or directory\n"),
             (("--print", "tests/cases/clear.txt"), "no stdin of a case tests/cases/clear.txt; FILE/CASE is for example"),
             (("--print", "clear/none"), "no stdin of a case clear/none;"),
             (("--print", "clear/paradox", "output"), "no output of a case clear/paradox;"),

@@ -44,9 +44,9 @@ class Called:
 def run_fuzzer(script, folder, *words, defect=""):
     """A run of a fuzzer with such a program: its status and output."""
     program = Path(folder, f"dam.{defect}")
-    program.touch()
+    program.touch(0o755)
     with mock.patch.object(timed_program, "TimedProgram", Called):
-        status, out, err = support.run_in_fork(str(support.TOP / "tests" / "fuzz" / script), [str(program), *map(str, words)])
+        status, out, err = support.run_in_fork(str(support.TOP / "tests" / "fuzz" / script), ["--dam", str(program), *map(str, words)])
     return status, out.decode() + err
 
 
@@ -92,7 +92,7 @@ class Fuzz(unittest.TestCase):
             found = Path(folder, "found")
             words = ["--keep", found, "--tries", "60", *words]
             if apart:
-                run = [sys.executable, support.TOP / "tests" / "fuzz" / "run", write_fake_program(folder, "dam"), *words]
+                run = [sys.executable, support.TOP / "tests" / "fuzz" / "run", "--dam", write_fake_program(folder, "dam"), *words]
                 ran = subprocess.run(run, capture_output=True, text=True, env={**os.environ, "DAM_DEFECT": defect})
                 status, out = ran.returncode, ran.stdout + ran.stderr
             else:

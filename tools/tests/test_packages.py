@@ -87,6 +87,7 @@ ALSO_NONE = {"get", "only_part_or_refuse", "typed_value"}
 OF_UNITS = 'sys.path[:0] = [f"{TOP}/tests", f"{TOP}/tools"]'
 OF_FOLDERS = 'sys.path[:1] = [f"{sys.path[0]}/..", f"{sys.path[0]}/../../tools"]'
 OF_SCRIPTS = 'sys.path.insert(1, f"{sys.path[0]}/../tools")'
+OF_SHELLS = ["tests/desk/main.py", "tests/hostile/main.py"]  # the script `run` of the shell starts them
 OF_BENCH, OF_MANUAL = 'sys.path.insert(0, f"{TOP}/bench")', "sys.path.append(str(TOP))"
 OF_TESTED = {
     "tests/fuzz/enumerated.py": OF_BENCH,
@@ -245,7 +246,7 @@ class Packages(unittest.TestCase):
         """A script, or a module of tests, tells where its modules are. So these don't depend on the order of imports."""
         for path, tree in parsed_files():
             name = Path(path).name
-            is_started = (TOP / path).read_bytes().startswith(b"#!") or name.startswith("test_") or name.endswith("_parts.py")
+            is_started = (TOP / path).read_bytes().startswith(b"#!") or name.startswith("test_") or path in OF_SHELLS
             if path.startswith("tests/") and not is_started:
                 with self.subTest(path=path):
                     asked = [ast.unparse(node) for node in ast.walk(tree) if isinstance(node, ast.Attribute)]

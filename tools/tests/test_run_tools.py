@@ -23,7 +23,7 @@ case "$*" in
 *fixed.py*) echo "no totals" ;;
 *market/run*) echo "2 passed, 0 failed"; exit 3 ;;
 *commands/run*) [ ! -e wait ] || { echo $$ > waits; exec sleep 100; }; echo "1 passed, 0 failed" ;;
-*"--seed plans"*) mkdir "$4"; echo an input > "$4/plans-1"; echo "0 passed, 1 failed"; exit 1 ;;
+*"--seed plans"*) mkdir "$5"; echo an input > "$5/plans-1"; echo "0 passed, 1 failed"; exit 1 ;;
 *) echo "1 passed, 0 failed" ;;
 esac
 """
@@ -39,6 +39,8 @@ class RunTools(unittest.TestCase):
         for name in ("run-tools", "shared/arguments.py", "shared/counts.py", "shared/place.py"):
             shutil.copy(TOP / "tests" / name, self.top / "tests" / name)
         self.write_script("python", PYTHON)
+        self.write_script("dam", "#!/bin/sh\n")
+        self.programs = ["--dam", str(self.top / "dam"), "--desk", str(self.top / "dam")]
         self.write_script("tests/new-python", f"#!/bin/sh\necho '{self.top}/python'\n")
 
     def write_script(self, name, text):
@@ -54,12 +56,12 @@ class RunTools(unittest.TestCase):
             out, err = process.communicate(timeout=100)
         return process.returncode, out, err
 
-    def test_without_a_program(self):
-        self.assertEqual(self.run_and_read(), (1, WITHOUT, ""))
+    def test_without_programs(self):
+        self.assertEqual(self.run_and_read("--without-programs"), (1, WITHOUT, ""))
 
     def test_with_a_program(self):
         """A run without totals has failed, and so has one with another status and no failure. What was found is shown."""
-        status, out, _ = self.run_and_read("dam")
+        status, out, _ = self.run_and_read(*self.programs)
         self.assertEqual(status, 1)
         missing = "left out: scans of every limit, and every selection of more than 12 blocks: python3-numpy is missing\n"
         self.assertTrue(out.startswith(missing + WITHOUT.rpartition("9 passed")[0] + "no totals\n"), out)
@@ -68,18 +70,20 @@ class RunTools(unittest.TestCase):
         self.assertTrue(out.endswith("==> plans-1 <==\nan input\n\n17 passed, 4 failed, 3 skipped\n"), out)
 
     def test_without_python(self):
+        self.write_script("dam", "#!/bin/sh\n")
+        self.programs = ["--dam", str(self.top / "dam"), "--desk", str(self.top / "dam")]
         self.write_script("tests/new-python", "#!/bin/sh\n")
         said = "left out: the tests of tools/, and random journals: Python 3.10 or newer is missing\n0 passed, 0 failed, 1 skipped\n"
-        self.assertEqual(self.run_and_read("dam"), (0, said, ""))
+        self.assertEqual(self.run_and_read(*self.programs), (0, said, ""))
 
     def test_words_that_it_refuses(self):
-        for words in (["--all"], [""], ["dam", "dam"]):
+        for words in ([], ["--dam", ""], ["--without-programs", "--all"], [*self.programs, "dam"]):
             self.assertEqual(self.run_and_read(*words)[:2], (2, ""), words)
 
     def test_a_signal_ends_what_it_started(self):
         (self.top / "wait").touch()
         waits, until = self.top / "waits", time.monotonic() + 60
-        with self.start("dam") as process:
+        with self.start(*self.programs) as process:
             while not (waits.exists() and waits.read_text()) and time.monotonic() < until:
                 time.sleep(0.01)
             process.send_signal(signal.SIGTERM)

@@ -9,7 +9,7 @@ from typing import Any
 
 from hostile import retried_calls, right_answers
 from hostile.retried_calls import RowOfRetries
-from hostile.runs_of_rows import ANY, FEW, AnswerToRow, RowOfRuns
+from hostile.row_runner import ANY, FEW, AnswerToRow, RowOfRuns
 from shared import cases
 from shared.place import EXAMPLES
 from shared.preload import ABOVE_ANY_CALL, HostileProgram, RefusedCalls, Words

@@ -13,7 +13,6 @@ from shared.counts import Counts
 from shared.preload import ABOVE_ANY_CALL, HostileProgram, RefusedCalls, Words
 from shared.printed import Printed
 
-SHOWN = 10  # differences of a row
 FEW = 40  # how many calls of a row are refused if not each is
 ANY = 10_000  # more calls than any row makes of which each has to be refused
 
@@ -36,7 +35,7 @@ class RowOfRuns(NamedTuple):
         return RefusedCalls(self.kind, number, self.last or number, self.error, self.most)
 
 
-class RunsOfRows(Counts):
+class RowRunner(Counts):
     """The runs of rows, side by side, and how many were right."""
 
     def __init__(self, program: HostileProgram, whole: bool) -> None:
@@ -66,7 +65,7 @@ class RunsOfRows(Counts):
         got, calls = self.program.run(row.words, row.data, refusal)
         if row.judge(answer, refusal, got, calls):
             return None
-        return f"differs: {row.about}: call {number}: status {got.status}, {len(got.stdout)} bytes, {got.stderr[:80]!r}"
+        return f"{row.about}: call {number}: status {got.status}, {len(got.stdout)} bytes, {got.stderr[:80]!r}"
 
     def run_and_check_row(self, row: RowOfRuns) -> None:
         begun = time.monotonic()
@@ -83,11 +82,9 @@ class RunsOfRows(Counts):
         self.whole_rows += len(numbers) == total + 1
         found = list(self.pool.map(lambda number: self.try_call(row, answer, number), numbers))
         wrong = [line for line in found if line]
-        self.passed += found.count(None)
-        self.failed += len(wrong)
         if self.whole or wrong:
             print(f"{row.about}: {len(numbers)} runs of {total + 1}, {len(wrong)} wrong, {time.monotonic() - begun:.1f} s")
-        print("\n".join(wrong[:SHOWN]), end="\n" if wrong else "", flush=True)
+        self.count_and_print_runs(len(found), wrong)
 
     def check_rows(self, about: str, rows: Iterable[RowOfRuns]) -> None:
         """Runs the rows. Says in how many of them each call was refused, and how many runs were left out in the others."""
@@ -103,7 +100,7 @@ class RunsOfRows(Counts):
 
 
 class AnswerToRow(right_answers.RightAnswer):
-    def __init__(self, runs: RunsOfRows, words: Words, data: bytes) -> None:
+    def __init__(self, runs: RowRunner, words: Words, data: bytes) -> None:
         super().__init__(runs.program, words, data)
         self.runs = runs
         self.words = words
