@@ -27,7 +27,8 @@ from importlib.machinery import SourceFileLoader
 check = types.ModuleType("check")
 check.__file__ = f"{sys.path[0]}/check"
 SourceFileLoader("check", check.__file__).exec_module(check)
-done = [check.run_and_print_part(name, ["cat", name], alone=["tests/run"] if name == "ended" else None) for name in ["first", "right", "other", "ended", "empty"]]
+alone = {"ended": ["tests/run"]}
+done = [check.run_and_print_part(name, ["cat", name], alone=alone.get(name)) for name in ["first", "right", "other", "ended", "empty"]]
 check.run_yardstick_and_print_table(done, check.total_of(done))
 """
 
