@@ -27,6 +27,7 @@ from lib.tables import table_files
 from lib.tool import exits, modules
 
 try:
+    from multidict import CIMultiDict
     from lib.office import admission, budgets, connections, demo, desk, folder, monitoring, newest_head, operator_commands, programs, refusals, routes, setup, tokens
     from lib.office import serve as serving
     from lib.seal import signing
@@ -600,7 +601,7 @@ class Setup(Office):
         path, log = self.office.path_of(folder.PARTICIPANTS), io.StringIO()
         token = tokens.Register(path).write_and_return_new_tokens(["GAS"])["GAS"]
         kept = path.read_bytes()
-        asked = mock.Mock(match_info={"who": "GAS"}, headers={"Authorization": f"Bearer {token}"}, remote="127.0.0.1")
+        asked = mock.Mock(match_info={"who": "GAS"}, headers=CIMultiDict(Authorization=f"Bearer {token}"), remote="127.0.0.1")
         with patch_of_opening(Disk()), mock.patch.object(serving, "LOOK_SECONDS", 0.001):
             served = serving.Office(self.office, programs.Programs("dam", "dam-desk"), monitoring.Log(log))
             answers = admission.Admission(served, budgets.Budgets(behind_proxy=False))

@@ -26,6 +26,7 @@ try:
     from cryptography import x509
     from cryptography.hazmat.primitives import hashes, serialization
     from cryptography.hazmat.primitives.asymmetric import ec
+    from multidict import CIMultiDict
     from lib.office import budgets, connections, folder, monitoring, programs, refusals, requests, routes, serve as serving, setup, tokens
     from lib.office import table_reader as reader
 except ImportError:  # without python3-aiohttp and the like, whose tests are skipped
@@ -114,7 +115,7 @@ class Tokens(Office):
                 for header in (None, "", "Bearer", "Bearer ", "Bearer  ", "bearer\t", f"Bearer {who}", f"Bearer {who}.", "Bearer None", made)
             ),
         ):
-            asked = argparse.Namespace(headers={} if header is None else {"Authorization": header}, match_info={"who": who})
+            asked = argparse.Namespace(headers=CIMultiDict([] if header is None else [("Authorization", header)]), match_info={"who": who})
             with self.subTest(who=who, header=header):
                 self.assertEqual(admission.read_and_see_authorization(asked), is_right)
                 if not is_right:
@@ -263,7 +264,7 @@ class Tokens(Office):
             return requests.ReadTable(["x" * 2_000_000], [])
 
         content = argparse.Namespace(is_eof=lambda: True)
-        asked = argparse.Namespace(headers=headers, match_info={"who": "GAS", "day": DAY}, content=content)
+        asked = argparse.Namespace(headers=CIMultiDict(headers), match_info={"who": "GAS", "day": DAY}, content=content)
         asked.transport, asked.read = content, mock.AsyncMock(return_value=b"x")
         with mock.patch.object(reader, "capture_table", read):
             answer = await made.own.answer_table(asked)
@@ -278,7 +279,7 @@ class Tokens(Office):
 
         def asked(number, who):
             headers = {"Authorization": "Bearer GAS.wrong"}
-            return argparse.Namespace(remote=f"2001:db8::{number:x}", headers=headers, match_info=who, protocol=protocol)
+            return argparse.Namespace(remote=f"2001:db8::{number:x}", headers=CIMultiDict(headers), match_info=who, protocol=protocol)
 
         found = []
         for number in range(budgets.MOST_GUESSES + 5):
