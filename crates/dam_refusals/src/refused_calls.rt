@@ -5,7 +5,8 @@ use crate::answer::{Answer, Stop, TRIES, Told};
 use crate::day::settle_again;
 use crate::passes::Passes;
 use dam_book::{
-    BlockOrder, Command, HourOrder, Name, Order, Participant, Period, Price, Qty, Seed, Side, Volumes,
+    BlockOrder, Command, HourOrder, Name, Order, Participant, Period, Price, Qty, Seed, Side,
+    Volumes,
 };
 use dam_gate::{
     Account, Gate, GateFault, GateName, Journal, MOST_PASSES, Mismatch, Opening, PassFault, settle,
