@@ -136,7 +136,7 @@ def find_long_cell(line: str, separator: str) -> int | None:
     """The column of the first cell of a line that is too long for the module csv; None if there is none."""
     most = csv.field_size_limit(max(1, len(line)))
     try:
-        cells = next(csv.reader([line], delimiter=separator), [])
+        cells: list[str] = next(csv.reader([line], delimiter=separator), [])
     finally:
         csv.field_size_limit(most)
     return next((column for column, cell in enumerate(cells, 1) if len(cell) > most), None)
