@@ -1,4 +1,4 @@
-"""What is recorded of each part in measured/: its figures, and the facts about its run, such as the day, the commit and the machine."""
+"""The record of each part in measured/: its figures, and the facts about its run, such as the day, the commit and the machine."""
 
 import csv
 import datetime
@@ -26,6 +26,9 @@ class PartRecord(NamedTuple):
     load: str
     kit: str
     versions: str
+
+    def is_of_busy_machine(self) -> bool:
+        return float(self.load.split()[0]) > int(self.machine.split()[0]) / 4
 
 
 def capture_output(*words: str) -> str:

@@ -1,7 +1,9 @@
 """The page of measured figures: that it is made of the kept figures, and how a part's figures are taken over."""
 
 import ast
+import os
 import re
+import runpy
 import sys
 import tempfile
 import unittest
@@ -15,6 +17,7 @@ import page
 import records
 from figures import MIB, PER_SECOND, Figure, Verdict, multiple_text, seconds_text
 from parts import PARTS
+from running import BenchFault
 
 THE_TWIN = "dam clear compared with the twin"
 ROWS = [
@@ -67,6 +70,18 @@ class Measured(unittest.TestCase):
         for part in PARTS:
             for row in records.read_table(records.RECORDED / f"{part}.csv"):
                 self.assertEqual(records.row_of_figure(records.parse_figure(row)), list(row.values()))
+
+    def test_a_busy_machine_records_nothing(self):
+        idle, busy = (records.PartRecord("deep", "", "", "8 processors (x)", load, "", "") for load in ("2.00 9.00 9.00", "2.01 0.50 0.50"))
+        self.assertEqual([idle.is_of_busy_machine(), busy.is_of_busy_machine()], [False, True])
+        with unittest.mock.patch.object(sys, "path", list(sys.path)):
+            main = runpy.run_path(f"{TOP}/bench/run", run_name="run")["main"]
+        own = {"exec_or_require_packages": lambda parts: None, "capture_part_record": lambda name, packages: busy, "build_program": None}
+        with unittest.mock.patch.dict(main.__globals__, own), unittest.mock.patch.object(sys, "argv", ["run", "deep"]):
+            with unittest.mock.patch.dict(os.environ), self.assertRaisesRegex(BenchFault, "^the load is 2.01 0.50 0.50, more than one for"):
+                for name in ("DAM", "DAM_DESK", "PROBE"):
+                    os.environ.pop(name, None)
+                main()
 
     def test_every_part_is_registered(self):
         """Under the name of its module, with programs that are built, and a first paragraph that is one sentence."""
