@@ -1,4 +1,4 @@
-"""What pyproject.toml can't say of `pip install .`: the scripts of the tools go next to the modules that they use; and if the library for C
+"""The parts of `pip install .` that pyproject.toml can't say: the scripts of the tools go next to the modules that they use; and if the library for C
 was built of the present sources, it comes along, and the wheel is for x86-64 Linux alone."""
 
 import os

@@ -14,9 +14,9 @@ wide    a random volume in each period, and each block of another size; in each 
 BONDS tie the blocks of a book together, whose volumes and limits stay the same. Blocks that are tied have one participant.
 
 free    no block is tied to another one; the default
-links   families of six: each block but the first has an earlier one of its family as its parent
+links   bundles of six: each block but the first has an earlier one of its bundle as its parent
 groups  of each three blocks at most one is accepted
-both    families of four: of three blocks at most one is accepted, and the fourth is their parent"""
+both    bundles of four: of three blocks at most one is accepted, and the fourth is their parent"""
 
 import argparse
 import math
@@ -99,29 +99,29 @@ WIDE = "wide"
 KINDS = {**USUAL_KINDS, "mixed": draw_mixed, WIDE: lambda day, number: day.draw_noise((LEAST_WIDE, day.rng.randint(*MOST_WIDE)))}
 
 
-def iterate_families_with_one_participant(blocks: list[Order], size: int) -> Iterator[tuple[int, list[Order]]]:
-    """Yields the blocks by families of this size, each with its number, and gives them the participant of its first block."""
+def iterate_bundles_with_one_participant(blocks: list[Order], size: int) -> Iterator[tuple[int, list[Order]]]:
+    """Yields the blocks by bundles of this size, each with its number, and gives them the participant of its first block."""
     for first in range(0, len(blocks), size):
-        family = blocks[first : first + size]
-        for block in family:
-            block.who = family[0].who
-        yield first // size, family
+        bundle = blocks[first : first + size]
+        for block in bundle:
+            block.who = bundle[0].who
+        yield first // size, bundle
 
 
 def set_links(blocks: list[Order], rng: random.Random) -> None:
-    for _, family in iterate_families_with_one_participant(blocks, 6):
-        for place, block in enumerate(family[1:], 1):
-            block.parent = rng.choice(family[:place]).name
+    for _, bundle in iterate_bundles_with_one_participant(blocks, 6):
+        for place, block in enumerate(bundle[1:], 1):
+            block.parent = rng.choice(bundle[:place]).name
 
 
 def set_groups(blocks: list[Order], _rng: random.Random) -> None:
-    for number, family in iterate_families_with_one_participant(blocks, 3):
-        for block in family:
+    for number, bundle in iterate_bundles_with_one_participant(blocks, 3):
+        for block in bundle:
             block.group = f"GROUP-{number}"
 
 
 def set_links_and_groups(blocks: list[Order], _rng: random.Random) -> None:
-    for number, (parent, *children) in iterate_families_with_one_participant(blocks, 4):
+    for number, (parent, *children) in iterate_bundles_with_one_participant(blocks, 4):
         for block in children:
             block.parent, block.group = parent.name, f"GROUP-{number}"
 

@@ -65,7 +65,7 @@ def table_of_kinds(figures: Iterable[Figure], targets: Targets) -> str:
 
 
 def read_and_compose_section(part: Part) -> str:
-    """What a part measured, and its figures by kinds."""
+    """The subject of a part, and its figures by kinds."""
     head = f"## `bench/run {part.name}`\n\n{part.subject}\n"
     return f"{head}\n{table_of_kinds(read_figures(part.name), part.targets)}"
 

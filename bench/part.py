@@ -8,7 +8,7 @@ from running import Programs
 
 
 class Part(NamedTuple):
-    """The first paragraph of the docstring says what the part measures. It needs these programs and Debian packages."""
+    """The first paragraph of the docstring is the part's subject. It needs these programs and Debian packages."""
 
     name: str
     docstring: str | None

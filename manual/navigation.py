@@ -70,7 +70,7 @@ def faults_of_pages(pages: Iterable[str]) -> list[str]:
 
 
 def title_of_other_page(page: str) -> str:
-    """The title of a page that isn't in the table: its folder, and what it is if it isn't the folder's first one."""
+    """The title of a page that isn't in the table: its folder, and its kind if it isn't the folder's first one."""
     *folders, name = page.split("/")
     word = name.removesuffix(".md").lower()
     return folders[-1] if word == "readme" else f"{folders[-1]}: {word}"

@@ -1,5 +1,5 @@
 """Makes the site of the manual by mkdocs: the pages, their pictures and the definitions, with a search that works without a network.
-Nothing in it tells when or where it was made."""
+Nothing in it says when or where it was made."""
 
 import json
 import os
@@ -19,7 +19,7 @@ from .definitions import Definitions, capture_list
 TOP = Path(__file__).resolve().parents[1]
 HERE = TOP / "manual"
 THEME = Path("/usr/share/mkdocs/themes/material")
-# What the site needs: a command or a folder, with Debian's package of each.
+# The needs of the site: a command or a folder, with Debian's package of each.
 NEEDED: dict[str | Path, str] = {"mkdocs": "mkdocs", THEME: "mkdocs-material"}
 PICTURES = (".svg", ".png")
 PAGE = re.compile(r"(?:docs/)?[^/]+\.md|crates/(?:[^/]+/)?(?:README|NOTES|PROOFS|TRACEABILITY|WORDS)\.md")
@@ -64,7 +64,7 @@ def write_pages_and_return_navigation(own: Mapping[str, str], drawn: Mapping[str
     """Writes the pages as mkdocs takes them. Returns the navigation."""
     if wrong := navigation.faults_of_pages(own):
         raise exits.Stop("; ".join(wrong))
-    known = Definitions(TOP, Repository(TOP), capture_list(TOP))
+    known = Definitions(TOP, Repository.read(TOP), capture_list(TOP))
     own = {**own, navigation.NOTATION: known.notation_page_text()}
     below = {f"{navigation.DEFINITIONS}/{crate}.md" for crate in known.modules}
     files, targets, naming = {*own, *drawn, *below}, known.read_pages_by_name(), dict[str, dict[str, str]]()

@@ -244,7 +244,7 @@ def differing_entries(there: JsonObject, here: JsonObject) -> Iterator[str]:
 
 
 def differences(there: Mapping[str, Entry], here: Mapping[str, Entry]) -> Iterator[str]:
-    """What differs between two packages: a line for each file. Names and words of the one that is given may be anything."""
+    """The differences between two packages: a line for each file. Names and words of the one that is given may be anything."""
     for it in sorted({*there, *here}):
         ours, theirs, name = here.get(it), there.get(it), text.safe(it, exits.LONGEST_PATH)
         if ours is None:

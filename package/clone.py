@@ -54,15 +54,19 @@ def run_git(*words: str) -> str:
 class Clone:
     """A clone without changes, whose programs and libraries were built of its sources."""
 
-    def __init__(self) -> None:
+    def __init__(self, commit: str, seconds: int, tracked: list[str], records: dict[str, JsonObject]) -> None:
+        self.version, self.commit, self.seconds, self.tracked, self.records = VERSION, commit, seconds, tracked, records
+        self.date = datetime.datetime.fromtimestamp(seconds, datetime.timezone.utc).strftime("%Y-%m-%dT%H:%M:%SZ")
+
+    @classmethod
+    def read_or_stop(cls) -> "Clone":
+        """The clone of these tools, by git. Ends the tool if it has changes, or if a build is missing or stale."""
         refuse_missing_commands()
-        self.version, self.commit = VERSION, run_git("rev-parse", "HEAD").strip()
-        self.seconds = int(run_git("log", "-1", "--format=%ct"))
-        self.date = datetime.datetime.fromtimestamp(self.seconds, datetime.timezone.utc).strftime("%Y-%m-%dT%H:%M:%SZ")
-        self.tracked = [name for name in run_git("ls-files", "-z").split("\0") if name]
+        commit, seconds = run_git("rev-parse", "HEAD").strip(), int(run_git("log", "-1", "--format=%ct"))
+        tracked = [name for name in run_git("ls-files", "-z").split("\0") if name]
         refuse_changes()
         refuse_stale_builds()
-        self.records = {name: record for name in BUILT if (record := sources.read_record(TOP / name))}
+        return cls(commit, seconds, tracked, {name: record for name in BUILT if (record := sources.read_record(TOP / name))})
 
     def tracked_paths_below(self, folder: str, *endings: str) -> list[str]:
         """The tracked files of a folder, and of those below it, with one of these endings."""
@@ -123,5 +127,5 @@ def refuse_missing_commands() -> None:
 
 def capture_versions() -> dict[str, str]:
     """The versions of the programs that make the files of a package here; other ones may make others. git makes none, and go-md2man doesn't
-    tell its version."""
+    say its version."""
     return {name: sources.capture_first_line([name, "--version"]) for name in NEEDED if name not in ("git", "go-md2man")}

@@ -57,7 +57,7 @@ class Option(NamedTuple):
 
 
 def commands_of_help(text: str) -> dict[str, str]:
-    """The commands of the help of `dam`, each with what it does."""
+    """The commands of the help of `dam`, each with its effect."""
     return dict(COMMAND.findall(COMMANDS.findall(text)[0]))
 
 

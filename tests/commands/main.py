@@ -14,10 +14,10 @@ from collections.abc import Mapping
 from pathlib import Path
 
 from lib.base.place import TOOLS
-from shared import page_session
+from shared import docs_page_session
 from shared.arguments import add_programs, parse_with_programs_or_exit, parser_of_docstring
-from shared.page_scenes import CLONE, ELSEWHERE, PAGES
-from shared.page_session import CUT
+from shared.docs_page_scenes import CLONE, ELSEWHERE, PAGES
+from shared.docs_page_session import CUT
 from shared.counts import Counts
 from shared.place import TOP
 from shared.shown import quoted_pairs
@@ -25,7 +25,7 @@ from shared.shown import quoted_pairs
 HELD = ("docs", "examples", "tests", "tools")  # folders of the clone that commands name
 
 
-def make_reader_with_linked_commands(home: Path, program: Path, desk: Path) -> page_session.PageReader:
+def make_reader_with_linked_commands(home: Path, program: Path, desk: Path) -> docs_page_session.PageReader:
     """A reader with a clone: `dam`, `dam-desk` and `dam-NAME` are its programs and tools."""
     commands = home.parent / "bin"
     commands.mkdir()
@@ -33,7 +33,7 @@ def make_reader_with_linked_commands(home: Path, program: Path, desk: Path) -> p
         (commands / name).symlink_to(path)
     folders = f"{commands}:{Path(sys.executable).parent}:{os.environ['PATH']}"
     own = {"PATH": folders, "DAM": str(program), "DAM_DESK": str(desk), "PYTHONPATH": str(TOP / "tools"), "PYTHONDONTWRITEBYTECODE": "1"}
-    return page_session.PageReader(CLONE, TOP, [], page_session.make_environment_with_browser(home, own))
+    return docs_page_session.PageReader(CLONE, TOP, [], docs_page_session.make_environment_with_browser(home, own))
 
 
 def make_home_folder(room: Path, program: Path) -> Path:
@@ -74,10 +74,10 @@ def run_and_check_page(counts: Counts, name: str, program: Path, desk: Path, wri
         room = Path(folder).resolve()
         home = make_home_folder(room, program)
         one = make_reader_with_linked_commands(home, program, desk)
-        if missing := page_session.find_missing_needs(name, one):
+        if missing := docs_page_session.find_missing_needs(name, one):
             counts.count_and_print_left_out(f"the commands of {name}: {', '.join(missing)} missing")
             return
-        printed = page_session.run_check_and_return_outputs(counts, name, one, room)
+        printed = docs_page_session.run_check_and_return_outputs(counts, name, one, room)
         if writes:
             (TOP / name).write_text(text_with_outputs((TOP / name).read_text(), printed))
         if (TOP / ".git").exists() and shutil.which("git"):

@@ -36,7 +36,7 @@ WITH_PROFILES, LONG, SELDOM = [3, 5, 8, 10, 12, 14, 16], 24, 0.01
 
 
 class Programs(NamedTuple):
-    """The program, the other one that it is compared with, and the commands to run. `has_plans` tells whether the program takes plans."""
+    """The program, the other one that it is compared with, and the commands to run. `has_plans` says whether the program takes plans."""
 
     program: timed_program.TimedProgram
     like: timed_program.TimedProgram | None

@@ -46,6 +46,12 @@ class SmallLibrary:
 
     def __init__(self, folder: str) -> None:
         self.top, self.kit = f"{folder}/small", f"{folder}/kit"
+        self.environment = {**os.environ, "PATH": f"{self.kit}/bin:{os.environ['PATH']}", "KIT": self.kit, "CC": "cc",
+                            "COMPILER": shutil.which("cc") or "cc"}
+        self.built = [f"{self.top}/library/out/{name}" for name in ("libdam.a", "libdam.so.1")]
+
+    def write_files(self) -> None:
+        """Writes the copy, the crates and the stand-ins."""
         for it in ("crates/low/src", "crates/dam_c/src", "library", "tools/lib/crates", "proved/low.rlib"):
             os.makedirs(f"{self.top}/{it}")
         for it in ("bin", "rlibs"):
@@ -60,9 +66,6 @@ class SmallLibrary:
             with open(path, "w", encoding="utf-8") as file:
                 file.write(STAND_IN + text)
             os.chmod(path, 0o755)
-        self.environment = {**os.environ, "PATH": f"{self.kit}/bin:{os.environ['PATH']}", "KIT": self.kit, "CC": "cc",
-                            "COMPILER": shutil.which("cc") or "cc"}
-        self.built = [f"{self.top}/library/out/{name}" for name in ("libdam.a", "libdam.so.1")]
 
     def write(self, path: str, text: str) -> None:
         with open(f"{self.top}/{path}", "w", encoding="utf-8") as file:
@@ -115,6 +118,7 @@ def check_records(counts: Counts, folder: str, exports: Iterable[str]) -> None:
         counts.count_and_print_left_out("the records of library/build: ar is missing")
         return
     at = SmallLibrary(folder)
+    at.write_files()
     at.compile_archive_of_calls(exports)
     over = ["--over", "proved"]
     for edited in SOURCES:

@@ -457,7 +457,7 @@ def compile_caller_or_none(counts: Counts, folder: str) -> str | None:
     return caller if is_made else None
 
 
-def check_refusals(counts: Counts, library: CalledLibrary, folder: str) -> None:
+def check_refused_memory(counts: Counts, library: CalledLibrary, folder: str) -> None:
     """Each request for memory is refused in turn, and no block is left after 10,000 calls: for small journals, texts that aren't journals,
     open books, searches that end at a limit, and searches that end before it."""
     target = f"{folder}/refusals"
@@ -622,7 +622,7 @@ def check_calls(counts: Counts, folder: str, program: str) -> None:
     check_colliding(counts, library, folder)
     check_threads(counts, library)
     check_many(counts, library)
-    check_refusals(counts, library, folder)
+    check_refused_memory(counts, library, folder)
     check_threads_in_turn(counts, folder)
     if caller:
         check_memory(counts, caller)

@@ -1,4 +1,4 @@
-"""Loads with kills of the office and its desk, and what is wrong with the acknowledged commands of a load."""
+"""Loads with kills of the office and its desk, and the faults of the acknowledged commands of a load."""
 
 import asyncio
 import random
@@ -22,7 +22,7 @@ def capture_replies_of_dam(dam: str | Path, records: Iterable[str], periods: int
 def faults_of_load(
     load: OfficeLoad, records: Sequence[str], replies: Sequence[str], key: Ed25519PublicKey, sample: int = 300
 ) -> Iterator[str]:
-    """What is wrong with the acknowledged commands, compared with the journal and its replay: one lost, changed or entered twice, or a
+    """The faults of the acknowledged commands, compared with the journal and its replay: one lost, changed or entered twice, or a
     receipt that doesn't prove it."""
     own: dict[str, list[int]] = {}
     for number, line in enumerate(records, 1):

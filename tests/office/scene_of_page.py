@@ -86,7 +86,7 @@ async def check_length(counts: Counts, page: BrowserTab, office: ServedOffice, p
     energy = f"{9_999.9 * periods * float(rules.DAYS[periods]):,.1f}"
     counts.check(f"{energy} MWh of {periods} periods: {row}", row[5:7] == [energy, "0.0"] and row[9] == "paradoxically rejected")
     words = "at the prices, but if it were accepted, a block would lose, a period wouldn't balance, or the welfare wouldn't be greater"
-    counts.check(f"its reason tells nothing of other orders: {row[10]}", row[10].endswith(words))
+    counts.check(f"its reason reveals no other order: {row[10]}", row[10].endswith(words))
     begins = [f"{number} ({clock.begin_time(periods, number)})" for number in range(1, periods + 1)]
     counts.check(f"the prices of {periods} periods", [one[0] for one in prices] == begins)
 

@@ -73,7 +73,7 @@ def check_strangers(counts: Counts, args: argparse.Namespace) -> None:
 
 
 class OfficeWithTls(ServedOffice):
-    """An office whose answers need TLS, so that its log alone tells whether it is ready."""
+    """An office whose answers need TLS, so that its log alone says whether it is ready."""
 
     def probe_and_see_readiness(self) -> bool:
         return self.process.poll() is None and b'"serving"' in self.log.read_bytes()
@@ -168,7 +168,7 @@ def set_file_limit(office: ServedOffice, size: int) -> None:
 
 
 def check_words_of_desk(counts: Counts, args: argparse.Namespace) -> None:
-    """The words by which the office tells that a desk is open, and that another one still has its file."""
+    """The words by which the office says that a desk is open, and that another one still has its file."""
     with tempfile.TemporaryDirectory() as room:
         words = [args.desk, Path(room, "day.desk")]
         shown = subprocess.run(words, input=b"day,24,,,,,,,\n" + desk.EMPTY_LINE, capture_output=True, timeout=SECONDS)

@@ -12,7 +12,7 @@ from lib.base.rules import VERSION
 from packages import installed
 from packages.making import ISOLATED, OF_THE_OFFICE, PLAIN, PREFIX, run_command
 from shared.counts import Counts
-from shared.pages import read_links
+from shared.docs_pages import read_links
 from shared.place import TOP
 from shared.site import Site
 
@@ -30,7 +30,7 @@ def check_links(counts: Counts, at: Path) -> None:
 def check_manual(counts: Counts, at: Path) -> None:
     """The packaged site of the manual is whole, has installed commands, and nobody but its owner can change it."""
     folder = at / "share/doc/dam/html"
-    shown = Site(folder)
+    shown = Site.read(folder)
     faults = list(shown.read_faults())
     counts.check(f"the manual: {faults[:10]}", not faults and len(shown.pages) > 60)
     guide = shown.pages[shown.folder / "docs/GUIDE.html"]

@@ -35,7 +35,7 @@ ENTRIES = 94  # the orders of the demo, GAS's own one and the close
 
 
 def check_told_by_demo(counts: Counts, told: JsonObject, at: str | Path, clears: bool) -> None:
-    """What demo.py told of an office below this folder: its page, the programs that it ran, and what became of an order."""
+    """The report of demo.py on an office below this folder: its page, the programs that it ran, and what became of an order."""
     log = told.get("log", "")
     wanted = [["text/html", True], ["text/css", True], ["text/javascript", True], ["application/json", True]]
     counts.check(f"the demo: its files {told.get('files')} {told.get('fault')} {log}", told.get("files") == wanted)

@@ -10,9 +10,9 @@ from collections.abc import Mapping
 from pathlib import Path
 from typing import Any, NamedTuple
 
-from shared import page_session
+from shared import docs_page_session
 from shared.counts import Counts
-from shared.page_scenes import INSTALLED, PAGES
+from shared.docs_page_scenes import INSTALLED, PAGES
 
 USER = "nobody"  # if this isn't an ordinary user
 SYSTEM_PATH = "/usr/local/bin:/usr/bin:/bin"
@@ -54,7 +54,7 @@ def check_pages_in_system(counts: Counts, system: Any, debian: Path, archive: Pa
     room = root / ROOM
     room.mkdir(parents=True)
     copies = {name: Path(shutil.copy(path, room)) for name, path in (("DEB", debian), ("ARCHIVE", archive))}
-    given = {name: str(page_session.path_inside(path, root)) for name, path in copies.items()}
+    given = {name: str(docs_page_session.path_inside(path, root)) for name, path in copies.items()}
     place = PackagePlace("in a fresh system", root / "usr", {"PATH": SYSTEM_PATH, "PREFIX": "/usr"}, system.find_words_of_start(), root)
     before = read_state(root / "usr")
     for name in PAGES:
@@ -91,9 +91,9 @@ def check_page(counts: Counts, name: str, place: PackagePlace, room: Path, given
         own = Path(folder)
         home = own / "home"
         shutil.copytree(place.files / "share/doc/dam/examples", home / "examples")
-        environment = page_session.make_environment_with_browser(home, {**place.environment, **given}, place.root)
-        reader = page_session.PageReader(INSTALLED, place.files / "share/doc/dam", [*place.shell, *words], environment, place.root)
-        if missing := page_session.find_missing_needs(name, reader):
+        environment = docs_page_session.make_environment_with_browser(home, {**place.environment, **given}, place.root)
+        reader = docs_page_session.PageReader(INSTALLED, place.files / "share/doc/dam", [*place.shell, *words], environment, place.root)
+        if missing := docs_page_session.find_missing_needs(name, reader):
             counts.count_and_print_left_out(f"the commands of {name}, {place.what}: {', '.join(missing)} missing")
             return
         subprocess.run(["chmod", "-R", "u+w", home], check=True)
@@ -102,4 +102,4 @@ def check_page(counts: Counts, name: str, place: PackagePlace, room: Path, given
         prefix = place.environment["PREFIX"]
         asked = [*reader.shell, "test", "-w", f"{prefix}/bin", "-o", "-w", f"{prefix}/share/doc/dam"]
         counts.check(f"{name}: the user may write to the package", subprocess.run(asked).returncode == 1)
-        page_session.run_check_and_return_outputs(counts, name, reader, own)
+        docs_page_session.run_check_and_return_outputs(counts, name, reader, own)

@@ -199,7 +199,7 @@ def read_wrong_bodies(top: str | Path) -> dict[str, tuple[WrongBody, str, str]]:
     return {edit.name: (edit, crate, test) for edit, crate, test in read_edits_that_tests_find(f"{HERE}/wrong-bodies.edit", top)}
 
 
-def remove_and_count_tests(folder: str, is_kept: Callable[[str], bool]) -> int:
+def remove_and_count_left_tests(folder: str, is_kept: Callable[[str], bool]) -> int:
     """Removes the tests of a crate whose paths aren't to be kept. Returns how many are left."""
     kept = 0
     for top, _, files in os.walk(f"{folder}/src"):
@@ -222,7 +222,7 @@ def try_and_print_wrong_body(name: str, command: Sequence[str]) -> Result:
         if not why:
             for path, text in edit.texts.items():
                 write_text(f"{edit.folder}/{path}", text)
-            remove_and_count_tests(f"{copy}/crates/{crate}", lambda path: path == test)
+            remove_and_count_left_tests(f"{copy}/crates/{crate}", lambda path: path == test)
             printed, status, used = capture_output(command, f"{copy}/crates/{crate}")
             found = re.search(rf"(?m)^test {test} \.\.\. (\w+)", printed)
             why = None if found else f"no test ran: {' '.join(command)} ended with status {status}\n{printed.rstrip()}"
@@ -280,7 +280,7 @@ def main() -> int:
             sys.exit(f"tests/rattle has no folder with tests of {', '.join(lacking)}; dam_tests has the tests of public functions")
         crates = given.names or sorted(filter(counts.get, counts), key=lambda it: -counts[it])
         if given.only:
-            counts = {it: remove_and_count_tests(f"{copy}/crates/{it}", lambda path: any(word in path for word in given.only)) for it in crates}
+            counts = {it: remove_and_count_left_tests(f"{copy}/crates/{it}", lambda path: any(word in path for word in given.only)) for it in crates}
             crates = [it for it in crates if counts[it]]
             if not crates:
                 sys.exit(f"there are no tests with {' or '.join(given.only)} in their paths")

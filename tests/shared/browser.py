@@ -23,7 +23,7 @@ def find_browser_or_none() -> str | None:
 
 
 class BrowserTab:
-    """A tab. Faults of its scripts, and what its policy refuses, are gathered in `faults`."""
+    """A tab. Faults of its scripts, and loads that its policy refuses, are gathered in `faults`."""
 
     def __init__(self, socket: aiohttp.ClientWebSocketResponse) -> None:
         self.socket, self.numbers = socket, itertools.count(1)

@@ -99,9 +99,11 @@ class CaseReader:
     """Reads a file of cases: `found` has them by their names."""
 
     def __init__(self, path: Path) -> None:
-        self.file = path.stem
+        self.path = path
         self.found: dict[str, Case] = {}
-        first, *blocks = parse_blocks(path.read_bytes().decode("latin-1"))
+
+    def read_and_add_cases(self) -> None:
+        first, *blocks = parse_blocks(self.path.read_bytes().decode("latin-1"))
         usual = parse_parts(first)
         for number, name, lines in blocks:
             parts = parse_parts((number, name, lines))
@@ -121,7 +123,7 @@ class CaseReader:
         runs = [line.split() for it in parts if it.kind == "runs" for at, text in it.lines for line in parse_repeats(at, text)]
         stdin = [self.read_text_of(it) for it in parts if it.kind == "stdin"] or [b""]
         out, error = (self.read_expected(stream, parts) for stream in STREAMS)
-        self.found[name] = Case(f"{self.file}/{name}", values["args"].split(), runs or [[]], stdin[0], out, error, int(values["status"]))
+        self.found[name] = Case(f"{self.path.stem}/{name}", values["args"].split(), runs or [[]], stdin[0], out, error, int(values["status"]))
 
     def read_expected(self, stream: str, parts: Iterable[Part]) -> Expected:
         its = [(it.kind, self.read_text_of(it)) for it in parts if it.kind.split()[0] == stream]
@@ -227,7 +229,9 @@ def parse_escapes(number: int, line: str) -> bytes:
 def read_cases(path: str | Path) -> dict[str, Case]:
     """The cases of a file by their names, in its order."""
     try:
-        return CaseReader(Path(path)).found
+        reader = CaseReader(Path(path))
+        reader.read_and_add_cases()
+        return reader.found
     except CaseFault as fault:
         if len(fault.args) == 1:
             raise

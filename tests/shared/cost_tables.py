@@ -1,4 +1,4 @@
-"""What runs cost, compared with the tables counted.csv and growths.csv of a folder, or written to them."""
+"""The costs of runs, compared with the tables counted.csv and growths.csv of a folder, or written to them."""
 
 import csv
 from collections.abc import Iterable, Sequence

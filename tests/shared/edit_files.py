@@ -32,13 +32,19 @@ class WrongBody:
         self.rank = FIRST_FILE.findall(text)[0], name
         self.texts: dict[str, str] = {}
         self.fault = fault
+
+    @classmethod
+    def read_and_apply(cls, name: str, place: str, text: str, folder: str, fault: str | None = None) -> "WrongBody":
+        """A wrong body with its texts, which are read in the crate's folder and edited, unless it has a fault already."""
+        body = cls(name, place, text, folder, fault)
         try:
-            self.texts = {} if fault else read_and_edit(text, folder)
+            body.texts = {} if fault else read_and_edit(text, folder)
         except UnfitEdit as why:
-            self.fault = str(why)
+            body.fault = str(why)
+        return body
 
     @functools.cache
-    def read_bodies(self) -> dict[tuple[str, int], str]:
+    def read_new_bodies(self) -> dict[tuple[str, int], str]:
         """The new body of each function whose body changes, by path and number in the file; none if anything else changes too."""
         return read_changed_bodies(self.texts, self.folder)
 
@@ -65,13 +71,14 @@ def read_edits_of_file(path: str, folder: str, may_be_several: bool) -> list[Wro
         return [WrongBody(name, path, "", folder, "its name does not end in .edit")]
     text = read_text(f"{folder}/{path}")
     if not (may_be_several and NAMED.search(text)):
-        return [WrongBody(name, path, text, folder)]
+        return [WrongBody.read_and_apply(name, path, text, folder)]
     found = []
     for named, line, body in parts_of_edit_file(text):
         if named is None:
             found.append(WrongBody(name, path, body, folder, "a line stands before the first 'name:' line"))
         else:
-            found.append(WrongBody(named, f"{path}:{line}", body, folder, None if named else "a 'name:' line names nothing"))
+            fault = None if named else "a 'name:' line names nothing"
+            found.append(WrongBody.read_and_apply(named, f"{path}:{line}", body, folder, fault))
     for one, other in zip(found, found[1:]):
         if other.fault is None and other.rank < one.rank:
             other.fault = f"it stands after {one.name}, and not in the order of files and names"
@@ -103,7 +110,8 @@ def read_edits_that_tests_find(file: str, top: str | Path) -> list[tuple[WrongBo
             fault = f"there is no test {' '.join(tests[0])}"
         names.add(name)
         text = TEST_LINE.sub("", CRATE_PATH.sub("file: ", text))
-        edit = WrongBody(name or "", f"{os.path.relpath(file, top)}:{line}", text, f"{top}/crates/{min(crates, default='')}", fault)
+        place, folder = f"{os.path.relpath(file, top)}:{line}", f"{top}/crates/{min(crates, default='')}"
+        edit = WrongBody.read_and_apply(name or "", place, text, folder, fault)
         crate, test = tests[0] if tests else ("", "")
         found.append((edit, crate, test))
     return found
@@ -168,7 +176,7 @@ def batches_of(edits: Iterable[WrongBody]) -> list[list[WrongBody]]:
     """Returns lists of the edits, of which no two in a list change the same function."""
     found: list[list[WrongBody]] = []
     for it in edits:
-        free = [batch for batch in found if not any(set(it.read_bodies()) & set(other.read_bodies()) for other in batch)]
+        free = [batch for batch in found if not any(set(it.read_new_bodies()) & set(other.read_new_bodies()) for other in batch)]
         if free:
             free[0].append(it)
         else:

@@ -74,16 +74,16 @@ class FullDay:
         return f"{period}:{self.rng.randint(*self.market.volumes)}"
 
     def draw_block(self, number: int, bonds: str) -> str:
-        family, place = divmod(number, 4)
+        bundle, place = divmod(number, 4)
         parent = group = ""
         if bonds == "links" and place:
-            parent = f"K{4 * family + self.rng.randrange(place)}"
+            parent = f"K{4 * bundle + self.rng.randrange(place)}"
         if bonds == "both" and place:
-            parent = f"K{4 * family}"
+            parent = f"K{4 * bundle}"
         if bonds == "groups" or bonds == "both" and place:
-            group = f"GROUP-{family}"
+            group = f"GROUP-{bundle}"
         side, (price, volumes) = self.rng.choice(["buy", "sell"]), self.draw_offer()
-        return f"submit,{PARTICIPANTS[family % len(PARTICIPANTS)]},K{number},block,{side},{price},{volumes},{parent},{group}"
+        return f"submit,{PARTICIPANTS[bundle % len(PARTICIPANTS)]},K{number},block,{side},{price},{volumes},{parent},{group}"
 
     def draw_offer(self) -> tuple[int, str]:
         """A limit price near the mean price of the volumes, and these."""

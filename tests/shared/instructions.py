@@ -1,4 +1,4 @@
-"""How many instructions a run takes, by valgrind: that doesn't depend on what else the machine does."""
+"""How many instructions a run takes, by valgrind: other work of the machine doesn't change that."""
 
 from __future__ import annotations
 

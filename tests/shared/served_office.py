@@ -39,20 +39,38 @@ def names_of_participants(count: int) -> list[str]:
 class ServedOffice:
     """The office: its folder, its tokens, and the process that serves it, which a test may end."""
 
+    tokens: dict[str, str]
+
     def __init__(
-        self, dam: str | Path, desk: str | Path, count: int = 3, periods: int = 24, words: Sequence[str] = (), day: str = DAY
+        self,
+        room: tempfile.TemporaryDirectory[str],
+        port: int,
+        dam: str | Path,
+        desk: str | Path,
+        count: int = 3,
+        periods: int = 24,
+        words: Sequence[str] = (),
+        day: str = DAY,
     ) -> None:
-        self.room = tempfile.TemporaryDirectory(ignore_cleanup_errors=True)
-        self.folder, self.port, self.words, self.day = Path(self.room.name, "office"), ports.find_free_port(), list(words), day
+        self.room, self.port = room, port
+        self.folder, self.log, self.words, self.day = Path(room.name, "office"), Path(room.name, "log"), list(words), day
         self.periods = periods
         self.environment = {**os.environ, "DAM": str(dam), "DAM_DESK": str(desk)}
         self.who = names_of_participants(count)
+        self.started: subprocess.Popen[bytes] | None = None
+
+    @classmethod
+    def make(cls, *words: Any, **how: Any) -> "ServedOffice":
+        """An office with these arguments, in a new folder and for a free port. It isn't served yet."""
+        office = cls(tempfile.TemporaryDirectory(ignore_cleanup_errors=True), ports.find_free_port(), *words, **how)
+        office.make_folder()
+        return office
+
+    def make_folder(self) -> None:
         table = Path(self.room.name, "p.csv")
         table.write_text("".join(f"{name}\n" for name in ["participant", *self.who]))
-        made = self.run_tool("init", self.folder, "--day", day, "--periods", periods, "--close", CLOSE, "--participants", table, "--json")
-        self.tokens = json.loads(made.stdout)["tokens"]
-        self.started: subprocess.Popen[bytes] | None = None
-        self.log = Path(self.room.name, "log")
+        words = ("--day", self.day, "--periods", self.periods, "--close", CLOSE, "--participants", table, "--json")
+        self.tokens = json.loads(self.run_tool("init", self.folder, *words).stdout)["tokens"]
 
     def run_tool(self, *words: object) -> subprocess.CompletedProcess[bytes]:
         return subprocess.run([*TOOL, *map(str, words)], env=self.environment, capture_output=True, check=True)
@@ -173,7 +191,7 @@ class ServedOffice:
 @contextlib.contextmanager
 def running_office(*words: Any, kind: type[ServedOffice] = ServedOffice, **how: Any) -> Iterator[ServedOffice]:
     """An office of a kind with these arguments, which is stopped at the end, and whose folder is removed."""
-    office = kind(*words, **how)
+    office = kind.make(*words, **how)
     try:
         yield office
     finally:

@@ -3,7 +3,7 @@
 import re
 from typing import NamedTuple
 
-from .pages import FENCE
+from .docs_pages import FENCE
 
 BLOCK = re.compile(r"^```(sh|python)\n(.*?)^```$(?:\n\n```text\n(.*?)^```$)?", re.MULTILINE | re.DOTALL)
 

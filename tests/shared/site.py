@@ -27,7 +27,12 @@ class SitePage(HTMLParser):
         self.twice: list[str] = []
         self.blocks: list[str] = []
         self.items, self.tables, self.is_article, self.is_block = 0, 0, False, False
-        self.feed(path.read_text(encoding="utf-8"))
+
+    @classmethod
+    def read(cls, path: Path) -> "SitePage":
+        page = cls(path)
+        page.feed(path.read_text(encoding="utf-8"))
+        return page
 
     def handle_starttag(self, tag: str, attrs: list[tuple[str, str | None]]) -> None:
         found = dict(attrs)
@@ -69,9 +74,13 @@ def links_of_style(text: str) -> list[str]:
 
 
 class Site:
-    def __init__(self, folder: Path | str) -> None:
-        self.folder = Path(folder).resolve()
-        self.pages = {path: SitePage(path) for path in sorted(self.folder.rglob("*.html"))}
+    def __init__(self, folder: Path, pages: dict[Path, SitePage]) -> None:
+        self.folder, self.pages = folder, pages
+
+    @classmethod
+    def read(cls, folder: Path | str) -> "Site":
+        found = Path(folder).resolve()
+        return cls(found, {path: SitePage.read(path) for path in sorted(found.rglob("*.html"))})
 
     def relative_name(self, path: Path) -> str:
         return path.relative_to(self.folder).as_posix()

@@ -117,7 +117,7 @@ def check_full(counts: Counts, program: str) -> None:
     data = generate_book(*FULL)
     cleared = engine.clear_and_return_output_or_fault(data, program)
     assert isinstance(cleared, bytes), cleared
-    day = day_files.Day.of_text(journal.parse_journal(data), cleared)
+    day = day_files.Day(journal.parse_journal(data), cleared)
     os.environ["DAM"] = program
     said = limits.capture_rejected_sentences_and_print_notes(day)
     rejected = [place for place in range(len(day.problem.blocks)) if place not in day.published.accepted]

@@ -126,9 +126,9 @@ class Edits(unittest.TestCase):
         write_text(f"{self.crate}/wrong-bodies/c_both.edit", edit("= 5", "= 6") + edit("MOST - 4", "2"))
         write_text(f"{self.crate}/wrong-bodies/d_two.edit", edit("MOST - 4", "2") + edit("MOST - 1", "6"))
         body, constant, both, two = read_edits(self.crate, ("wrong-bodies",))
-        self.assertEqual(body.read_bodies(), {("src/lib.rt", 0): "{\n    2\n}"})
-        self.assertEqual((constant.read_bodies(), both.read_bodies()), ({}, {}))
-        self.assertEqual(two.read_bodies(), {("src/lib.rt", 0): "{\n    2\n}", ("src/lib.rt", 1): "{\n    6\n}"})
+        self.assertEqual(body.read_new_bodies(), {("src/lib.rt", 0): "{\n    2\n}"})
+        self.assertEqual((constant.read_new_bodies(), both.read_new_bodies()), ({}, {}))
+        self.assertEqual(two.read_new_bodies(), {("src/lib.rt", 0): "{\n    2\n}", ("src/lib.rt", 1): "{\n    6\n}"})
         self.assertEqual(batches_of([body, two]), [[body], [two]])
 
     def test_a_batch_has_each_function_once(self):

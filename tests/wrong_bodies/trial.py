@@ -52,7 +52,7 @@ class Trial:
             if it.fault:
                 yield it.name, False, f"BAD EDIT: {it.fault}"
         refused = set()
-        for batch in [] if alone else batches_of([it for it in sound if it.read_bodies()]):
+        for batch in [] if alone else batches_of([it for it in sound if it.read_new_bodies()]):
             for name, goal in self.try_batch(batch).items():
                 refused.add(name)
                 yield name, True, f"refused: {goal}"
@@ -72,14 +72,14 @@ class Trial:
         # Functions that call each other are refused together.
         refused = {leaders.get(name, name): goal for name, goal in reversed(report.refusals().items())}
         counts = Counter(names.values())
-        changed = Counter(leader for it in edits for leader in {leaders[names[key]] for key in it.read_bodies()})
+        changed = Counter(leader for it in edits for leader in {leaders[names[key]] for key in it.read_new_bodies()})
         others = sorted(set(refused) - set(changed))
         if others:
             print(f"{self.crate}: refused too, though no edit changed them, so each edit is tried alone: {' '.join(others)}")
             return {}
         found = {}
         for it in edits:
-            own = [leaders[names[key]] for key in it.read_bodies() if counts[names[key]] == 1]
+            own = [leaders[names[key]] for key in it.read_new_bodies() if counts[names[key]] == 1]
             goals = [refused[leader] for leader in own if leader in refused and changed[leader] == 1]
             if goals:
                 found[it.name] = goals[0]
@@ -88,7 +88,7 @@ class Trial:
     def try_batch_without_ill(self, edits: Sequence[WrongBody], lines: Mapping[Place, range], report: CheckReport) -> dict[str, str]:
         """Tries a batch of which the prover saw nothing again, without the edits that do not compile, or else by halves."""
         errors = [(it.path, it.line) for it in report.errors]
-        ill = [it for it in edits if any(path == key[0] and line in lines[key] for path, line in errors for key in it.read_bodies())]
+        ill = [it for it in edits if any(path == key[0] and line in lines[key] for path, line in errors for key in it.read_new_bodies())]
         left = [it for it in edits if it not in ill]
         if ill:
             return self.try_batch(left) if left else {}
@@ -100,7 +100,7 @@ class Trial:
     ) -> tuple[dict[str, str], dict[Place, str], dict[str, str], dict[Place, range]]:
         """Returns the texts of the crate's files with all bodies of these edits; and of each function in them, by path and number,
         the name under which a check lists it, by that name the name of the function with whose proofs its own stand, and its lines."""
-        bodies = {key: body for it in edits for key, body in it.read_bodies().items()}
+        bodies = {key: body for it in edits for key, body in it.read_new_bodies().items()}
         texts, names, leaders, lines = {}, {}, {}, {}
         sources = self.read_sources()
         homes = homes_of(sources)

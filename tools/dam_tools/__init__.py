@@ -120,7 +120,7 @@ def journal_of_orders(*sources: Source, periods: int = 24, close: bool = True) -
 def read_results(source: JournalSource, results: Source) -> Day:
     """The day of a journal and its results: files, bytes, or a journal that was read."""
     with turning_into_faults():
-        return Day.of_text(read_or_return_journal(source), read_source_bytes(results))
+        return Day(read_or_return_journal(source), read_source_bytes(results))
 
 
 def clear(

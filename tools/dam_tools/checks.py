@@ -1,4 +1,4 @@
-"""The audit, the lint and the analysis of what if for Python programs. Amounts are in EUR, prices in EUR/MWh, energies in MWh."""
+"""The audit, the lint and the what-if analysis for Python programs. Amounts are in EUR, prices in EUR/MWh, energies in MWh."""
 
 from __future__ import annotations
 

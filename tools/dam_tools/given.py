@@ -1,4 +1,4 @@
-"""What programs give: a file, its text, or a journal that was read; and the tools' messages about it, which are faults here."""
+"""The arguments that programs give: a file, its text, or a journal that was read; and the tools' messages about it, which are faults here."""
 
 from __future__ import annotations
 

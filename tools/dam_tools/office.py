@@ -102,7 +102,7 @@ def parse_prices(data: bytes) -> list[tuple[int, int, int]]:
 
 
 class Calls:
-    """What both clients share: the requests of each call."""
+    """The basis of both clients: the requests of each call."""
 
     def __init__(self, url: str, token: str, timeout: float = 60, context: ssl.SSLContext | None = None) -> None:
         self.url, self.token, self.timeout, self.context = url.rstrip("/"), token, timeout, context
@@ -215,7 +215,7 @@ class Office(Calls):
         return parse_prices(self.ask(Asked("GET", f"/days/{day}/prices")))
 
     def statement(self, day: str) -> list[dict]:
-        """After the close, what became of each command, and why."""
+        """After the close, the outcome of each command, and why."""
         return self.get(self.own_path(day, "statement"), "rows")
 
     def text(self, day: str, name: str) -> bytes:

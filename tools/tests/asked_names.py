@@ -20,11 +20,8 @@ FIELD = re.compile(r"\{[^{}\n]*\}")  # of a text that is formatted
 class Module:
     """A module of the repository, with a look-up for each of its names."""
 
-    def __init__(self, path):
-        self.names = {**dict.fromkeys(OF_MODULES, no_thing), **looks_of_scope(ast.parse(path.read_text()), path.parent)}
-        if path.name == "__init__.py":
-            for one in path.parent.iterdir():
-                self.names.setdefault(one.stem, functools.partial(find_module_or_none, path.parent, one.stem))
+    def __init__(self, names):
+        self.names = {**dict.fromkeys(OF_MODULES, no_thing), **names}
 
     def has(self, name):
         return name in self.names
@@ -50,7 +47,11 @@ def no_thing():
 
 @functools.cache
 def read_module(path):
-    return Module(path)
+    names = looks_of_scope(ast.parse(path.read_text()), path.parent)
+    if path.name == "__init__.py":
+        for one in path.parent.iterdir():
+            names.setdefault(one.stem, functools.partial(find_module_or_none, path.parent, one.stem))
+    return Module(names)
 
 
 def find_module_or_none(folder, dotted):

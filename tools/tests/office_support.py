@@ -125,7 +125,7 @@ class Office(unittest.IsolatedAsyncioTestCase):
         files = folder.DayFolder(self.office.path_of(folder.DAYS) / DAY)
         office = argparse.Namespace(key=self.key, programs=programs.Programs("dam", "dam-desk"), counts=monitoring.Counts())
         office.clock, office.log = clock or day_writer.Clock(), log or monitoring.Log(io.StringIO())
-        return day_writer.DayWriter(files, office)
+        return day_writer.DayWriter.read(files, office)
 
     @contextlib.asynccontextmanager
     async def running_writer(self, given):

@@ -33,7 +33,7 @@ def replies_of(data):
 def verdict_of(data, head, key, statements=None):
     """The verdict on the text of a receipt, compared with a head."""
     with mock.patch.object(file_io, "read_bytes", lambda path: data):
-        return receipts.verdict(list(receipts.iterate_findings_of_file("receipts", head, key, statements or receipts.OperatorStatements([], key, []))))
+        return receipts.verdict(list(receipts.iterate_findings_of_file("receipts", head, key, statements or receipts.OperatorStatements(key))))
 
 
 def lines_of(seal, head=None):

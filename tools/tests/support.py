@@ -48,7 +48,7 @@ def load_tool(name):
     return module
 
 
-def set_interrupt_handler(case):
+def set_signal_handlers(case):
     """Lets a test's processes be interrupted: a shell's command in the background ignores the signal, and one of nohup that of a terminal
     that closes, and so would all that it starts."""
     for number, handler in ((signal.SIGINT, signal.default_int_handler), (signal.SIGHUP, signal.SIG_DFL)):
@@ -143,7 +143,7 @@ def writing_files(**contents):
 def day_of(data, text):
     """A day as the tools have it, of bytes."""
     with writing_files(journal=data, results=text) as paths:
-        return day_files.Day(*map(str, paths))
+        return day_files.Day.read_or_stop(*map(str, paths))
 
 
 def results_of(data, accepted):

@@ -118,7 +118,7 @@ class Contradictions(InFolder):
         """Anyone with the key can make them. They are of one tree."""
         head, _ = heads.parse_value_and_is_written(Path("A.head").read_bytes(), heads.parse_head)
         with mock.patch.object(signing, "is_signed", return_value=True):
-            statements = receipts.OperatorStatements([], self.key.public_key(), [])
+            statements = receipts.OperatorStatements(self.key.public_key())
             for signature in (head.signature, bytes(64)):
                 self.assertEqual(statements.add_and_find_signer("file", head._replace(signature=signature), []), "")
         self.assertEqual((statements.signed.contradictions(), statements.signed.heads()), ([], [unsigned(head)]))
@@ -207,7 +207,7 @@ class Contradictions(InFolder):
             paths = [Path(f"{old}-{new}.json") for old, new in chosen]
             for path, (old, new) in zip(paths, chosen):
                 path.write_bytes(heads.line_bytes_of(seal.require_extension(signed[old], signed[new])))
-            statements, proved = receipts.OperatorStatements(paths, self.key.public_key(), []), closed(chosen)
+            statements, proved = receipts.OperatorStatements.read(paths, self.key.public_key(), []), closed(chosen)
             for old, new in every:
                 self.assertEqual(statements.has_path(signed[old], signed[new]), (old, new) in proved, (chosen, old, new))
 
@@ -265,7 +265,7 @@ class Contradictions(InFolder):
         lines, _ = self.capture_lines(1, "heads", "A.head", "again.head", "--extension", "mixed.extension", *keys)
         self.assertIn(refused, lines)
         self.assertIn(f"mixed.extension: {other.format('mixed.extension')}", lines)
-        statements = receipts.OperatorStatements(["mixed.extension"], signing.Keys({path: receipts.read_key(path) for path in keys[1::2]}), [])
+        statements = receipts.OperatorStatements.read(["mixed.extension"], signing.Keys({path: receipts.read_key(path) for path in keys[1::2]}), [])
         self.assertFalse(statements.has_path(mixed.old, mixed.new))
         self.capture_lines(0, "heads", "A.head", "B.head", "--extension", "B.extension", *keys)
         mixed = extension._replace(new=signing.head_with_signature(new, extension.new._replace(day="2026-11-29")))

@@ -22,7 +22,7 @@ import unittest
 from pathlib import Path
 from unittest import mock
 
-from support import AUCTION, AUCTION_RESULTS, TOOLS, TOP, journal_of, results_of, set_interrupt_handler
+from support import AUCTION, AUCTION_RESULTS, TOOLS, TOP, journal_of, results_of, set_signal_handlers
 
 from lib.audit import better
 from lib.base import place
@@ -284,7 +284,7 @@ class Interrupted(unittest.TestCase):
     """Ctrl-C ends a tool with a status of its own, without a traceback."""
 
     def setUp(self):
-        set_interrupt_handler(self)
+        set_signal_handlers(self)
 
     def run_interrupted(self, name, *words, number=signal.SIGINT):
         """The end of a tool that gets a signal while it waits for its journal."""

@@ -378,7 +378,7 @@ class Facts(unittest.TestCase):
 
     def test_the_numbers_of_definitions(self):
         """They are said in round numbers."""
-        repository, text = Repository(TOP), plain(TOP / "docs" / "ASSURANCE.md")
+        repository, text = Repository.read(TOP), plain(TOP / "docs" / "ASSURANCE.md")
         nodes = {node for _, _, new in reading_lists.read_function_lists(repository) for node in new}
         sizes = dict(theorem.read_reached_sizes(repository))["`run_clear`"]
         counts = {

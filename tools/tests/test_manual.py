@@ -108,7 +108,7 @@ class Made(unittest.TestCase):
         cls.folder = Path(cls.room.name, "site")
         cls.ended = run_tool("manual", "--out", cls.folder)
         assert cls.ended[0] == 0, cls.ended
-        cls.site = Site(cls.folder)
+        cls.site = Site.read(cls.folder)
 
     def page(self, name):
         name = re.sub(r"README\.md$", "index.md", name)
@@ -160,7 +160,7 @@ class Made(unittest.TestCase):
                 self.assertEqual(made.tables, len(re.findall(r"^ *\|[-|]+\|$", sentences, re.MULTILINE)))
 
     def test_each_definition_has_its_text_and_links_both_ways(self):
-        repository, seen = Repository(TOP), 0
+        repository, seen = Repository.read(TOP), 0
         for crate, module, name in self.capture_definitions():
             made = self.page(f"{navigation.DEFINITIONS}/{crate}.md")
             with self.subTest(name, crate=crate):

@@ -131,7 +131,7 @@ class Many(unittest.TestCase):
 
     def run_interrupted(self, code, environment, begun):
         """The lines of a program that is interrupted once something has begun."""
-        support.set_interrupt_handler(self)
+        support.set_signal_handlers(self)
         environment = {**os.environ, "PYTHONPATH": str(support.TOOLS), **environment}
         running = subprocess.Popen([sys.executable, "-B", "-c", code], env=environment, stderr=subprocess.PIPE, start_new_session=True)
         try:

@@ -42,9 +42,9 @@ class Answers(Office):
     @contextlib.asynccontextmanager
     async def serving(self, demo=None):
         self.write_office()
-        office = serving.Office(self.office, programs.Programs("dam", "dam-desk"), monitoring.Log(io.StringIO()))
+        office = serving.Office.read_or_stop(self.office, programs.Programs("dam", "dam-desk"), monitoring.Log(io.StringIO()))
         self.tokens = {who: office.register.write_and_return_new_token(who) for who in NAMES}
-        web = routes.Web(office, demo=demo)
+        web = routes.Web.read(office, demo=demo)
         web.budgets.guesses.most = web.budgets.looks.most = web.budgets.reads.most = 1e9
         self.application = web.new_application()
         runner = connections.Runner(self.application, office.counts)

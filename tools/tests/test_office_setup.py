@@ -235,7 +235,7 @@ class Setup(Office):
             public.write_bytes(other)
             with self.subTest(other=other):
                 with self.assertRaisesRegex(exits.Stop, "operator.pem.pub isn't the public key of operator.pem"):
-                    serving.Office(self.office, programs.Programs("dam", "dam-desk"), monitoring.Log(io.StringIO()))
+                    serving.Office.read_or_stop(self.office, programs.Programs("dam", "dam-desk"), monitoring.Log(io.StringIO()))
                 status, out, err = run_tool("office", "init", self.office.path, "--day", "2099-11-30", *words)
                 self.assertEqual((status, out), (exits.NO_INPUT, b""))
                 self.assertIn("isn't the public key of operator.pem", err)
@@ -538,7 +538,7 @@ class Setup(Office):
         salts.mkdir()
         log = io.StringIO()
         with patch_of_opening(Disk()), mock.patch.object(serving, "LOOK_SECONDS", 0.001):
-            served = serving.Office(self.office, programs.Programs("dam", "dam-desk"), monitoring.Log(log))
+            served = serving.Office.read_or_stop(self.office, programs.Programs("dam", "dam-desk"), monitoring.Log(log))
             task = asyncio.create_task(served.take_up_days_forever())
             await self.wait_until(lambda: later in served.writers)
             await served.writers[later].is_ready.wait()
@@ -559,7 +559,7 @@ class Setup(Office):
     async def looked(self):
         """The reasons why days aren't served, after one look, and the days that are."""
         with patch_of_opening(Disk()):
-            served = serving.Office(self.office, programs.Programs("dam", "dam-desk"), monitoring.Log(io.StringIO()))
+            served = serving.Office.read_or_stop(self.office, programs.Programs("dam", "dam-desk"), monitoring.Log(io.StringIO()))
             missed = served.take_up_days_and_return_faults()
             await served.stop_days()
         return missed, list(served.writers)
@@ -603,7 +603,7 @@ class Setup(Office):
         kept = path.read_bytes()
         asked = mock.Mock(match_info={"who": "GAS"}, headers=CIMultiDict(Authorization=f"Bearer {token}"), remote="127.0.0.1")
         with patch_of_opening(Disk()), mock.patch.object(serving, "LOOK_SECONDS", 0.001):
-            served = serving.Office(self.office, programs.Programs("dam", "dam-desk"), monitoring.Log(log))
+            served = serving.Office.read_or_stop(self.office, programs.Programs("dam", "dam-desk"), monitoring.Log(log))
             answers = admission.Admission(served, budgets.Budgets(behind_proxy=False))
             task = asyncio.create_task(served.take_up_days_forever())
             await self.wait_until(lambda: DAY in served.writers and served.writers[DAY].is_ready.is_set() and served.is_healthy)

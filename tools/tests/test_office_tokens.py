@@ -103,8 +103,8 @@ class Tokens(Office):
 
     def test_no_request_without_a_token_is_of_a_revoked_or_an_unknown_name(self):
         self.write_office()
-        office = serving.Office(self.office, programs.Programs("dam", "dam-desk"), monitoring.Log(io.StringIO()))
-        admission = routes.Web(office).admission
+        office = serving.Office.read_or_stop(self.office, programs.Programs("dam", "dam-desk"), monitoring.Log(io.StringIO()))
+        admission = routes.Web.read(office).admission
         made = office.register.write_and_return_new_token("GAS")
         office.register.write_revoked("A")
         for who, header, is_right in (
@@ -205,7 +205,7 @@ class Tokens(Office):
         self.write_office()
         later = "2026-11-30"
         setup.make_day_or_stop(self.office, folder.Terms(later, 24, FUTURE, "UTC", dict.fromkeys(NAMES, 10)))
-        office = serving.Office(self.office, programs.Programs("dam", "dam-desk"), monitoring.Log(io.StringIO()))
+        office = serving.Office.read_or_stop(self.office, programs.Programs("dam", "dam-desk"), monitoring.Log(io.StringIO()))
         salts = self.office.list_folders_by_day()[later].path_of(folder.SALTS)
         with patch_of_opening(Disk()):
             salts.chmod(0o640)
@@ -253,10 +253,10 @@ class Tokens(Office):
 
     async def test_the_length_of_the_records_of_a_table_counts(self):
         self.write_office()
-        office = serving.Office(self.office, programs.Programs("dam", "dam-desk"), monitoring.Log(io.StringIO()))
+        office = serving.Office.read_or_stop(self.office, programs.Programs("dam", "dam-desk"), monitoring.Log(io.StringIO()))
         office.writers[DAY] = self.day_writer_of()
         office.writers[DAY].is_known.set()
-        made = routes.Web(office)
+        made = routes.Web.read(office)
         made.budgets.reads = budgets.Buckets(0.001, budgets.MOST_READS, lambda: 0.0)
         headers = {"Authorization": f"Bearer {office.register.write_and_return_new_token('GAS')}", "Content-Length": "1"}
 
@@ -273,8 +273,8 @@ class Tokens(Office):
 
     async def test_limits_of_strangers_are_those_of_their_network(self):
         self.write_office()
-        office = serving.Office(self.office, programs.Programs("dam", "dam-desk"), monitoring.Log(io.StringIO()))
-        made = routes.Web(office)
+        office = serving.Office.read_or_stop(self.office, programs.Programs("dam", "dam-desk"), monitoring.Log(io.StringIO()))
+        made = routes.Web.read(office)
         protocol = argparse.Namespace(is_deaf=False)
 
         def asked(number, who):
@@ -296,8 +296,8 @@ class Tokens(Office):
     async def test_an_expectation_passes_no_limit(self):
         """Also at a path or a method that the office doesn't know. It isn't repeated; a client that waits before its body is answered."""
         self.write_office()
-        office = serving.Office(self.office, programs.Programs("dam", "dam-desk"), monitoring.Log(io.StringIO()))
-        made = routes.Web(office)
+        office = serving.Office.read_or_stop(self.office, programs.Programs("dam", "dam-desk"), monitoring.Log(io.StringIO()))
+        made = routes.Web.read(office)
         made.budgets.looks = budgets.Buckets(0.001, 4, lambda: 0.0)
         runner = connections.Runner(made.new_application(), office.counts)
         await runner.setup()

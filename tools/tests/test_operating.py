@@ -11,7 +11,7 @@ import time
 import unittest
 from pathlib import Path
 
-from support import AUCTION, AUCTION_RESULTS, TOOLS, TOP, make_folder_for_case, read_results, set_interrupt_handler
+from support import AUCTION, AUCTION_RESULTS, TOOLS, TOP, make_folder_for_case, read_results, set_signal_handlers
 
 from lib.journal import book, journal
 from lib.runs import which
@@ -160,7 +160,7 @@ class Day(unittest.TestCase):
 
     def test_a_signal_ends_a_step_too(self):
         """The lock is free at once."""
-        set_interrupt_handler(self)
+        set_signal_handlers(self)
         begun = self.bin / "begun"
         for name, line in (("dam", '[ "$1" = replay ] || '), ("dam-audit", "")):
             before = (self.bin / name).read_text()
@@ -181,7 +181,7 @@ class Day(unittest.TestCase):
 
     def test_a_signal_ends_a_desk_too(self):
         """And any other step, also one that has just begun; the lock is free at once. Before there is a lock, the shell may end by itself."""
-        set_interrupt_handler(self)
+        set_signal_handlers(self)
         begun, desk = self.bin / "begun", Path(self.day, "day.desk")
         desk.write_bytes(AUCTION.read_bytes())
         for name in ("lint", "audit"):
@@ -214,7 +214,7 @@ class Day(unittest.TestCase):
 
     def test_a_signal_leaves_a_whole_day_or_none(self):
         """Old results are removed together, and new ones put there together."""
-        set_interrupt_handler(self)
+        set_signal_handlers(self)
         whole, ends = ["day.csv", "replies.txt", "results.txt"], 'sleep 0.2; kill -{0} $PPID; kill -{0} 0; sleep 0.2'
         for number, _ in SIGNALS:
             self.assertEqual((self.run_once()[0], self.names()), (0, whole))

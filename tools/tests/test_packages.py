@@ -1,5 +1,5 @@
 """The packages of tools/lib: each imports only those that its docstring names, nothing private crosses, and no two import each other.
-And the files in Python of all folders: no definition hides another one, the names of functions tell generators, their types or names tell None,
+And the files in Python of all folders: no definition hides another one, the names of functions say generators, their types or names say None,
 and each name that is asked of a module is one that it defines."""
 
 import ast
@@ -77,6 +77,33 @@ C: int = 2
 def E(): pass
 I, J = J, I = read()
 """
+# A class whose constructor reads a file, and two whose classmethod or constructor doesn't.
+CONSTRUCTORS = """
+class Reading:
+    def __init__(self, path): self.text = path.read_text()
+class Read:
+    @classmethod
+    def read(cls, path): return cls(path.read_text())
+class Late:
+    def __init__(self, path): self.read = lambda: path.read_text()
+"""
+EFFECT = re.compile(
+    r"^(capture|compile|connect|fetch|find|list|print|read|run|start|write)_|^(Popen|TemporaryDirectory|connect|copy|create_task|iterdir"
+    r"|listdir|makedirs|mkdir|mkdtemp|open|read|read_bytes|read_text|run|start|write|write_bytes|write_text)$"
+)
+# The constructors that have an effect: tasks of a listener, which is made where it is started; the parser reads a docstring; a proof reads the
+# arguments of its program; others are of tests and of the bench. Definitions call a match's `start`, which has none.
+WITH_EFFECT = {
+    "bench/plain/office.py": {"PlainOffice"},
+    "manual/definitions.py": {"Definitions"},
+    "tests/desk/journals.py": {"Journal"},
+    "tests/hostile/right_answers.py": {"RightAnswer"},
+    "tests/launcher/repository.py": {"Repository", "TerminalRun"},
+    "tests/shared/browser.py": {"BrowserTab"},
+    "tools/lib/office/connections.py": {"Listener", "Server"},
+    "tools/lib/proving/rt_run.py": {"Proof"},
+    "tools/lib/tool/command_line.py": {"Parser"},
+}
 NONE = re.compile("_or_none$|^try_|_or_note_faults?$")  # the names of functions without types that may return None
 NONE_IN_TYPE = re.compile(r"\b(None|Optional|Any|Json|object)\b")
 # What may be None with another name: a string of a table by its number, as of a dictionary; a part of a workbook, or a fault if it has
@@ -206,6 +233,16 @@ def misnamed_functions(tree):
                 yield function.name
 
 
+def constructors_with_effect(tree):
+    """The classes whose constructor calls a function that has an effect by its name."""
+    for one in ast.walk(tree):
+        if isinstance(one, ast.ClassDef):
+            nodes = [node for function in one.body if getattr(function, "name", "") == "__init__" for node in own_nodes(function)]
+            called = [ast.unparse(node.func).rpartition(".")[2] for node in nodes if isinstance(node, ast.Call)]
+            if any(map(EFFECT.search, called)):
+                yield one.name
+
+
 class Packages(unittest.TestCase):
     def test_every_module_is_in_a_package(self):
         """The start of the tools is a text, which they run before they can import a module."""
@@ -235,15 +272,21 @@ class Packages(unittest.TestCase):
             with self.subTest(path=path):
                 self.assertEqual(list(hidden_names(tree)), [])
 
-    def test_names_tell_generators_and_none(self):
+    def test_names_say_generators_and_none(self):
         planted = ["add_and_return_lines", "find_file", "answer", "typed_or_none"]
         self.assertEqual(list(misnamed_functions(ast.parse(MISNAMED))), planted)
         for path, tree in parsed_files():
             with self.subTest(path=path):
                 self.assertEqual(list(misnamed_functions(tree)), [])
 
+    def test_constructors_have_no_effect(self):
+        self.assertEqual(list(constructors_with_effect(ast.parse(CONSTRUCTORS))), ["Reading"])
+        for path, tree in parsed_files():
+            with self.subTest(path=path):
+                self.assertLessEqual(set(constructors_with_effect(tree)), WITH_EFFECT.get(path, set()))
+
     def test_scripts_alone_set_the_path_of_modules(self):
-        """A script, or a module of tests, tells where its modules are. So these don't depend on the order of imports."""
+        """A script, or a module of tests, says where its modules are. So these don't depend on the order of imports."""
         for path, tree in parsed_files():
             name = Path(path).name
             is_started = (TOP / path).read_bytes().startswith(b"#!") or name.startswith("test_") or path in OF_SHELLS

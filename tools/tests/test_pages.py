@@ -13,7 +13,7 @@ from support import AUCTION, AUCTION_RESULTS, SUNNY, TOP, book, journal, read_re
 
 from lib.audit import recursive_enumeration
 from lib.crates.specs import Repository
-from shared.pages import read_links, read_prose
+from shared.docs_pages import read_links, read_prose
 
 NOTED = ("bench", "tests", "tools", "package")  # folders with a page of their own
 CRATES = sorted(path for path in (TOP / "crates").iterdir() if (path / "src").is_dir())
@@ -336,7 +336,7 @@ class Definitions(unittest.TestCase):
         status, page, _ = run_tool("reading-list", "--definitions")
         self.assertEqual(status, 0)
         on_page = sections(page.decode())
-        cited = {(node, function) for node, function in Repository(TOP).read_cited()}
+        cited = {(node, function) for node, function in Repository.read(TOP).read_cited()}
         self.assertGreater(len(cited), 300)
         for (crate, _, module, name), function in sorted(cited):
             with self.subTest(f"{name} of {crate}, by {function}"):

@@ -87,7 +87,7 @@ class Between(unittest.TestCase):
 
     def test_times_of_a_day_are_computed_once(self):
         clock.periods_by_begin_and_end.cache_clear()
-        with mock.patch.object(clock, "begin_minutes", wraps=clock.begin_minutes) as counted:
+        with mock.patch.object(clock, "begin_minute", wraps=clock.begin_minute) as counted:
             for _ in range(50):
                 self.assertEqual(clock.parse_periods_between_times(96, "00:15", "00:45"), [2, 3])
         self.assertLess(counted.call_count, 96 * 10)

@@ -110,7 +110,7 @@ class ReadingList(unittest.TestCase):
         first = mock.patch.object(reading_lists, "FIRST", {"run_clear": {"Sizes": names}})
         with first, tempfile.TemporaryDirectory() as folder:
             self.repository(folder)
-            return reading_lists.read_few_text(Repository(Path(folder)))
+            return reading_lists.read_few_text(Repository.read(Path(folder)))
 
     def test_a_few_definitions_are_printed_with_the_sentence_above_them(self):
         self.assertEqual(self.few(["IsSize"]), "-- a size\nabbrev pub IsSize : ℕ → Type 0\nIsSize n = n ≤ greatest\n")
@@ -150,7 +150,7 @@ pub fn law()
         whole = mock.patch.object(theorem, "THEOREM", {"run_clear": (is_printed, listed, others)})
         with whole, tempfile.TemporaryDirectory() as folder:
             self.repository(folder)
-            return theorem.read_theorem_text(Repository(Path(folder)))
+            return theorem.read_theorem_text(Repository.read(Path(folder)))
 
     def test_the_theorem_has_the_listed_definitions_and_the_sentences_of_others(self):
         text = self.theorem(["Printed"], ["IsSize"])
@@ -197,12 +197,12 @@ pub fn law()
                     path = Path(folder, f"crates/{crate}/specs/{name}.antt")
                     text = path.read_text().replace("abbrev", "-- something\nabbrev").replace("pub record", "-- a rule\npub record")
                     path.write_text("-- About it.\n" + text.replace("-- a size\n-- something", "-- a size"))
-            page = reading_lists.read_definitions_text(Repository(Path(folder)))
+            page = reading_lists.read_definitions_text(Repository.read(Path(folder)))
             self.assertIn("\n## `lower/specs/Sizes.antt`\n\nAbout it.\n\n- `IsSize`: a size\n- `other`: something\n\n", page)
             self.assertIn("## `upper/specs/Rule.antt`\n\nAbout it.\n\n- `Rule`: a rule\n", page)
             sizes.write_text(sizes.read_text() + "\nabbrev pub spare : ℕ\nspare = 1\n")
             with self.assertRaisesRegex(Exception, "^crates/lower/specs/Sizes.antt says nothing above spare$"):
-                reading_lists.read_definitions_text(Repository(Path(folder)))
+                reading_lists.read_definitions_text(Repository.read(Path(folder)))
 
     def test_sizes_may_differ_by_a_tenth(self):
         is_near = theorem.is_near

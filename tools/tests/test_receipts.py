@@ -281,24 +281,24 @@ class Receipts(unittest.TestCase):
                 path.write_bytes(heads.line_bytes_of(seal.require_extension(published[size], last)))
                 line = heads.line_bytes_of(seal.receipt(size, published[size]))
                 self.assertEqual(verdict_of(line, last, self.public), receipts.UNDECIDED)
-                self.assertEqual(verdict_of(line, last, self.public, receipts.OperatorStatements([path], self.public, [])), receipts.RIGHT)
+                self.assertEqual(verdict_of(line, last, self.public, receipts.OperatorStatements.read([path], self.public, [])), receipts.RIGHT)
             # A published head that ends before an entry, and one that has it.
             early = heads.line_bytes_of(seal.receipt(3, published[5]))
-            statements = receipts.OperatorStatements([], self.public, [])
+            statements = receipts.OperatorStatements(self.public)
             self.assertEqual(verdict_of(early, published[2], self.public, statements), receipts.WRONG)
             self.assertEqual(verdict_of(early, published[3], self.public, statements), receipts.UNDECIDED)
             path.write_bytes(heads.line_bytes_of(seal.require_extension(published[2], published[5])))
-            self.assertEqual(verdict_of(early, published[2], self.public, receipts.OperatorStatements([path], self.public, [])), receipts.WRONG)
+            self.assertEqual(verdict_of(early, published[2], self.public, receipts.OperatorStatements.read([path], self.public, [])), receipts.WRONG)
             path.write_bytes(heads.line_bytes_of(seal.require_extension(published[3], published[5])))
-            self.assertEqual(verdict_of(early, published[3], self.public, receipts.OperatorStatements([path], self.public, [])), receipts.RIGHT)
+            self.assertEqual(verdict_of(early, published[3], self.public, receipts.OperatorStatements.read([path], self.public, [])), receipts.RIGHT)
             steps = []
             for size in range(1, last.size):
                 steps.append(Path(folder, f"{size}.json"))
                 steps[-1].write_bytes(heads.line_bytes_of(seal.require_extension(published[size], published[size + 1])))
-            statements = receipts.OperatorStatements(steps, self.public, [])
+            statements = receipts.OperatorStatements.read(steps, self.public, [])
             self.assertEqual(verdict_of(heads.line_bytes_of(seal.receipt(1, published[1])), last, self.public, statements), receipts.RIGHT)
             self.assertEqual(statements.verdict_and_text_on_two(published[0], last)[0], receipts.RIGHT)
-            broken = receipts.OperatorStatements(steps[1:], self.public, [])
+            broken = receipts.OperatorStatements.read(steps[1:], self.public, [])
             self.assertEqual(verdict_of(heads.line_bytes_of(seal.receipt(1, published[1])), last, self.public, broken), receipts.UNDECIDED)
 
     def test_a_fork_shows_nothing_of_its_other_end(self):
@@ -319,9 +319,9 @@ class Receipts(unittest.TestCase):
 
     def test_two_journals_of_one_day(self):
         heads_of = [sealed_of(data, key=self.key).signed_head() for data in (FIRST, FIRST)]
-        self.assertEqual(receipts.OperatorStatements([], self.public, []).verdict_and_text_on_two(*heads_of)[0], receipts.WRONG)
+        self.assertEqual(receipts.OperatorStatements(self.public).verdict_and_text_on_two(*heads_of)[0], receipts.WRONG)
         days = [sealed_of(data, key=self.key).signed_head() for data in (AUCTION.read_bytes(), QUARTERS.read_bytes())]
-        self.assertEqual(receipts.OperatorStatements([], self.public, []).verdict_and_text_on_two(*days)[0], receipts.WRONG)
+        self.assertEqual(receipts.OperatorStatements(self.public).verdict_and_text_on_two(*days)[0], receipts.WRONG)
 
     def test_the_example_of_the_formats(self):
         page = (TOP / "docs" / "FORMATS.md").read_text()
@@ -478,12 +478,12 @@ class Receipts(unittest.TestCase):
         with tempfile.TemporaryDirectory() as folder:
             path, findings = Path(folder, "extension.json"), []
             path.write_bytes(heads.line_bytes_of(right))
-            self.assertTrue(receipts.OperatorStatements([path], self.public, findings).has_path(early, last))
+            self.assertTrue(receipts.OperatorStatements.read([path], self.public, findings).has_path(early, last))
             self.assertEqual(findings, [])
             for changed in [*changes, *foreign]:
                 path.write_bytes(heads.line_bytes_of(changed))
                 findings = []
-                statements = receipts.OperatorStatements([path], self.public, findings)
+                statements = receipts.OperatorStatements.read([path], self.public, findings)
                 with self.subTest(changed):
                     self.assertFalse(statements.earlier)
                     (finding,) = findings
@@ -493,7 +493,7 @@ class Receipts(unittest.TestCase):
 
     def test_the_empty_journal_is_the_beginning_of_those_of_its_day(self):
         empty = sealing.Seal(DAY, 24, sealing.draw_salts(DAY), self.key).signed_head()
-        head, statements = sealed_of(AUCTION.read_bytes(), key=self.key).signed_head(), receipts.OperatorStatements([], self.public, [])
+        head, statements = sealed_of(AUCTION.read_bytes(), key=self.key).signed_head(), receipts.OperatorStatements(self.public)
         self.assertEqual(statements.verdict_and_text_on_two(empty, head)[0], receipts.RIGHT)
         self.assertEqual(statements.verdict_and_text_on_two(empty._replace(day="2026-11-29"), head)[0], receipts.UNREAD)
         self.assertEqual(statements.verdict_and_text_on_two(empty._replace(periods=25), head)[0], receipts.WRONG)

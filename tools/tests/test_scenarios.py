@@ -466,7 +466,7 @@ class Tool(unittest.TestCase):
                     unittest.mock.patch.object(cluster.socket, "create_connection"),
                     self.assertRaisesRegex(errors.Fault, f"the cluster {address} can't be reached: {said}$"),
                 ):
-                    cluster.Cluster(address)
+                    cluster.Cluster(address).connect_and_wait_for_workers()
 
 
 class Hanging(unittest.TestCase):

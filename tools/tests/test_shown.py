@@ -11,11 +11,11 @@ from pathlib import Path
 from support import TOP
 
 from lib.journal import book, journal
-from shared import page_session
+from shared import docs_page_session
 from shared.counts import Counts
 from shared.shown import quoted_pairs
 
-from shared.page_scenes import BOTH, CLONE, INSTALLED, PAGES, Out, Scene, Span
+from shared.docs_page_scenes import BOTH, CLONE, INSTALLED, PAGES, Out, Scene, Span
 
 TRUST, GUIDE = TOP / "docs" / "TRUST.md", TOP / "docs" / "GUIDE.md"
 NUMBER = re.compile(r"(?<![\w.-])-?\d[\d,]*(?:\.\d+)?(?![\w-])")
@@ -47,15 +47,15 @@ class Scenes(unittest.TestCase):
             room = Path(folder).resolve()
             (room / "home").mkdir()
             (room / "page.md").write_text(page)
-            reader = page_session.PageReader(form, room, [], page_session.make_environment_with_browser(room / "home", {"PATH": "/usr/bin:/bin"}))
-            page_session.run_check_and_return_outputs(counts, "page.md", reader, room)
+            reader = docs_page_session.PageReader(form, room, [], docs_page_session.make_environment_with_browser(room / "home", {"PATH": "/usr/bin:/bin"}))
+            docs_page_session.run_check_and_return_outputs(counts, "page.md", reader, room)
         return counts.passed, counts.failed
 
     def test_each_text_is_on_its_page(self):
         for name in PAGES:
             for form in BOTH:
                 with self.subTest(name, form=form):
-                    self.assertTrue(list(page_session.steps_or_raise(name, (TOP / name).read_text(), form)))
+                    self.assertTrue(list(docs_page_session.steps_or_raise(name, (TOP / name).read_text(), form)))
 
     def test_a_line_that_is_left_out(self):
         out = Out("why")
@@ -95,7 +95,7 @@ class Scenes(unittest.TestCase):
     def test_a_line_of_which_the_beginning_is_shown(self):
         for quoted, is_same in (("one\nt [cut]\n", True), ("one\nx [cut]\n", False), ("o [cut]\n", False)):
             with self.subTest(quoted):
-                self.assertEqual(page_session.is_as_quoted("one  \ntwo\n", quoted, True), is_same)
+                self.assertEqual(docs_page_session.is_as_quoted("one  \ntwo\n", quoted, True), is_same)
 
 
 class Shown(unittest.TestCase):

@@ -595,7 +595,7 @@ class Tools(unittest.TestCase):
 
     def test_an_interrupt_ends_the_program_too(self):
         """The program hangs, or it has ended and its output stays open."""
-        support.set_interrupt_handler(self)
+        support.set_signal_handlers(self)
         for name, line in (("hang", "echo $$ >> PIDS; exec sleep 600"), ("hold", "sleep 600 & echo $! >> PIDS")):
             for order in (["--all"], ["--order", "UNIT"]):
                 with self.subTest(name, order=order):

@@ -1,4 +1,4 @@
-"""The audit of a day: the checks of its results or replies, of the commands that a participant sent, and of what the operator signed."""
+"""The audit of a day: the checks of its results or replies, of the commands that a participant sent, and of the operator's signed heads and receipts."""
 
 import functools
 from collections.abc import Iterator, Sequence
@@ -121,8 +121,8 @@ class Audit:
     def read_and_compare_sent_and_note(
         self, read: journal.Journal, reasons: Sequence[str | None], closed: book.Book, proof_text: sent.ProofWords
     ) -> None:
-        """Compares a participant's sent commands with the journal. If the journal lacks a command, `proof_text` says what receipts
-        show."""
+        """Compares a participant's sent commands with the journal. If the journal lacks a command, `proof_text` has the words for its
+        receipts."""
         options = self.options
         self.verdict.checked.append("commands sent")
         entries = sent.own_entries(read, reasons, options.participant)
@@ -147,7 +147,7 @@ class Audit:
         self.verdict.right += [] if self.verdict.sent_faults else right
 
     def read_and_note_signed(self, read: journal.Journal, reasons: Sequence[str | None]) -> "UnderHead":
-        """The journal with what the operator signed: its head, and receipts."""
+        """The journal with the operator's signed statements: its head, and receipts."""
         from ..receipts import receipts, under_head
         from ..seal import heads, signing
 

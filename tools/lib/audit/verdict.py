@@ -1,4 +1,4 @@
-"""The verdict of an audit: what was checked and found, the status that reports it, and the same as a record for programs."""
+"""The verdict of an audit: its checks and findings, the status that reports it, and the same as a record for programs."""
 
 import time
 from collections.abc import Sequence

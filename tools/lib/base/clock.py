@@ -12,7 +12,7 @@ USUAL = 24 * 60  # minutes of a day on which the clocks don't change
 SPRING, AUTUMN = 2 * 60, 3 * 60
 
 
-def begin_minutes(periods: int, number: int) -> int:
+def begin_minute(periods: int, number: int) -> int:
     """When a period begins on a day of `periods` of them, in minutes of the clock; the one after the last begins at the day's end."""
     passed = int((number - 1) * rules.DAYS[periods] * 60)
     gained = int(periods * rules.DAYS[periods] * 60) - USUAL
@@ -23,13 +23,13 @@ def begin_minutes(periods: int, number: int) -> int:
 
 def begin_time(periods: int, number: int) -> str:
     """The same as a text, such as `17:45`; a day ends at `24:00`."""
-    hours, rest = divmod(begin_minutes(periods, number), 60)
+    hours, rest = divmod(begin_minute(periods, number), 60)
     return f"{hours:02}:{rest:02}"
 
 
 def time_span(periods: int, number: int) -> str:
     """From when to when a period goes, by the clock at its beginning."""
-    end = begin_minutes(periods, number) + int(rules.DAYS[periods] * 60)
+    end = begin_minute(periods, number) + int(rules.DAYS[periods] * 60)
     return f"{begin_time(periods, number)} to {end // 60:02}:{end % 60:02}"
 
 

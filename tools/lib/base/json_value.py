@@ -1,4 +1,4 @@
-"""Names for the types of what is read from JSON, or written as JSON."""
+"""Names for the types of values that are read from JSON, or written as JSON."""
 
 from typing import Any, Dict
 

@@ -63,7 +63,7 @@ def read_modules_by_crate(repository: Repository, nodes: Iterable[Node], kind: s
     for crate in repository.crates:
         if crate in found:
             path = f"crates/{crate}/specs/Lib.antt" if kind == "specs" else f"crates/{crate}/src/lib.rt"
-            order = re.findall(r"^(?:pub )?mod (\w+);?$", repository.read(path), re.M)
+            order = re.findall(r"^(?:pub )?mod (\w+);?$", repository.read_text(path), re.M)
             yield crate, sorted(found[crate].items(), key=lambda item: order.index(item[0]))
 
 

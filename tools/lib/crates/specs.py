@@ -52,13 +52,16 @@ def aliases(words: str) -> Iterator[tuple[str, str]]:
 class Repository:
     """The definitions and types of a repository."""
 
-    def __init__(self, top: Path) -> None:
-        self.top = top
-        self.crates = list(crates.parse_crates(file_io.read_bytes(top / "crates.txt").decode()))
+    def __init__(self, top: Path, names: list[str]) -> None:
+        self.top, self.crates = top, names
         self.texts: dict[str | Path, str] = {}
         self.modules: dict[tuple[str, str], dict[str, str]] = {}
 
-    def read(self, path: str | Path) -> str:
+    @classmethod
+    def read(cls, top: Path) -> "Repository":
+        return cls(top, list(crates.parse_crates(file_io.read_bytes(top / "crates.txt").decode())))
+
+    def read_text(self, path: str | Path) -> str:
         """The text of a file, which is empty if there is none."""
         if path not in self.texts:
             file = self.top / path
@@ -70,7 +73,7 @@ class Repository:
         texts = self.modules.get((crate, module))
         if texts is None:
             texts, name = {}, None
-            for line in self.read(f"crates/{crate}/specs/{module}.antt").splitlines():
+            for line in self.read_text(f"crates/{crate}/specs/{module}.antt").splitlines():
                 head = HEAD.match(line)
                 if head:
                     name = head[1]
@@ -83,7 +86,7 @@ class Repository:
 
     def read_sentence(self, crate: str, module: str, name: str) -> str:
         """The comment above a definition."""
-        lines = self.read(f"crates/{crate}/specs/{module}.antt").splitlines()
+        lines = self.read_text(f"crates/{crate}/specs/{module}.antt").splitlines()
         at = next(place for place, line in enumerate(lines) if (HEAD.match(line) or [None, None])[1] == name)
         first = at
         while lines[first - 1].startswith("-- "):
@@ -94,7 +97,7 @@ class Repository:
 
     def read_subject(self, crate: str, module: str) -> str:
         """The comment at the head of a module: its subject."""
-        lines = self.read(f"crates/{crate}/specs/{module}.antt").splitlines()
+        lines = self.read_text(f"crates/{crate}/specs/{module}.antt").splitlines()
         comment = list(itertools.takewhile(lambda line: line.startswith("-- "), lines))
         if not comment:
             raise Unknown(f"crates/{crate}/specs/{module}.antt doesn't say what it is about")
@@ -102,8 +105,8 @@ class Repository:
 
     def read_own_modules(self, crate: str) -> list[str]:
         """The modules of a crate's `specs/` in the order of its `Lib`, without those for contracts inside the crate."""
-        declared = re.findall(r"^(?:pub )?mod (\w+)$", self.read(f"crates/{crate}/specs/Lib.antt"), re.M)
-        return [module for module in declared if self.read(f"crates/{crate}/specs/{module}.antt")]
+        declared = re.findall(r"^(?:pub )?mod (\w+)$", self.read_text(f"crates/{crate}/specs/Lib.antt"), re.M)
+        return [module for module in declared if self.read_text(f"crates/{crate}/specs/{module}.antt")]
 
     def read_holder_name(self, crate: str, module: str, name: str) -> str:
         """The definition of which a name is a part, such as a field, or the name."""
@@ -126,8 +129,8 @@ class Repository:
 
     def read_home_crate(self, crate: str, module: str) -> str:
         """The crate of a module of `specs/`: a crate may re-export modules of a lower one."""
-        while not self.read(f"crates/{crate}/specs/{module}.antt"):
-            given = re.search(rf"^pub use Rattle\.(\w+)\.specs\.{module}$", self.read(f"crates/{crate}/specs/Lib.antt"), re.M)
+        while not self.read_text(f"crates/{crate}/specs/{module}.antt"):
+            given = re.search(rf"^pub use Rattle\.(\w+)\.specs\.{module}$", self.read_text(f"crates/{crate}/specs/Lib.antt"), re.M)
             if not given:
                 raise Unknown(f"{crate} has no module {module} of definitions")
             crate = given[1]
@@ -156,15 +159,15 @@ class Repository:
         """Where a crate declares a type, or the crate whose type it re-exports."""
         folder = self.top / "crates" / crate / "src"
         for path in sorted(folder.glob("*.rt")):
-            if re.search(rf"^pub(?:\(crate\))? (?:struct|enum) {name}\b", self.read(path.relative_to(self.top)), re.M):
+            if re.search(rf"^pub(?:\(crate\))? (?:struct|enum) {name}\b", self.read_text(path.relative_to(self.top)), re.M):
                 return crate, "src", path.stem, name
-        for given, words in re.findall(r"^pub use (\w+)::\{([^}]*)\};$", self.read(f"crates/{crate}/src/lib.rt"), re.M):
+        for given, words in re.findall(r"^pub use (\w+)::\{([^}]*)\};$", self.read_text(f"crates/{crate}/src/lib.rt"), re.M):
             if given in self.crates and name in dict(aliases(words)):
                 return self.read_type_target(given, name)
         return None
 
     def read_source(self, crate: str, module: str) -> str:
-        text = self.read(f"crates/{crate}/src/{module}.rt")
+        text = self.read_text(f"crates/{crate}/src/{module}.rt")
         if not text:
             raise Unknown(f"{crate} has no source {module}")
         return text
@@ -207,7 +210,7 @@ class Repository:
                 raise Unknown(f"{crate}/specs/{module}.antt has no definition {name}")
             return {(crate, kind, module, holder)}
         found: Targets = {other: (crate, kind, module, other) for other in texts}
-        self.add_targets_of_used_names(self.read(f"crates/{crate}/specs/{module}.antt"), found)
+        self.add_targets_of_used_names(self.read_text(f"crates/{crate}/specs/{module}.antt"), found)
         return targets_of(words_of(texts[name]), found, node)
 
     def read_targets_named_in_type(self, crate: str, module: str, name: str) -> set[Node]:

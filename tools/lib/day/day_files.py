@@ -49,12 +49,18 @@ class Day:
     """A journal with its results, whose form is right. `text` has the bytes of the results. `wrong` lists where they break the rules, and
     `odd` how they are encoded in another way than `dam` does it."""
 
-    def __init__(self, path: str, results_path: str | None) -> None:
+    def __init__(self, read: journal.Journal, results_data: bytes, path: str = "the journal", results_path: str = "the text") -> None:
+        """From a journal that was read, and from the bytes of its results. Ends the tool if they have no results of this journal."""
+        self.set_contents_or_stop(read, results_data, path, results_path)
+
+    @classmethod
+    def read_or_stop(cls, path: str, results_path: str | None) -> "Day":
+        """The day of these files."""
         journal_data, results_data = read_day_texts(path, results_path)
         read = require_journal(path, journal_data)
         if results_path is not None:
             refuse_other_kind(results_path, results_data, kinds.RESULTS)
-        self.set_contents_or_stop(read, results_data, path, results_path or path)
+        return cls(read, results_data, path, results_path or path)
 
     def __repr__(self) -> str:
         blocks = len(self.problem.blocks)
@@ -62,13 +68,6 @@ class Day:
         wrong = f", {text.counted(len(self.wrong), 'fault')}" if self.wrong else ""
         welfare = f"welfare {self.problem.euros_text(self.published.welfare)} EUR"
         return f"<Day: {self.problem.periods} periods, {hourly}, {text.counted(blocks, 'block')}, {welfare}{wrong}>"
-
-    @classmethod
-    def of_text(cls, read: journal.Journal, results_data: bytes) -> "Day":
-        """The same from a journal that was read, and from the bytes of its results."""
-        day = cls.__new__(cls)
-        day.set_contents_or_stop(read, results_data, "the journal", "the text")
-        return day
 
     def set_contents_or_stop(self, read: journal.Journal, results_data: bytes, path: str, results_path: str) -> None:
         """Sets all that follows from a journal and the bytes of its results. Ends the tool if they have no results of this journal."""

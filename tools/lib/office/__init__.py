@@ -1,12 +1,12 @@
 """The auction office, which participants reach by HTTP: tools/office starts it.
 
 It judges nothing. The desk, a child process, keeps a day's journal on the disk and gives the book's reply to each command; `dam clear`
-clears the journal; tools/table says what became of each order; `lib.seal` signs heads and makes receipts. Receipts, replay, clear and
+clears the journal; tools/table reports the outcome of each order; `lib.seal` signs heads and makes receipts. Receipts, replay, clear and
 the audit show whether an office was right. Its modules draw nothing, and no module outside of this folder imports them, but tools/office.
 
 It may import: base, journal, lint, pages, process, receipts, results, runs, seal, tables, tool.
 
-| Module | What |
+| Module | Contents |
 |---|---|
 | `folder`, `setup` | the files of an office and of its days; making them |
 | `tokens` | the participants, and whether a token is one's |
@@ -16,11 +16,11 @@ It may import: base, journal, lint, pages, process, receipts, results, runs, sea
 | `day_writer`, `submissions` | the one writer of a day: batches, the close, the time; the requests that wait for it |
 | `refusals` | why a request is refused |
 | `programs` | the programs that an office runs |
-| `publishing`, `published` | making the files that are published; what participants see of them |
+| `publishing`, `published` | making the files that are published; the parts of them that participants see |
 | `requests`, `table_reader` | commands in a request; an uploaded table, read in a process of its own |
 | `routes`, `responses` | the routes, and a fault's response; responses of several answers |
 | `participant_answers` | a participant's commands are entered, and its own data shown |
-| `public_answers`, `fixed_files` | what all may see; the files that don't change |
+| `public_answers`, `fixed_files` | the answers that all may see; the files that don't change |
 | `admission` | whether a request is answered |
 | `connections`, `budgets` | limits on connections; on requests |
 | `monitoring` | the log and the counts |
@@ -32,7 +32,7 @@ A crash, of the office, the desk or both, at any moment, neither loses an acknow
   numbers, and no second file has to agree with it. A request for a number that is held is compared with the record there: the same record
   gets the same receipt, another one a 409. Only the number after the last one held enters a command. A record that breaks the format is
   refused before it reaches the desk, and takes no number.
-- The desk answers after its sync, and what it answered is in every later opening of its file, in order, followed by at most a beginning
+- The desk answers after its sync, and an answered command is in every later opening of its file, in order, followed by at most a beginning
   of the records that it was given since. The office signs, and acknowledges, only entries of the ledger, and the ledger has only entries
   that the desk has answered or has shown at its opening. So an acknowledged command is on the disk.
 - After a crash, the ledger is the journal that the desk shows. A command that was written and never acknowledged is in it or not. If it is,

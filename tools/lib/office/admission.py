@@ -1,4 +1,4 @@
-"""Whether a request is answered, in this order: the token, the rate, the size. What isn't answered is refused by an exception."""
+"""Whether a request is answered, in this order: the token, the rate, the size. A request that isn't answered is refused by an exception."""
 
 from __future__ import annotations
 
@@ -20,7 +20,7 @@ BODY_SECONDS = 15  # for a body to come
 
 
 class Admission:
-    """Who may ask an office for what. `office` has its days, by name, and its participants."""
+    """The requests that each participant or stranger may make of an office. `office` has its days, by name, and its participants."""
 
     def __init__(self, office: Office, limits: budgets.Budgets) -> None:
         self.office, self.counts, self.budgets = office, office.counts, limits

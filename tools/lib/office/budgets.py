@@ -13,7 +13,7 @@ COMMANDS_A_SECOND, MOST_COMMANDS = 200, 2_000  # of a participant; many bytes co
 BYTES_OF_COMMAND = 100
 READS_A_SECOND, MOST_READS = 50, 200  # of a participant
 GUESSES_A_SECOND, MOST_GUESSES = 1, 20  # wrong tokens of an address
-LOOKS_A_SECOND, MOST_LOOKS = 200, 2_000  # requests of an address for what all may see
+LOOKS_A_SECOND, MOST_LOOKS = 200, 2_000  # requests of an address for public paths
 RECEIPTS_OF_READ, COMMANDS_OF_READ, ORDERS_OF_READ, READS_OF_TABLE = 20, 200, 100, 100  # how much of an answer counts as one read
 BYTES_OF_READ = 10_000
 DAYS_OF_LOOK = 5
@@ -74,7 +74,7 @@ class Budgets:
             self.looks.charge(address_or_network(request.remote), count // DAYS_OF_LOOK)
 
     def charge_look_or_refuse(self, request: web.Request) -> None:
-        """Charges the address of a request for what all may see, or refuses it; other requests are charged to participants."""
+        """Charges the address of a request for a public path, or refuses it; other requests are charged to participants."""
         if "who" not in request.match_info:
             self.charge_address_or_refuse(self.looks, request, "too many requests")
 

@@ -63,7 +63,7 @@ class Handler(web_protocol.RequestHandler):
         self.head_bytes, self.head_tail = 0, b""  # of the head that is coming: how many have come, and the last ones
         self.payload: StreamReader | None = None  # the body of the last request
         self.length = 0  # how many bytes it has
-        self.is_deaf = False  # what comes isn't read any more, and the connection ends after its answer
+        self.is_deaf = False  # further bytes aren't read, and the connection ends after its answer
 
     @property
     def body_left(self) -> int:
@@ -81,7 +81,7 @@ class Handler(web_protocol.RequestHandler):
             self.transport.abort()
 
     def data_received(self, data: bytes) -> None:
-        """Parses what has come, in pieces, so that no connection holds up the others for long."""
+        """Parses the bytes that have come, in pieces, so that no connection holds up the others for long."""
         at = 0
         while at < len(data):
             if self.is_deaf or self.transport is None or self.transport.is_closing():
@@ -123,7 +123,7 @@ class Handler(web_protocol.RequestHandler):
                 self._messages[place] = plain_message(cast(RawRequestMessage, message)), self.payload
         if self.payload is not None and self.payload.is_eof() == (self.body_left > 0):
             self.is_deaf = True  # an odd header hides the length of the body, and so the start of the next head
-        self._message_tail = b""  # what comes after a request for another protocol
+        self._message_tail = b""  # the bytes after a request for another protocol
         if len(self._messages) > MOST_AHEAD:
             self.abort()
 

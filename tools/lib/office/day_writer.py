@@ -10,6 +10,7 @@ from collections.abc import Callable
 from typing import TYPE_CHECKING, NamedTuple
 
 from ..journal.journal import Close, Command, command_record_text
+from ..seal import heads
 from . import folder, monitoring, newest_head, published, publishing
 from .desk import Desk, DeskEnded
 from .ledger import Contradiction, Ledger
@@ -38,7 +39,7 @@ class Clock:
 
 
 class DayState(NamedTuple):
-    """The name of a day's state, as `folder` has it, and what of the day is published."""
+    """The name of a day's state, as `folder` has it, and whether the day's statement and journal are published."""
 
     name: str
     has_statement: bool
@@ -48,9 +49,9 @@ class DayState(NamedTuple):
 class DayWriter:
     """A day of an office that takes commands. `write_until_published` is its only task that enters them, and publishes."""
 
-    def __init__(self, files: folder.DayFolder, office: Office) -> None:
-        self.files, self.terms = files, files.read_terms()
-        self.make_ledger = functools.partial(Ledger, self.terms, files.read_salts(), office.key)
+    def __init__(self, files: folder.DayFolder, office: Office, terms: folder.Terms, salts: heads.Salts) -> None:
+        self.files, self.terms = files, terms
+        self.make_ledger = functools.partial(Ledger, terms, salts, office.key)
         self.ledger: Ledger = self.make_ledger()
         self.is_known = asyncio.Event()  # the ledger has the journal's entries: before, nothing can be said of any
         self.programs: Programs = office.programs
@@ -65,6 +66,11 @@ class DayWriter:
         self.is_ready, self.is_closing = asyncio.Event(), False
         self.published: published.Published = published.Published(files)
         self.newest = newest_head.Newest(files.path_of(folder.SIGNED), self.log_event)
+
+    @classmethod
+    def read(cls, files: folder.DayFolder, office: Office) -> "DayWriter":
+        """The writer of a day of this folder, whose terms and salts are read."""
+        return cls(files, office, files.read_terms(), files.read_salts())
 
     async def read_state(self) -> DayState:
         """The state of the day now. Its files are looked up in a thread: a slow disk holds up no other request."""

@@ -75,7 +75,7 @@ async def serve_demo(args: argparse.Namespace, programs: Programs) -> None:
         made = {who: register.write_and_return_new_token(who) for who in PARTICIPANTS}
         day = demo_terms_from_now(args.seconds)
         setup.make_day_or_stop(office, day)
-        served = Office(office, programs, monitoring.Log())
+        served = Office.read_or_stop(office, programs, monitoring.Log())
 
         async def started(port: int) -> None:
             await enter_orders_or_stop(served.writers[day.day])

@@ -19,7 +19,7 @@ LOCKED_SECONDS, LOCKED_STEP = 5, 0.05  # how long a desk that is still ending ma
 END_SECONDS = 10  # that a desk may take to end
 ANSWER_SECONDS = 60  # and to answer a batch
 REPLY = re.compile(r"([1-9][0-9]*),(.*)")
-# A desk ends with one status for all faults of its file: only these words of its fault line tell that another one still has the file.
+# A desk ends with one status for all faults of its file: only these words of its fault line say that another one still has the file.
 LOCKED_WORDS = b"another process has it"
 # A desk is given the day, which it may have already, and then an empty line, which enters nothing. It prints the replies to its journal,
 # and then its answers to these two lines. So the answer to the empty line, which is its second one, comes once the desk is open. The
@@ -29,7 +29,7 @@ MOST_REPLIES = 1 << 20  # bytes that a desk prints until then: 10,000 replies ha
 
 
 class DeskEnded(Exception):
-    """The desk ended, or what it said is no answer. What is on the disk is known only at the next opening."""
+    """The desk ended, or its line isn't an answer. The bytes on the disk are known only at the next opening."""
 
 
 class Locked(DeskEnded):
@@ -136,7 +136,7 @@ class Desk:
                 yield self.parse_and_count_reply(data[:-1].decode("ascii"))
 
     async def end_or_kill(self) -> None:
-        """Ends the desk: it enters what it was given, and ends at the end of its input. Of one that was killed it doesn't read the rest,
+        """Ends the desk: it enters the commands that it was given, and ends at the end of its input. Of one that was killed it doesn't read the rest,
         which asyncio reports unless something waits for it."""
         self.input.close()
         if self.process.returncode is None:

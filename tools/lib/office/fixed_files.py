@@ -1,4 +1,4 @@
-"""What the office serves without a day: the parts of its page, and its requests as OpenAPI."""
+"""The files that the office serves without a day: the parts of its page, and its requests as OpenAPI."""
 
 import json
 from pathlib import Path

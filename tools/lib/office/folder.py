@@ -160,7 +160,7 @@ def give_to_owner_of(file: Path | int, path: Path) -> None:
 
 @contextlib.contextmanager
 def stopping_if_damaged(path: Path, kind: str) -> Iterator[None]:
-    """Ends what reads a file of the office with a fault that names it, if it is damaged."""
+    """Ends the reader of a file of the office with a fault that names the file, if it is damaged."""
     try:
         yield
     except (ValueError, TypeError, KeyError, RecursionError, heads.BadRecord) as fault:
@@ -182,7 +182,7 @@ class NamedFiles:
         return self.path / name
 
     def refuse_shared_files(self, names: Iterable[str], public: Iterable[str]) -> None:
-        """Ends what serves these files, which need not be there, if others may change one, or read one that isn't public."""
+        """Ends the server of these files, which need not be there, if others may change one, or read one that isn't public."""
         for name in names:
             with contextlib.suppress(FileNotFoundError):
                 if self.path_of(name).stat().st_mode & (CHANGES if name in public else PRIVATE):
@@ -200,7 +200,7 @@ class DayFolder(NamedFiles):
         return self.path_of(name).exists()
 
     def refuse_if_shared(self) -> None:
-        """Ends what serves the day if others may read or change its files. All may read what is published."""
+        """Ends the server of the day if others may read or change its files. All may read the published ones."""
         self.refuse_shared_files(DAY_FILES, PUBLISHED_FILES if self.has_file(OPEN_JOURNAL) else ())
 
     def read_file(self, name: str) -> bytes:

@@ -1,4 +1,4 @@
-"""The entries of a day in memory: what the desk has shown or answered, and nothing else. All of it follows from the journal."""
+"""The entries of a day in memory: those that the desk has shown or answered, and no others. All of it follows from the journal."""
 
 import asyncio
 import collections

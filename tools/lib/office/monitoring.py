@@ -30,7 +30,7 @@ class Log:
 
 
 class Defects(logging.Handler):
-    """Logs what a library reports by the kind of its exception alone, once a minute: its words, and how many they are, may be a
+    """Logs the reports of a library by the kind of its exception alone, once a minute: the words of a report, and their number, may be a
     stranger's."""
 
     def __init__(self, log: Log, now: Callable[[], float] = time.monotonic) -> None:

@@ -121,7 +121,7 @@ def close_and_wait_or_stop(office: Folder, files: DayFolder) -> bool:
 
 
 def write_trial_and_explain_wait(files: DayFolder) -> str:
-    """For what a close waits, as far as the folder shows it."""
+    """The reason for which a close waits, as far as the folder shows it."""
     missing = "results" if files.has_file(folder.HEAD) else "head"
     try:
         files.write_trial_or_raise()

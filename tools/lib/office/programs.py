@@ -94,7 +94,7 @@ class ProgramFailed(Exception):
 
 
 async def capture_output_or_raise(*words: str, data: bytes = b"", seconds: float = MOST_SECONDS) -> bytes:
-    """What a program prints. It has no other part in this process: its fault, or a late end, is `ProgramFailed`."""
+    """The output of a program. It has no other part in this process: its fault, or a late end, is `ProgramFailed`."""
     process = await asyncio.create_subprocess_exec(*words, start_new_session=True, stdin=PIPE, stdout=PIPE, stderr=PIPE)
     try:
         out, err = await asyncio.wait_for(async_child.feed_and_capture_output_and_errors(process, words[0], data), seconds)

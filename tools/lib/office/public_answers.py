@@ -1,7 +1,8 @@
-"""The answers that all may see: files that don't change, days with their heads and prices, and what the operator publishes."""
+"""The answers that all may see: files that don't change, days with their heads and prices, and the operator's published files."""
 
 from __future__ import annotations
 
+from collections.abc import Mapping
 from typing import TYPE_CHECKING
 
 from aiohttp import web
@@ -19,14 +20,20 @@ if TYPE_CHECKING:
     from .serve import Office
 
 
+FixedFiles = Mapping[str, tuple[str, str]]  # the text and the kind of each file that doesn't change, by its path in the office
+
+
+def read_fixed_files(is_demo: bool) -> FixedFiles:
+    files = {path: (fixed_files.read_page_part_text(name), kind) for path, (name, kind) in fixed_files.PARTS.items()}
+    return {**files, "/openapi.json": (fixed_files.read_openapi_text(is_demo=is_demo), "application/json")}
+
+
 class PublicAnswers:
     """`demo` has the tokens of a demo by participant; they guard nothing."""
 
-    def __init__(self, office: Office, admission: Admission, demo: dict[str, str] | None) -> None:
+    def __init__(self, office: Office, admission: Admission, demo: dict[str, str] | None, files: FixedFiles) -> None:
         self.office, self.counts, self.admission, self.budgets, self.demo = office, office.counts, admission, admission.budgets, demo
-        self.files = {path: (fixed_files.read_page_part_text(name), kind) for path, (name, kind) in fixed_files.PARTS.items()}
-        self.files["/openapi.json"] = fixed_files.read_openapi_text(is_demo=bool(demo)), "application/json"
-        self.files["/key"] = office.public_key, "application/x-pem-file"
+        self.files = {**files, "/key": (office.public_key, "application/x-pem-file")}
 
     async def answer_file(self, request: web.Request) -> web.Response:
         text, kind = self.files[request.path]

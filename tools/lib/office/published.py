@@ -18,7 +18,7 @@ from .ledger import Contradiction, Ledger
 NAMES = r"[A-Z0-9-]+(?:, [A-Z0-9-]+)*(?: and [A-Z0-9-]+)?"
 OWN_GAIN = re.compile(rf"(?:with {NAMES} it )?would gain (?:nothing|[0-9.,]+ EUR) at the prices")
 # How it goes on, by its code, until the journal is published. The published words compare the result with another selection: its welfare,
-# its losses and the periods that don't balance tell others' limits and volumes. Five codes share one text, because the code alone tells
+# its losses and the periods that don't balance reveal others' limits and volumes. Five codes share one text, because the code alone reveals
 # something of them.
 MOST_GAIN = "but if it were accepted, a block would lose, a period wouldn't balance, or the welfare wouldn't be greater"
 HIDDEN = {
@@ -26,14 +26,14 @@ HIDDEN = {
     judgement.PARENT: "but a parent that it needs would lose even with it",
     **dict.fromkeys((judgement.UNBALANCED, judgement.WOULD_LOSE, judgement.LESS, judgement.TIE, judgement.BETTER), MOST_GAIN),
 }
-TOLD = (judgement.GROUP, judgement.PARENT)  # the codes among these that tell nothing of others
+TOLD = (judgement.GROUP, judgement.PARENT)  # the codes among these that reveal no order of others
 MOST_TEXTS = 16  # of statements that are kept as they are sent
 # Of all participants' orders. From these, one could compute the limits of another.
 SUMS = ("welfare_eur", "hourly_surplus_eur", "block_surplus_eur")
 
 
 class Published:
-    """What of a day is published."""
+    """The published parts of a day."""
 
     def __init__(self, files: folder.DayFolder) -> None:
         self.files = files
@@ -63,8 +63,8 @@ class Published:
         return self.text
 
     def read_and_cache_statement(self, who: str) -> JsonObject | None:
-        """A participant's commands with what became of them; None before they are published. Until the journal is, nothing in it tells of
-        the orders of others but the prices and volumes."""
+        """A participant's commands with their outcomes; None before they are published. Until the journal is, only its prices and
+        volumes depend on the orders of others."""
         if self.rows is None and self.is_whole:
             found = json.loads(self.files.read_file(folder.STATEMENT))
             by_owner: dict[str, list[Json]] = {}
@@ -99,7 +99,7 @@ def without_own_participant(why: str | None, who: str) -> str | None:
 
 
 def without_words_of_others(row: JsonObject) -> JsonObject:
-    """A row without the words, and the code, that tell of others' orders."""
+    """A row without the words, and the code, that reveal others' orders."""
     code = row.get("code")
     if code not in HIDDEN:
         return row

@@ -1,5 +1,5 @@
-"""The files of a closed day are made: the signed head, then the results and, for each participant, what became of its commands. The journal
-is published only if the operator says so."""
+"""The files of a closed day are made: the signed head, then the results and, for each participant, the outcomes of its commands. The
+journal is published only if the operator says so."""
 
 from __future__ import annotations
 
@@ -58,7 +58,7 @@ async def write_results(writer: DayWriter) -> None:
 
 
 async def write_statement(writer: DayWriter) -> None:
-    """What became of each command, by tools/table, in a process of its own."""
+    """The outcome of each command, by tools/table, in a process of its own."""
     if not writer.files.has_file(folder.STATEMENT):
         tool = str(place.FOLDER / "table")
         paths = (str(writer.files.path_of(name)) for name in (folder.JOURNAL, folder.RESULTS))

@@ -12,7 +12,7 @@ from . import budgets, requests
 from .admission import MOST_BODY, Admission
 from .connections import handler_of
 from .participant_answers import ParticipantAnswers
-from .public_answers import PublicAnswers
+from .public_answers import FixedFiles, PublicAnswers, read_fixed_files
 from .refusals import Refused, RequestFault
 from .responses import fault_response
 
@@ -40,12 +40,17 @@ Answering = Callable[[web.Request], Awaitable[web.StreamResponse]]
 class Web:
     """The application of an office; `office` has its days, by name, and its participants."""
 
-    def __init__(self, office: Office, is_secure: bool = False, behind_proxy: bool = False, demo: dict[str, str] | None = None) -> None:
+    def __init__(self, office: Office, files: FixedFiles, is_secure: bool, behind_proxy: bool, demo: dict[str, str] | None) -> None:
         self.office, self.counts, self.log = office, office.counts, office.log
         self.headers = {**HEADERS, **(SECURE if is_secure else {})}
         self.budgets = budgets.Budgets(behind_proxy)
         self.admission = Admission(office, self.budgets)
-        self.own, self.public = ParticipantAnswers(office, self.admission), PublicAnswers(office, self.admission, demo)
+        self.own, self.public = ParticipantAnswers(office, self.admission), PublicAnswers(office, self.admission, demo, files)
+
+    @classmethod
+    def read(cls, office: Office, is_secure: bool = False, behind_proxy: bool = False, demo: dict[str, str] | None = None) -> Web:
+        """The application with the files that don't change, which are read."""
+        return cls(office, read_fixed_files(bool(demo)), is_secure, behind_proxy, demo)
 
     def new_application(self) -> web.Application:
         app = web.Application(middlewares=[self.answer_request], client_max_size=MOST_BODY)

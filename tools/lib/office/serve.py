@@ -11,13 +11,16 @@ import socket
 import ssl
 import time
 from collections.abc import Callable, Coroutine, Iterator
-from typing import NamedTuple
+from typing import TYPE_CHECKING, NamedTuple
 
 from ..tool import exits
 from . import connections, folder, monitoring, tokens
 from .day_writer import Clock, DayWriter
 from .programs import Programs
 from .routes import Web
+
+if TYPE_CHECKING:
+    from cryptography.hazmat.primitives.asymmetric.ed25519 import Ed25519PrivateKey
 
 LOOK_SECONDS = 1  # between two looks for days that were added
 KNOWN_SECONDS, KNOWN_STEP = 2, 0.01  # that the journals of all days get to be read before it listens; between two looks
@@ -39,16 +42,23 @@ def noting_unreadable(name: str | None, missed: dict[str | None, str]) -> Iterat
 class Office:
     """The days of an office that are served."""
 
-    def __init__(self, files: folder.Folder, programs: Programs, log: monitoring.Log | None = None) -> None:
-        self.files, self.programs = files, programs
+    def __init__(
+        self, files: folder.Folder, programs: Programs, log: monitoring.Log | None, key: "Ed25519PrivateKey", public_key: str
+    ) -> None:
+        self.files, self.programs, self.key, self.public_key = files, programs, key, public_key
         self.log, self.counts, self.clock = log or monitoring.Log(), monitoring.Counts(), Clock()
-        self.key = files.read_key()
-        self.public_key = files.read_public_text_or_stop(self.key)
         self.register = tokens.Register(files.path_of(folder.PARTICIPANTS))
-        self.register.read_and_keep_if_changed()
         self.writers: dict[str, DayWriter] = {}
         self.tasks: list[asyncio.Task[None]] = []
         self.missed: dict[str | None, str] = {}  # by the name of a day, why it isn't served; by None, why the days or the tokens aren't known
+
+    @classmethod
+    def read_or_stop(cls, files: folder.Folder, programs: Programs, log: monitoring.Log | None = None) -> "Office":
+        """The office of a folder, with its keys and participants, but without its days."""
+        key = files.read_key()
+        office = cls(files, programs, log, key, files.read_public_text_or_stop(key))
+        office.register.read_and_keep_if_changed()
+        return office
 
     def take_up_days_and_return_faults(self) -> dict[str | None, str]:
         """Takes up the days that aren't yet; those that are open come first. Returns the faults of those that can't be."""
@@ -63,7 +73,7 @@ class Office:
                     new.append((files.has_file(folder.STATEMENT), name, files))
         for _, name, files in sorted(new, key=lambda one: one[:2]):
             with noting_unreadable(name, missed):
-                self.writers[name] = DayWriter(files, self)
+                self.writers[name] = DayWriter.read(files, self)
                 self.tasks.append(asyncio.create_task(self.writers[name].write_until_published()))
         return missed
 
@@ -154,7 +164,7 @@ async def serve(
     for name in ("aiohttp", "asyncio"):
         logging.getLogger(name).handlers = [monitoring.Defects(office.log)]
         logging.getLogger(name).propagate = False
-    application = Web(office, at.tls is not None, at.behind_proxy, demo).new_application()
+    application = Web.read(office, at.tls is not None, at.behind_proxy, demo).new_application()
     runner = connections.Runner(application, office.counts, keepalive_timeout=KEEP_SECONDS)
     days = asyncio.create_task(office.take_up_days_forever())
     stopped, listener = asyncio.Event(), None

@@ -14,7 +14,7 @@ FULL_BATCH = 1_000  # a batch with as many commands takes no further request
 
 @dataclasses.dataclass(eq=False)
 class Submission:
-    """Commands of one request. `first` is the number that the participant gave the first one. `is_authorized` tells whether its token is
+    """Commands of one request. `first` is the number that the participant gave the first one. `is_authorized` says whether its token is
     still the participant's. `done` gets the numbers of the entries."""
 
     who: str

@@ -1,7 +1,7 @@
 """Figures of matplotlib: their style, panels, legends, margins, and the words that a page shows when the pointer is there.
 
-They are made for black and white: parts that matter differ in lightness, hatching or line. The colours stand in `COLOURS` by what
-they are for, so that a page can replace them by its own."""
+They are made for black and white: parts that matter differ in lightness, hatching or line. The colours stand in `COLOURS` by their
+meanings, so that a page can replace them by its own."""
 
 import io
 from collections.abc import Iterable, Mapping

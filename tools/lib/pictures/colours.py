@@ -1,4 +1,4 @@
-"""The colours of pictures and pages, by what they stand for."""
+"""The colours of pictures and pages, by their meanings."""
 
 # Of pictures. No two are equal, so that each can be found in the text of a picture.
 PICTURES = {

@@ -51,7 +51,7 @@ def run_in_child(call: Callable[[Callable[[str], object]], Result], progress: Pr
 
 
 def call_and_send_result(call: Callable[[Callable[[str], object]], object], pipe: Connection) -> None:
-    """Sends the call's reports, and then its result or its failure. What code in C says before it aborts isn't shown: the process that
+    """Sends the call's reports, and then its result or its failure. The last words of code in C that aborts aren't shown: the process that
     waits says that this one died."""
     if hasattr(system := ctypes.CDLL(None), "prctl"):
         system.prctl(DEATH, signal.SIGKILL)

@@ -24,7 +24,7 @@ from ..base import place
 from . import surroundings
 
 FAILED = 5
-OF_SIGNALS = 128  # what shells add to the number of a signal that ends a process
+OF_SIGNALS = 128  # the number that shells add to that of a signal that ends a process
 INTERRUPTED = OF_SIGNALS + signal.SIGINT
 ENDING = signal.SIGTERM, signal.SIGHUP  # besides Ctrl-C
 PAUSE = 5  # seconds after a signal, or Ctrl-C, in which others aren't heeded: they would stop the end
@@ -39,7 +39,7 @@ NO_FILES = ("too many open files", "cannot open shared object file: error 24")
 
 
 class Guarded:
-    """What is known of this process."""
+    """The state of this process."""
 
     tool = ""  # its name, once it is guarded
     failed: int = FAILED  # its status if it fails
@@ -47,7 +47,7 @@ class Guarded:
     lost: BaseException = KeyboardInterrupt()  # the exception of the signal that was lost last
 
 
-# What a tool has to do before it ends like this: a call that gets the status and the message.
+# The last task of a tool that ends like this: a call that gets the status and the message.
 last_duties: list[Callable[[int, str | None], object]] = []
 
 

@@ -113,7 +113,7 @@ class Plan:
         return self.ranks[name]
 
     def simulate(self, left: Iterable[str], running: Mapping[str, tuple[int, float]], jobs: Mapping[str, int]) -> PlannedTimes:
-        """The outcome if each crate gets these jobs. What is running ends at the time that is given with its jobs."""
+        """The outcome if each crate gets these jobs. A running proof ends at the time that is given with its jobs."""
         now, used = 0.0, 0.0
         begins: list[tuple[str, float, float]] = []
         left, running = sorted(left, key=lambda it: -self.ranks[it]), dict(running)

@@ -1,4 +1,4 @@
-"""What one journal can't have: heads, entries and hashes that an operator signed, from all given files, which contradict each other."""
+"""Contradictions, which one journal can't have: heads, entries and hashes that an operator signed, from all given files."""
 
 from collections.abc import Mapping
 from typing import NamedTuple
@@ -47,7 +47,7 @@ class Signed:
         self.entries: dict[tuple[str, str, int], tuple[Receipt, Place]] = {}  # of each day, key and number, the first receipt and its place
         self.leaves: set[tuple[tuple[str, str, int], bytes]] = set()  # each day, key and number with a leaf
         self.subtrees: dict[tuple[str, str], Subtrees] = {}  # of each day and key, of each range of entries, the hashes
-        self.reported_scopes: set[tuple[str, str]] = set()  # each day and key of which two trees or two entries are told
+        self.reported_scopes: set[tuple[str, str]] = set()  # each day and key of which two trees or two entries are reported
         self.findings: list[Finding] = []  # the contradictions
 
     def add_head(self, head: Head, place: Place, key: str) -> None:

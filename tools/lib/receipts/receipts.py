@@ -81,17 +81,23 @@ def unread_finding_or_raise(path: str, fault: exits.Stop) -> Finding:
 
 
 class OperatorStatements:
-    """What is given of an operator: all that it signed, and the extensions, which show that a head's journal begins with another's. `findings`
-    gets those on the extensions."""
+    """The signed statements of an operator, and the extensions, which show that a head's journal begins with another's."""
 
-    def __init__(self, paths: Iterable[str], key: AnyKey, findings: list[Finding]) -> None:
+    def __init__(self, key: AnyKey) -> None:
         self.key, self.signed = key, Signed()
+        self.earlier: dict[Head, Head] = {}
+
+    @classmethod
+    def read(cls, paths: Iterable[str], key: AnyKey, findings: list[Finding]) -> "OperatorStatements":
+        """The statements with the extensions of these files. `findings` gets the findings on them."""
+        statements = cls(key)
         later: dict[Head, set[Head]] = defaultdict(set)  # of each head, those that begin with it
         for path in paths:
-            extension = self.read_value_or_add_finding(path, heads.parse_extension, "an extension", findings)
-            if extension is not None and self.add_if_valid_and_see(path, extension, findings):
+            extension = statements.read_value_or_add_finding(path, heads.parse_extension, "an extension", findings)
+            if extension is not None and statements.add_if_valid_and_see(path, extension, findings):
                 later[unsigned(extension.old)].add(unsigned(extension.new))
-        self.earlier = longest_beginnings(later)
+        statements.earlier = longest_beginnings(later)
+        return statements
 
     def read_value_or_add_finding(self, path: str, read: Callable[[Json], AValue], name: str, findings: list[Finding]) -> AValue | None:
         """The value in a file of one line. If there is none, `findings` gets that, and the other files are judged."""
@@ -148,7 +154,7 @@ class OperatorStatements:
         return last == one or one.size == 0
 
     def findings_on_gaps(self) -> Iterator[Finding]:
-        """The findings on the heads of a day, each compared with the next one. Contradictions are told elsewhere."""
+        """The findings on the heads of a day, each compared with the next one. Contradictions are reported elsewhere."""
         signed = self.signed.heads()
         for one, other in zip(signed, signed[1:]):
             found, words = self.verdict_and_text_on_two(one, other)
@@ -202,8 +208,8 @@ def size_key(head: Head) -> tuple[int, bytes]:
 def judge_and_add_receipt(
     receipt: Receipt, head: Head | None, key: AnyKey, statements: OperatorStatements, place: Place = Place("the receipt")
 ) -> tuple[str, str]:
-    """The verdict on a receipt, compared with a head that was published if one is given, and the words for it. It adds to the statements what
-    the operator signed."""
+    """The verdict on a receipt, compared with a head that was published if one is given, and the words for it. The signed heads
+    and entries are added to the statements."""
     entry, signer = f"entry {receipt.number} of {receipt.head}", signing.signer_name(key, receipt.head)
     if signer is None:
         return WRONG, f"its head {NOT_SIGNED}"

@@ -21,7 +21,7 @@ PROVED = ": the operator's fault, proved"
 
 
 class UnderHead:
-    """A journal and its replies, compared with what the operator signed: heads, and receipts with a finding on each. The operator doesn't
+    """A journal and its replies, compared with the operator's signed statements: heads, and receipts with a finding on each. The operator doesn't
     sign journals, nor salts: only a journal that has the entries of a head, all and no others, is the operator's."""
 
     def __init__(
@@ -187,7 +187,7 @@ def list_receipt_files_or_stop(folder: str) -> Sequence[str | Path]:
 def read_findings_of_folder(folder: str, key: Ed25519PublicKey, read: Callable[[str | Path], bytes] = file_io.read_bytes) -> list[Finding]:
     """The findings on the receipts of a folder, or of one file, whose bytes `read` gives: whether the operator signed each. All have to be
     receipts."""
-    statements, findings = receipts.OperatorStatements([], key, []), list[Finding]()
+    statements, findings = receipts.OperatorStatements(key), list[Finding]()
     for path in list_receipt_files_or_stop(folder):
         for finding in receipts.iterate_findings_of_lines(str(path), read(path), None, key, statements):
             if finding.verdict == receipts.UNREAD:

@@ -49,8 +49,8 @@ class Wording:
             return self.never_accepted_text(place, judged.conflict)
         if judged.family is None or judged.other is None:
             return self.no_price_text(place)
-        if judged.twin is not None:
-            return self.twin_text(place, judged.family, judged.twin)
+        if judged.tied is not None:
+            return self.tie_text(place, judged.family, judged.tied)
         return self.rejected_text(place, judged.family, judged.other)
 
     def amount_in_eur(self, amount: int) -> str:
@@ -92,8 +92,8 @@ class Wording:
         parent = self.problem.parents[place]
         return why if parent is None or parent in self.accepted else f"{why}; its parent {self.name(parent)} is rejected"
 
-    def twin_text(self, place: int, family: families.Family, twin: int) -> str:
-        other, own = self.problem.blocks[twin], self.problem.blocks[place]
+    def tie_text(self, place: int, family: families.Family, tied: int) -> str:
+        other, own = self.problem.blocks[tied], self.problem.blocks[place]
         name = other.name if other.who == own.who else str(other)
         return f"{self.at_the_prices_text(place, family)}, but {name} offers the same and stands earlier in the book"
 

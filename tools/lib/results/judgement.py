@@ -28,7 +28,7 @@ class Judgement(NamedTuple):
     code: str
     family: families.Family | None = None  # of a rejected block that can be accepted, and has a surplus
     other: Other | None = None  # the selection with that family
-    twin: int | None = None  # an accepted block that offers the same as a rejected one
+    tied: int | None = None  # an accepted block that offers the same as a rejected one
     conflict: Sequence[int] = ()  # the blocks of one group because of which a block can never be accepted
 
 
@@ -46,10 +46,10 @@ class Judge:
         family = families.best_family(self.problem, self.accepted, self.outcome.surpluses, place)
         if family is None:
             return Judgement(REJECTED, NO_PRICE)
-        other, twin = self.selection_with(family), self.twin_place(place, family)
+        other, tied = self.selection_with(family), self.tied_place(place, family)
         is_paradox = not family.rivals and not family.losers() and family.gains[place] > 0 and family.gain() > 0
-        code = self.rejected_code(place, family, other) if twin is None else TIE
-        return Judgement(PARADOX if is_paradox else REJECTED, code, family, other, twin)
+        code = self.rejected_code(place, family, other) if tied is None else TIE
+        return Judgement(PARADOX if is_paradox else REJECTED, code, family, other, tied)
 
     def accepted_code(self, place: int) -> str:
         gain = self.outcome.surpluses[place]
@@ -59,7 +59,7 @@ class Judge:
             gain = selection.gain_with_rescuers(self.problem, self.accepted, place, self.outcome.surpluses)
         return NO_PRICE if gain is None else LOSES if gain < 0 else COVERED
 
-    def twin_place(self, place: int, family: families.Family) -> int | None:
+    def tied_place(self, place: int, family: families.Family) -> int | None:
         """An accepted block that offers the same as a rejected one and stands earlier, in whose place that would be worth as much; None if
         there is none."""
         if family.rivals or family.members != {place} or family.gains[place] < 0 or self.outcome.welfare is None:

@@ -51,7 +51,7 @@ def curve_rows(day: PublishedDay) -> Iterator[Cells]:
 
 
 def is_peak(periods: int, number: int) -> bool:
-    return PEAK[0] <= clock.begin_minutes(periods, number) < PEAK[1]
+    return PEAK[0] <= clock.begin_minute(periods, number) < PEAK[1]
 
 
 def mean(prices: Iterable[int]) -> int | None:

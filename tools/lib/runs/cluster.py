@@ -64,14 +64,18 @@ class Cluster:
     def __init__(self, address: str) -> None:
         self.name = f"the cluster {text.safe(address)}"
         self.reports: dict[str, object] = {}
-        self.client = self.connect_or_raise(address)
+        self.address = address
+
+    def connect_and_wait_for_workers(self) -> None:
+        self.client = self.connect_and_return_client()
         self.restart_watch()
         while not self.count_and_note_workers_or_raise():
             time.sleep(PAUSE)
         self.executor = self.client.get_executor()
 
-    def connect_or_raise(self, address: str) -> Any:
-        """The client of the scheduler. What dask reports of lost connections isn't shown."""
+    def connect_and_return_client(self) -> Any:
+        """The client of the scheduler. Lost connections, which dask reports, aren't shown."""
+        address = self.address
         found = ADDRESS.fullmatch(address)
         if not found:
             raise Fault(f"{self.name} should be an address such as tcp://10.0.0.1:8786")
@@ -157,6 +161,7 @@ class Awaited:
 def connecting(address: str) -> Iterator[Cluster]:
     """The executor of a cluster. After a failure it isn't waited for, so the process should end at once."""
     cluster = Cluster(address)
+    cluster.connect_and_wait_for_workers()
     yield cluster
     with contextlib.suppress(Exception):
         cluster.client.close(SECONDS)

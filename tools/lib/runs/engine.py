@@ -54,10 +54,12 @@ class Team:
     def __init__(self, jobs: int) -> None:
         self.given: queue.SimpleQueue[tuple[Promise, Callable[..., Any], tuple[object, ...]] | None] = queue.SimpleQueue()
         self.jobs, self.is_over = jobs, False
-        for _ in range(jobs):
+
+    def start_threads(self) -> None:
+        for _ in range(self.jobs):
             threading.Thread(target=self.do_jobs, daemon=True).start()
 
-    def submit(self, call: Callable[..., Any], *words: object) -> Promise:
+    def add_job_and_return_promise(self, call: Callable[..., Any], *words: object) -> Promise:
         promise = Promise()
         self.given.put((promise, call, words))
         return promise
@@ -82,6 +84,7 @@ def running_team(jobs: int) -> Iterator[tuple[Team, by_program.Running]]:
     """A team, and the programs that it runs, which end with the block."""
     running, team = by_program.Running(), Team(jobs)
     try:
+        team.start_threads()
         yield team, running
     finally:
         running.kill_all()
@@ -146,7 +149,7 @@ def iterate_outputs_or_faults(
         return
     jobs = jobs or count_processors()
     with running_team(jobs) as (team, running):
-        yield from iterate_submitted_results(texts, lambda text: team.submit(call, text, program, running), AHEAD * jobs)
+        yield from iterate_submitted_results(texts, lambda text: team.add_job_and_return_promise(call, text, program, running), AHEAD * jobs)
 
 
 def iterate_submitted_results(texts: Texts, submit: Callable[[bytes], Later], most: int) -> Outputs:

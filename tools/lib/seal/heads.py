@@ -1,4 +1,4 @@
-"""Heads, receipts and extensions: what an operator signs and hands out about a journal, each as a line of JSON.
+"""Heads, receipts and extensions: an operator's statements about a journal, each as a line of JSON.
 
 A head is the signed root of the tree over a journal's entries. A receipt shows that an entry is in the tree of a head. An extension shows
 that the tree of a head begins with the tree of an earlier one. docs/FORMATS.md has the formats to the byte."""
@@ -31,7 +31,7 @@ LONGEST_LINE = 16_384  # bytes; no head, receipt or extension has as many
 
 
 class BadRecord(Exception):
-    """The text isn't what it should be."""
+    """The text doesn't have its form."""
 
 
 class Head(NamedTuple):

@@ -1,3 +1,3 @@
-"""Tables, as CSV or workbooks: reading orders and commands, and writing what the tools show.
+"""Tables, as CSV or workbooks: reading orders and commands, and writing the tables that the tools show.
 
 It may import: base, journal, process, results, workbooks."""

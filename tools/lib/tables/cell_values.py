@@ -109,7 +109,7 @@ def refuse_joined_values(cell: str) -> None:
 
 
 def refuse_empty_part(cell: str) -> None:
-    """Refuses a list with an empty part: what should stand there may be lost, as by a formula that joins cells."""
+    """Refuses a list with an empty part: its value may be lost, as by a formula that joins cells."""
     found = cell.split(";")
     for number, part in enumerate(found if len(found) > 1 else [], 1):
         if not part.strip():

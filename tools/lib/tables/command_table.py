@@ -1,4 +1,4 @@
-"""Tables of commands: as a table of orders, with the column `what`, which says what a row does: submit, amend or cancel. So
+"""Tables of commands: as a table of orders, with the column `what`, which names a row's command: submit, amend or cancel. So
 tools/table --rows commands prints them."""
 
 from collections.abc import Collection, Iterable, Iterator, Sequence
@@ -9,7 +9,7 @@ from . import cell_values, order_table, table_files
 from .order_table import WHAT, Cells, Row
 from .table_files import Line
 
-# The columns that each command has. In the others its rows have no cell: it wouldn't do what they say.
+# The columns that each command has. In the others its rows have no cell, which would have no effect.
 CANCEL = ("participant", "order")
 AMEND = (*CANCEL, "price_eur_mwh", "periods", "volume_mw")
 Change = journal.Submit | journal.Amend | journal.Cancel

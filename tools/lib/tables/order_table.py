@@ -31,7 +31,7 @@ NO_VOLUMES: Volumes = ()
 
 
 class Cells(NamedTuple):
-    """The cells of a table: its rows that aren't empty, each with the number of its first line; and notes on what was read of the file."""
+    """The cells of a table: its rows that aren't empty, each with the number of its first line; and notes on the part of the file that was read."""
 
     rows: Iterable[Line]  # of a workbook or a long text they are read again whenever they are gone through
     separator: str | None  # None for a workbook
@@ -63,7 +63,7 @@ class Table(NamedTuple):
     width: int
     decimal_comma: bool
     notes: list[str]
-    read: list[str]  # those of the notes that say what was read of the file
+    read: list[str]  # those of the notes that name the part of the file that was read
 
     def line_text(self, number: int) -> str:
         return f"line {number} of {self.name}" if self.name else f"line {number}"

@@ -29,7 +29,7 @@ PART, LONGEST_ROW = 1 << 20, 1 << 20  # bytes that are decoded at once, and char
 MOST_LINES = limits.LAST_ROW  # of a text
 MANY = 10  # how many times the cells and the text of a workbook a text may have if its rows aren't limited
 WORD = re.compile(r"[^\s,;\"]")  # a character that no empty row has
-OTHER_ENDS = re.compile("[\v\f\x1c-\x1e\x85\u2028\u2029]")  # what ends a line for some programs, and none of a text
+OTHER_ENDS = re.compile("[\v\f\x1c-\x1e\x85\u2028\u2029]")  # they end a line for some programs, and none of a text
 PREFERRED = "orders"  # the sheet that is read if there are several
 # The marks by which a program takes a cell for a formula, also the wide ones. In some languages a comma, a semicolon or a tab in a cell
 # begins another one.

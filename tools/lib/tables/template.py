@@ -15,7 +15,7 @@ if TYPE_CHECKING:
 ORDERS, EXAMPLES = "orders", "examples"  # the sheets
 WIDTH = 16
 LAST = 5_000  # the last line whose cells have rules
-# What each column is, for its comment.
+# The meaning of each column, for its comment.
 WORDS = {
     "participant": text.A_PARTICIPANT,
     "order": f"the order's name, unique for the participant: {text.A_NAME}",

@@ -1,4 +1,4 @@
-"""Files as tools read and write them: a fault names the file, and what is written is whole before it takes the old one's place."""
+"""Files as tools read and write them: a fault names the file, and a written file is whole before it takes the old one's place."""
 
 import contextlib
 import errno
@@ -43,7 +43,7 @@ def read_bytes(path: str | os.PathLike[str]) -> bytes:
 
 
 def refuse_own_output(path: str | os.PathLike[str], file: IO[bytes]) -> None:
-    """Ends the tool if what it prints would be added to a file that it reads. Then its record of the fault isn't printed either."""
+    """Ends the tool if its output would be added to a file that it reads. Then its record of the fault isn't printed either."""
     try:
         found = os.fstat(file.fileno())
     except (OSError, ValueError):  # it has no number, or is closed

@@ -44,7 +44,7 @@ def recording_failure(is_json: bool, failure_record: Callable[[int, str], JsonOb
 
 
 def print_outcome(name: str, is_json: bool, outcome: CommandOutcome) -> None:
-    """Prints what a command of this name did: with --json its record, otherwise its lines."""
+    """Prints the deeds of a command of this name: with --json its record, otherwise its lines."""
     if is_json:
         print_record(command_record(name, outcome.status, "; ".join(outcome.faults) or None, outcome.record))
     else:

@@ -1,6 +1,6 @@
 """The worst limit at which a block is accepted, by bisection: a better limit keeps a block (a law of docs/MARKET.md, which is proved). And
-an hourly order under limits of a grid, since no such law holds of one. And what is said of a worst limit: in words with a table, as a
-record, and as a row of a table."""
+an hourly order under limits of a grid, since no such law holds of one. And the report of a worst limit: words with a table, a record, and
+a row of a table."""
 
 from collections.abc import Callable, Iterator
 from typing import NamedTuple
@@ -135,7 +135,7 @@ def never_accepted_text(search: LimitSearch, worst: WorstLimit) -> str:
     """Why a block is rejected with the best limit of the range."""
     assert worst.past_limit is not None  # it is the best of the range
     read = journal.parse_journal(search.bytes_with(worst.past_limit))
-    day = day_files.Day.of_text(read, search.printed[worst.past_limit])
+    day = day_files.Day(read, search.printed[worst.past_limit])
     place = [(block.who, block.name) for block in day.problem.blocks].index(search.key)
     why = decisions.decisions(day.problem, day.published.accepted, day.outcome)[place].why
     return why if why.startswith("with ") else f"it {why}"  # 'with' its family, 'it' would gain
@@ -239,7 +239,8 @@ def capture_rejected_sentences_and_print_notes(day: day_files.Day, who: str | No
     bar = StepBar("report", len(places), "limits of rejected blocks")
     with engine.running_team(engine.count_processors()) as (team, running):
         was = Cleared.of_day(day)  # which the program has too
-        waiting = [team.submit(capture_sentence_or_print_note, day.book, day.problem.blocks[place], own, was, running) for place in places]
+        jobs = [(day.book, day.problem.blocks[place], own, was, running) for place in places]
+        waiting = [team.add_job_and_return_promise(capture_sentence_or_print_note, *job) for job in jobs]
         try:
             return {place: step_and_return(promise.result(), bar) for place, promise in zip(places, waiting)}
         finally:
@@ -271,7 +272,7 @@ def uncomputable_texts(day: day_files.Day, own: bytes | Fault) -> tuple[str, str
 
 
 def capture_sentence_or_print_note(held: Book, block: Row, own: bytes | Fault, was: Cleared, running: Running) -> str:
-    """What a page says of a rejected block, whose day is printed as `own`, and was checked."""
+    """The sentence of a page on a rejected block, whose day is printed as `own`, and was checked."""
     search = LimitSearch(held, (block.who, block.name), lambda given: engine.clear_and_return_output_or_fault(given, running=running))
     search.keep_output_or_raise(block.order.price, own)
     search.seen[block.order.price] = was
@@ -283,7 +284,7 @@ def capture_sentence_or_print_note(held: Book, block: Row, own: bytes | Fault, w
 
 
 def case_rows(search: LimitSearch, worst: WorstLimit) -> Iterator[list[str]]:
-    """What the block and the day come to in each case, and the prices that concern the block or differ."""
+    """The numbers of the block and of the day in each case, and the prices that concern the block or differ."""
     days = list(case_days(search, worst))
     yield ["", *(name for name, _, _ in days)]
     yield ["limit, EUR/MWh", *(text.shown_price(limit) for _, limit, _ in days)]

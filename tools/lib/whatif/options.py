@@ -34,7 +34,7 @@ def order_name_and_advice(word: str) -> str:
 
 
 def add_command_parser(commands: "_SubParsersAction[Parser]", call: Callable[[Namespace], int], name: str, epilog: str, words: str) -> ArgumentParser:
-    """The parser of a command, with what all commands read."""
+    """The parser of a command, with the arguments that all commands read."""
     parser = command_line.add_command_parser(commands, epilog, call, name, words)
     parser.add_argument("journal", metavar="JOURNAL", help="a closed journal; - for standard input")
     parser.add_argument("--program", metavar="PATH", help="the program `dam` to run (default: the library, or the built program)")

@@ -29,7 +29,7 @@ Number = TypeVar("Number", int, float)
 SCENARIO = "scenario"
 CONTROL = re.compile("[\0-\x1f\x7f-\x9f\ufffe\uffff]")  # in no name: a line of a text, or a cell of a workbook, couldn't hold it
 MOST_ROWS = 50_000  # of a table, after the first one: a longer one can be parted, since no scenario depends on another
-# What is said of a block over all scenarios. For each part of its surpluses, in per cent, there is one more column.
+# The columns of a block over all scenarios. For each part of its surpluses, in per cent, there is one more column.
 BLOCK = ["participant", "order", "price_eur_mwh", "scenarios", "accepted", "share", "mean_eur"]
 PARTS = [5, 25, 50, 75, 95]
 EACH = 16  # the first random scenario, and every 16th after it, is checked whole: to check all would take several times as long as to clear
@@ -241,7 +241,7 @@ TABLES = {
 
 
 class Distribution:
-    """What becomes of some blocks over many scenarios: whether each is accepted, and its surplus at the prices."""
+    """The outcomes of some blocks over many scenarios: whether each is accepted, and its surplus at the prices."""
 
     def __init__(self, held: Book, keys: Sequence[Key]) -> None:
         self.rows, self.keys, self.periods, self.hours = held.rows, keys, held.periods, rules.DAYS[held.periods]

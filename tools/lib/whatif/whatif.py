@@ -126,7 +126,7 @@ def run_and_write_all_limits(args: Namespace, held: Book) -> int:
             search = limits.LimitSearch(held, key, engine_function(args.program, running))
             return limits.limit_cells(search, search.search_for_worst())
 
-        promises = [team.submit(search_and_return_row, key) for key in keys]
+        promises = [team.add_job_and_return_promise(search_and_return_row, key) for key in keys]
         rows = list(engine.iterate_with_bar((promise.result() for promise in promises), len(keys), "block"))
     output.write_table("whatif", args, "limits", [limits.HEADS, *rows], held.periods)
     return exits.DONE

@@ -39,7 +39,7 @@ class Formatted(Unlike):
 class Price(Formatted):
     """A number of which a format says that it is in EUR, or EUR/MWh."""
 
-    shown_unit, unit = "EUR", "EUR/MWh"  # what the format says at least, and the unit of a column of such numbers
+    shown_unit, unit = "EUR", "EUR/MWh"  # the part that the format shows at least, and the unit of a column of such numbers
 
 
 class Power(Formatted):
@@ -183,7 +183,7 @@ NUMBERS_SHOWN = Formatted, Price, Power, Percentage, *NUMBERS_CHANGED, Shortened
 STRINGS: dict[type[str], type[int]] = {str: int}
 KINDS_OF_TEXTS: tuple[type[str], ...] = (Styled, Struck, Unseen, Reversed)
 for kind_of_bytes in KINDS_OF_TEXTS:
-    STRINGS[kind_of_bytes] = cast(type[int], type(f"{kind_of_bytes.__name__}String", (int,), {}))  # `type` doesn't tell that
+    STRINGS[kind_of_bytes] = cast(type[int], type(f"{kind_of_bytes.__name__}String", (int,), {}))  # `type` doesn't say that
 KINDS_OF_STRINGS = {number: kind for kind, number in STRINGS.items()}
 TEXTS: tuple[type[str], ...] = (str, Uncomputed, Volatile, Date, *NUMBERS_SHOWN, Styled, Truth, Zero)
 CELLS: tuple[type[Cell], ...] = (*TEXTS, *KINDS_OF_STRINGS)

@@ -6,7 +6,7 @@ from collections.abc import Mapping
 from .part import ANY_OTHERS, BLANK, Attributes, truth_word, unsigned_number
 
 Palette = Mapping[str, str | None]  # of colours by their numbers, each in its written form; None for the one that a program chooses
-# What a font may have: of these, the ones that change what a text means, and others.
+# The parts of a font: of these, the ones that change the meaning of a text, and others.
 FONT_PARTS = {"strike", "vertAlign", "color", "sz", "name", "rFont", "charset"}
 FONT = "|".join(f"{name}*" for name in sorted(FONT_PARTS))
 OF_FONTS = {ANY_OTHERS, *"b i condense extend outline shadow u family scheme".split()}

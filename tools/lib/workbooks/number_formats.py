@@ -23,7 +23,7 @@ GENERAL = "\1"  # in place of the piece General
 DIGIT = f"[0#?{GENERAL}]"  # a place of digits
 DIGITS = re.compile(f"{DIGIT}(?:.*{DIGIT})?", re.DOTALL)
 UNSEEN = re.compile(r"_.|\* |[ \n]|\[(?:\$(?:-.*)?|[^$].*)?\]", re.DOTALL)  # a piece that adds no character
-WHITE = re.compile(r"\[(?:white|color *0*2)\]", re.IGNORECASE)  # a piece that hides what its section shows
+WHITE = re.compile(r"\[(?:white|color *0*2)\]", re.IGNORECASE)  # a piece that hides the value of its section
 SEPARATORS = " '\u00a0\u202f"  # of thousands, besides the comma
 # The places of digits that show one number: a separator stands only before three digits of its whole part, or a space before a fraction.
 WHOLE = f"(?:[0#?,]*|[0#?]+(?:[{SEPARATORS}][0#?]{{3}})+)"
@@ -44,7 +44,7 @@ IN_BRACKETS = re.compile(r"\([^()]*\)")
 # A sign in words before or after a number: a bracket, or a minus that doesn't join words.
 SIGN_BEFORE = re.compile(rf"[()]|^{OTHER}*-|-{OTHER}*$|(?<!{LETTER})-(?={LETTER})")
 SIGN_AFTER = re.compile(rf"[()]|^{OTHER}*-(?!{LETTER})|-{OTHER}*$")
-# What in a format isn't one of a date: texts, and a condition or colour.
+# The parts of a format that aren't of a date: texts, and a condition or colour.
 NO_DATE = re.compile(r'"[^"]*"|\\.|_.|\*.|\[(?!(?:h+|m+|s+)\])[^\]\[]*\]', re.IGNORECASE)
 
 
@@ -175,7 +175,7 @@ def hides_zero(pieces: Pieces) -> bool:
 
 def added_texts(pieces: Pieces) -> list[str]:
     """The words that a section of a format adds to a number, before and after digits."""
-    ends = f"0#?.,/@{GENERAL}"  # what may end words
+    ends = f"0#?.,/@{GENERAL}"  # the characters that may end words
     words = (added_characters(piece) or ("\0" if one_character_of(piece) in ends or len(piece) > 1 else piece) for piece in pieces)
     return [found for found in "".join(words).split("\0") if found]
 
@@ -212,7 +212,7 @@ def changes_by_sign(code: str) -> Changes:
 
 
 class Fractions:
-    """How many more numbers are rounded to fractions of many digits, which takes time. Of the others it isn't told how they are shown."""
+    """How many more numbers are rounded to fractions of many digits, which takes time. The look of the others isn't reported."""
 
     def __init__(self) -> None:
         self.left = MOST_FRACTIONS

@@ -153,7 +153,7 @@ class Part:
         self.refuse_in_left_out_and_note_font(name.rpartition(" ")[2], attributes)
 
     def refuse_in_left_out_and_note_font(self, name: str, attributes: Attributes) -> None:
-        """Refuses an element of any namespace, in one that is left out, that changes what the part shows."""
+        """Refuses an element of any namespace, in one that is left out, that changes the values that the part shows."""
 
     def refuse_stranger(self, within: str, name: str) -> None:
         """Refuses an element that isn't a known one, unless it may stand here."""

@@ -1,4 +1,4 @@
-"""A sheet: its rows of cells, and what may change how they are shown."""
+"""A sheet: its rows of cells, and the settings that may change how they are shown."""
 
 import functools
 import re

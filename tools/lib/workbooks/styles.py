@@ -31,11 +31,11 @@ def format_number_or_refuse(attributes: Attributes) -> int:
     return number
 
 
-PATTERN = ""  # the colour of a fill that has several, or one that isn't told
+PATTERN = ""  # the colour of a fill that has several, or one that isn't known
 MOST_MERGED = 4_096  # formats of cells that are kept as they are shown
 FROM_RIGHT = 2  # the reading order of an alignment: from right to left
 
-# Why the format of a condition changes what is shown.
+# Why the format of a condition changes the shown value.
 A_NUMBER_FORMAT, A_STRIKING_FONT, A_HIDING_FONT = "a number format", "a font that strikes out", "a font in the colour of its cells"
 
 Colours = dict[str, str | None]  # of the elements of a format of conditions
@@ -118,7 +118,7 @@ class Styles(Part):
         self.backgrounds: dict[int | None, str | None] = {}  # the colours of fills
         self.is_solid = False  # whether the fill that is read has one colour
         self.palette: dict[str, str | None] = dict(INDEXED)
-        self.conditional: dict[int | None, str] = {}  # why some formats of conditions change what is shown
+        self.conditional: dict[int | None, str] = {}  # why some formats of conditions change the shown value
         self.condition_colours: dict[int | None, Colours] = {}
         self.has_striking_tables = False  # whether a style of tables strikes out
         self.of_table: dict[int | None, Colours] = {}  # the formats of a style of tables
@@ -249,7 +249,7 @@ class Styles(Part):
             self.of_table[number] = self.condition_colours[number]
 
     def close_tableStyle(self) -> None:
-        """A part of a table without a font or a fill of its own may have that of another part, of which it isn't told."""
+        """A part of a table without a font or a fill of its own may have that of another part, which isn't known."""
         found, self.of_table = self.of_table.values(), {}
         told = set().union(*found)
         self.table_colours += [each for each in found if set(each) == told]

@@ -18,7 +18,7 @@ RELATION = (
 )
 WORKBOOK, SHEET, STRINGS, STYLES = "officeDocument", "worksheet", "sharedStrings", "styles"
 WITHOUT_CELLS, OF_MACROS = ("chartsheet", "dialogsheet"), ("xlMacrosheet", "xlIntlMacrosheet")  # other kinds of sheets
-CURRENT = 191_028  # the number of Excel's computation since 2019, by which it tells whether to compute formulas again
+CURRENT = 191_028  # the number of Excel's computation since 2019, by which it decides whether to compute formulas again
 KINDS = {WORKBOOK, SHEET, *WITHOUT_CELLS, *OF_MACROS, STRINGS, STYLES}
 
 

@@ -14,7 +14,7 @@ from lib.base.rules import VERSION
 from lib.process import children
 from lib.tool import modules
 from shared.counts import Counts
-from shared.page_scenes import CLONE, INSTALLED, PAGES
+from shared.docs_page_scenes import CLONE, INSTALLED, PAGES
 from shared.ports import find_free_port
 from shared.shown import Block, blocks_of_page, code_spans
 

@@ -1,4 +1,4 @@
-"""What the commands of each page take as given, and the lines that can't be run here, each with its reason. A text that its page doesn't
+"""The state that the commands of each page take as given, and the lines that can't be run here, each with its reason. A text that its page doesn't
 have any more fails."""
 
 from typing import NamedTuple
