@@ -93,7 +93,7 @@ def check_all_are_described(counts: Counts) -> None:
     """The routes of the application and of the file are the same, in an office and in a demo."""
     plain = lambda path: re.sub(r"\{(\w+):[^/]*\}(?=/|$)", r"{\1}", path)
     for demo in (None, {"GAS": "GAS.token"}):
-        made = routes.Web(mock.Mock(public_key=""), demo=demo)
+        made = routes.Web.read(mock.Mock(public_key=""), demo=demo)
         answered = [route for route in made.new_application().router.routes() if route.method != "HEAD"]
         served = {(route.method, plain(route.resource.canonical)) for route in answered if route.resource}
         api = json.loads(made.public.files["/openapi.json"][0])

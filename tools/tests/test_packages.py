@@ -91,8 +91,8 @@ EFFECT = re.compile(
     r"^(capture|compile|connect|fetch|find|list|print|read|run|start|write)_|^(Popen|TemporaryDirectory|connect|copy|create_task|iterdir"
     r"|listdir|makedirs|mkdir|mkdtemp|open|read|read_bytes|read_text|run|start|write|write_bytes|write_text)$"
 )
-# The constructors that have an effect: tasks of a listener, which is made where it is started; the parser reads a docstring; a proof reads the
-# arguments of its program; others are of tests and of the bench. Definitions call a match's `start`, which has none.
+# The constructors that have an effect: tasks of a listener, which is made where it is started; the parser reads a docstring; a proof reads
+# the arguments of its program; others are of tests and of the bench. Definitions call a match's `start`, which has none.
 WITH_EFFECT = {
     "bench/plain/office.py": {"PlainOffice"},
     "manual/definitions.py": {"Definitions"},

@@ -6,9 +6,9 @@ from collections.abc import Collection, Mapping
 # The functions that Excel computes again once it opens a workbook.
 VOLATILE = re.compile(r"\b(?:NOW|TODAY|RAND(?:BETWEEN|ARRAY)?|OFFSET|INDIRECT|CELL|INFO|RTD)\s*\(")
 IN_BYTES = re.compile(VOLATILE.pattern.encode(), re.IGNORECASE)
-# The parts of a formula that name no function: a text, a quoted name of a sheet, and the brackets of a table or a file, in which ' marks one. Excel
-# writes no bracket that isn't closed, or that has brackets in its inner ones: the group takes it with the rest of the formula, so that the
-# rest isn't read again from each later one.
+# The parts of a formula that name no function: a text, a quoted name of a sheet, and the brackets of a table or a file, in which ' marks
+# one. Excel writes no bracket that isn't closed, or that has brackets in its inner ones: the group takes it with the rest of the formula,
+# so that the rest isn't read again from each later one.
 QUOTED = re.compile(r'''"[^"]*"|'[^']*'|\[(?:[^\[\]']|'.|\[(?:[^\[\]']|'.)*\])*\]|(\[.*)''', re.DOTALL)
 NAME = re.compile(r"[\w.\\?]+")
 
