@@ -24,7 +24,7 @@ import time
 from pathlib import Path
 
 sys.dont_write_bytecode = True
-sys.path[:1] = [f"{sys.path[0]}/..", f"{sys.path[0]}/../../tools"]  # tests/ and tools/
+sys.path[:1] = [str(Path(__file__).resolve().parents[2] / folder) for folder in ("tests", "tools")]
 
 from desk import crashes, files, kills, names, openings, refused, shape_costs, stand_ins, streams
 from desk.device import DeskProgram

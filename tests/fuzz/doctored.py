@@ -24,7 +24,7 @@ from collections import Counter
 from pathlib import Path
 
 sys.dont_write_bytecode = True
-sys.path[:1] = [f"{sys.path[0]}/..", f"{sys.path[0]}/../../tools"]  # tests/ and tools/
+sys.path[:1] = [str(Path(__file__).resolve().parents[2] / folder) for folder in ("tests", "tools")]
 
 from lib.audit import day_audit, recursive_enumeration
 from lib.base.json_value import JsonObject

@@ -14,9 +14,10 @@ import random
 import sys
 from collections import Counter
 from collections.abc import Iterator
+from pathlib import Path
 
 sys.dont_write_bytecode = True
-sys.path[:1] = [f"{sys.path[0]}/..", f"{sys.path[0]}/../../tools"]  # tests/ and tools/
+sys.path[:1] = [str(Path(__file__).resolve().parents[2] / folder) for folder in ("tests", "tools")]
 
 from shared import days, timed_program
 from shared.arguments import parse_with_programs_or_exit, parser_of_cases

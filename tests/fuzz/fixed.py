@@ -7,9 +7,10 @@ greatest length. The last line is 'N passed, M failed'."""
 import argparse
 import sys
 from collections.abc import Iterator
+from pathlib import Path
 
 sys.dont_write_bytecode = True
-sys.path[:1] = [f"{sys.path[0]}/..", f"{sys.path[0]}/../../tools"]  # tests/ and tools/
+sys.path[:1] = [str(Path(__file__).resolve().parents[2] / folder) for folder in ("tests", "tools")]
 
 from shared import right_output, timed_program
 from shared.arguments import add_programs, parse_with_programs_or_exit

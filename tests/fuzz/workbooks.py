@@ -17,7 +17,7 @@ from collections.abc import Iterable
 from pathlib import Path
 
 sys.dont_write_bytecode = True
-sys.path[:1] = [f"{sys.path[0]}/..", f"{sys.path[0]}/../../tools"]  # tests/ and tools/
+sys.path[:1] = [str(Path(__file__).resolve().parents[2] / folder) for folder in ("tests", "tools")]
 
 from fuzz.broken_workbooks import BREAKS
 from lib.tables import cell_values, order_table, table_files

@@ -22,9 +22,10 @@ nothing, and says so. The last line is 'N passed, M failed', with ', K skipped' 
 
 import shutil
 import sys
+from pathlib import Path
 
 sys.dont_write_bytecode = True
-sys.path[:1] = [f"{sys.path[0]}/..", f"{sys.path[0]}/../../tools"]  # tests/ and tools/
+sys.path[:1] = [str(Path(__file__).resolve().parents[2] / folder) for folder in ("tests", "tools")]
 
 from hostile import costs_by_shape, instruction_costs, peaks, program_checks, retried_calls, rows
 from hostile.row_runner import RowRunner

@@ -112,7 +112,7 @@ ALSO_NONE = {"get", "only_part_or_refuse", "typed_value"}
 # How files of unit tests, scripts of a folder of tests/, and those of tests/ itself find their modules; and those that need the folder of
 # the modules that they test besides.
 OF_UNITS = 'sys.path[:0] = [f"{TOP}/tests", f"{TOP}/tools"]'
-OF_FOLDERS = 'sys.path[:1] = [f"{sys.path[0]}/..", f"{sys.path[0]}/../../tools"]'
+OF_FOLDERS = 'sys.path[:1] = [str(Path(__file__).resolve().parents[2] / folder) for folder in ("tests", "tools")]'
 OF_SCRIPTS = 'sys.path.insert(1, f"{sys.path[0]}/../tools")'
 OF_SHELLS = ["tests/desk/main.py", "tests/hostile/main.py"]  # the script `run` of the shell starts them
 OF_BENCH, OF_MANUAL = 'sys.path.insert(0, f"{TOP}/bench")', "sys.path.append(str(TOP))"
@@ -303,6 +303,13 @@ class Packages(unittest.TestCase):
                     before = list(path)
                     runpy.run_path(str(script), run_name="__mp_main__")
                     self.assertEqual(path, before)
+
+    def test_an_isolated_start_finds_the_modules(self):
+        """A script of tests may start itself again with Debian's Python, which leaves the script's folder out of the path of modules."""
+        for script in sorted(path for path in TOP.glob("tests/*/*") if path.is_file() and OF_FOLDERS.encode() in path.read_bytes()):
+            ran = subprocess.run([sys.executable, "-I", "-B", script, "--help"], capture_output=True, text=True)
+            with self.subTest(script=script):
+                self.assertNotRegex(ran.stderr, r"No module named '(shared|lib|market|\w+\.main)'")
 
     def test_no_file_is_a_link(self):
         """`rt ci` refuses a clone that has one."""
