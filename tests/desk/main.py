@@ -65,10 +65,11 @@ def main() -> int:
     for name in asked.parts:
         begun = time.monotonic(), read_processor_time()
         counts.begin_part(name)
-        if asked.only is None:
-            PARTS[name](counts, desk, dam, asked.all)
-        else:
-            streams.check_stream(counts, desk, dam, asked.only)
+        with counts.counting_exceptions("the part ended early"):
+            if asked.only is None:
+                PARTS[name](counts, desk, dam, asked.all)
+            else:
+                streams.check_stream(counts, desk, dam, asked.only)
         print(f"{name}: {time.monotonic() - begun[0]:.0f} s, {read_processor_time() - begun[1]:.0f} s of a processor", flush=True)
     return counts.print_totals_and_return_status()
 

@@ -1,4 +1,4 @@
-"""What a desk costs for journals of each shape, as `tests/hostile/costs_by_shape.py` has it for `dam`: with a new file, with that file
+"""The costs of a desk for journals of each shape, as `tests/hostile/costs_by_shape.py` has those of `dam`: with a new file, with that file
 opened again, for the journal of the file, and for the second half of the journal in a file that has the first. Files of more commands on
 each length of a day, of a full journal and with a torn end are only opened again; long lines come to a file that has only its day."""
 

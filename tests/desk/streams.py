@@ -177,6 +177,13 @@ class RandomStreams:
         yield from self.try_whole_stream(rng, text, reader, expected)
         yield from self.try_halves_of_stream(rng, text, reader, expected)
 
+    def try_and_list_faults(self, seed: int) -> list[str]:
+        """The faults of a stream. An exception is one too, so that the seed of its stream is named."""
+        try:
+            return list(self.try_stream(seed))
+        except Exception as error:
+            return [f"{type(error).__name__}: {error}"]
+
     def try_whole_stream(self, rng: random.Random, text: bytes, reader: ExpectedDesk, expected: Sequence[bytes]) -> Iterator[str]:
         file = self.desk.make_path()
         ran = self.desk.run(file, draw_cuts(rng, text))
@@ -321,7 +328,7 @@ def text_of_stream(seed: int, found: Sequence[str]) -> str:
 
 def check_stream(counts: Counts, desk: DeskProgram, dam: DamProgram, seed: int) -> None:
     """One of the random inputs."""
-    found = list(RandomStreams(desk, dam).try_stream(seed))
+    found = RandomStreams(desk, dam).try_and_list_faults(seed)
     counts.check(text_of_stream(seed, found), not found)
 
 
@@ -329,7 +336,7 @@ def check_streams(counts: Counts, desk: DeskProgram, dam: DamProgram, whole: boo
     begun, streams = time.monotonic(), RandomStreams(desk, dam)
     count = MANY if whole else FEW
     with ThreadPoolExecutor(desk.jobs) as pool:
-        for seed, found in enumerate(pool.map(lambda seed: list(streams.try_stream(seed)), range(count))):
+        for seed, found in enumerate(pool.map(streams.try_and_list_faults, range(count))):
             counts.check(text_of_stream(seed, found), not found)
     check_second_desk(counts, desk, dam)
     check_journal_in_mid_load(counts, desk, dam)

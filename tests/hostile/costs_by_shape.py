@@ -1,4 +1,4 @@
-"""What journals of each shape cost: the instructions, the most bytes and the calls for memory of a run, compared with those that were
+"""The costs of `dam` for journals of each shape: the instructions, the most bytes and the calls for memory of a run, compared with those that were
 counted before.
 
 A body that does some work once more for each command, order, period or node, or keeps a copy of something, costs more on the shapes that

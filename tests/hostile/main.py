@@ -104,7 +104,8 @@ def main() -> int:
         if name in COUNTED and not shutil.which("valgrind"):
             runs.count_and_print_left_out(f"{name}: valgrind, which counts instructions, is missing")
         else:
-            PARTS[name](runs)
+            with runs.counting_exceptions("the part ended early"):
+                PARTS[name](runs)
     return runs.print_totals_and_return_status()
 
 

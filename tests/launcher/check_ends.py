@@ -98,11 +98,11 @@ class CheckTests(RepositoryCase):
 
     def test_failures_are_repeated_at_the_end(self) -> None:
         own = ["differs: streams: stream 2: a line", "FAILED tools/tests/test_a.py::A::test - x", "a_test ... FAILED", "low/edit: NOT REFUSED: why",
-               "rt: low NOT PROVED", "case 3 of seed check: a: b"]  # fmt: skip
-        others = ["a_test ... ok", "it differs: no", "low/edit: refused", "rt: low proved"]
+               "rt: low NOT PROVED", "case 3 of seed check: a: b", "json.JSONDecodeError: why", "KeyError"]  # fmt: skip
+        others = ["a_test ... ok", "it differs: no", "the Error: no", "low/edit: refused", "rt: low proved"]
         many = [f"differs: case {number}" for number in range(52)]
         for name, lines in (
-            ("first", [*own, *others, "9 passed, 6 failed"]),
+            ("first", [*own, *others, "9 passed, 8 failed"]),
             ("right", [*others, "9 passed, 0 failed"]),
             ("other", [*many, "0 passed, 52 failed"]),
             ("ended", others),
@@ -114,7 +114,7 @@ class CheckTests(RepositoryCase):
         status, out, error = self.at.run(sys.executable, "print_parts.py", cwd=self.at.top)
         self.assertEqual((status, error), (0, ""))
         repeated = {
-            "first": ["6 failed; to run it alone: cat first", *own],
+            "first": ["8 failed; to run it alone: cat first", *own],
             "other": ["52 failed; to run it alone: cat other", *many[:50], "and 2 more"],
             "ended": ["1 failed; to run it alone: tests/run", "ended with status 0, and its last line has no totals"],
             "empty": ["1 failed; to run it alone: cat empty", "nothing was run"],

@@ -5,7 +5,6 @@ that ends, a desk's file that is put back, kills of the office and its desk in t
 page in a headless Chromium. What is missing is left out. With --all, 30 kills in place of 3, and 10,000 connections. The last line is
 'N passed, M failed', with ', K skipped' if something was left out."""
 
-import traceback
 
 from lib.tool import modules
 from shared.arguments import add_programs, parse_with_programs_or_exit, parser_of_docstring
@@ -48,9 +47,6 @@ def main() -> int:
     for name, function in PARTS.items():
         if args.part is None or name in args.part:
             counts.begin_part(name)
-            try:
+            with counts.counting_exceptions("the part ended early"):
                 getattr(scenes, function)(counts, args)
-            except Exception:
-                traceback.print_exc()
-                counts.check("it ended", False)
     return counts.print_totals_and_return_status()

@@ -1,8 +1,10 @@
 """How many tests passed, failed and were left out."""
 
+import contextlib
 import re
+import traceback
 from collections import Counter
-from collections.abc import Sequence
+from collections.abc import Iterator, Sequence
 
 MOST_SHOWN = 20  # failures of one kind
 KIND = re.compile(r"[^\d:\n]*")  # failures whose texts are equal up to a number or a colon are of one kind
@@ -34,6 +36,15 @@ class Counts:
         self.kinds[kind] += 1
         if self.kinds[kind] <= MOST_SHOWN:
             print(f"differs: {self.part}{about}", flush=True)
+
+    @contextlib.contextmanager
+    def counting_exceptions(self, about: str) -> Iterator[None]:
+        """An exception in the block is printed and counted as a failure, so that the other tests run."""
+        try:
+            yield
+        except Exception as error:
+            traceback.print_exc()
+            self.count_and_print_failure(f"{about}: {type(error).__name__}: {error}")
 
     def begin_part(self, name: str) -> None:
         self.end_part_and_print_others()

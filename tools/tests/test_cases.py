@@ -169,6 +169,19 @@ z\\
                  "differs: second: stream 1: wrong too", f"4 passed, {MOST_SHOWN + 6} failed"]  # fmt: skip
         self.assertEqual(printed.getvalue().splitlines(), right)
 
+    def test_an_exception_is_a_failure_of_its_part(self):
+        counts = Counts()
+        with contextlib.redirect_stdout(io.StringIO()) as printed, contextlib.redirect_stderr(io.StringIO()) as said:
+            counts.begin_part("first")
+            with counts.counting_exceptions("it ended early"):
+                counts.check("right", True)
+                raise KeyError("a")
+            with counts.counting_exceptions("another one"):
+                counts.check("right", True)
+            self.assertEqual(counts.print_totals_and_return_status(), 1)
+        self.assertEqual(printed.getvalue(), "differs: first: it ended early: KeyError: 'a'\n2 passed, 1 failed\n")
+        self.assertTrue(said.getvalue().endswith("\nKeyError: 'a'\n"))
+
     def test_the_runner_on_a_mix_up(self):
         for words, said in (
             (("--dam", self.path), "isn't a program: `tools/unproved --compile dam_cli` builds one, and --dam names it"),
