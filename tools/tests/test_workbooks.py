@@ -173,6 +173,7 @@ class Faults(WorkbookOfTwoSheets):
             order_table.parse_tables([("", made.archive_bytes(parts))], 24)
 
     def test_the_column_of_a_cell_that_the_module_csv_refuses(self):
+        self.addCleanup(csv.field_size_limit, csv.field_size_limit(131_072))  # which the reading of a journal raises, in any test before
         data = b'a;"b;b";' + b"c" * (csv.field_size_limit() + 1) + b"\n"
         with self.assertRaisesRegex(table_files.BadTable, "^line 1, column 3: it has more than 131,072 characters$"):
             list(table_files.parse_rows_and_add_notes(data)[0])
