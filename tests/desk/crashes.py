@@ -218,6 +218,7 @@ def check_crashes(counts: Counts, desk: DeskProgram, dam: DamProgram, whole: boo
         counts.count_and_print_runs(crashes.opened, wrong)
         print(f"crashes of {about}: {crashes.files:,} files, {crashes.opened:,} opened, {len(wrong)} wrong", flush=True)
         files, opened, second, killed = files + crashes.files, opened + crashes.opened, second + crashes.second, killed + crashes.killed
-    counts.check(f"{files} files of crashes are at least 100,000", files >= (100_000 if whole else 20_000))
+    least = 100_000 if whole else 20_000
+    counts.check(f"{files:,} files of crashes are at least {least:,}", files >= least)
     print(f"crashes: {files:,} files that a crash may leave, {opened:,} of them opened by the program, {second:,} files of a second crash, "
           f"{killed:,} kills", flush=True)

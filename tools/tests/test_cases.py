@@ -146,6 +146,9 @@ z\\
         self.path.write_text("== a\n-- args b\n-- runs\n-c\n-d\n-- stdin\nx\n-- stdout\nx\n-- stderr\nb -d\n-- status 2\n")
         ran = subprocess.run([sys.executable, TOP / "tests/run-cases", "--dam", program, self.path], capture_output=True, text=True)
         self.assertEqual((ran.returncode, ran.stdout), (1, "differs: file/a -c: stderr\n1 passed, 1 failed\n"))
+        self.path.write_text("")
+        ran = subprocess.run([sys.executable, TOP / "tests/run-cases", "--dam", program, self.path], capture_output=True, text=True)
+        self.assertEqual((ran.returncode, ran.stdout), (1, "differs: there is no case\n0 passed, 1 failed\n"))
         self.path.write_text("== a\n")
         ran = subprocess.run([sys.executable, TOP / "tests/run-cases", "--dam", program, self.path], capture_output=True, text=True)
         said = f"run-cases: {self.path}:1: a has no arguments, is there already, or has a part twice\n"
